@@ -1,10 +1,11 @@
-"""What all suites have in common: programs that are built once a run, and programs that are wrong on purpose."""
+"""What all suites have in common: their programs are built before the time of a test begins; and programs that are wrong on purpose."""
 
 import argparse
+import os
 
+import linux_kit
 import pytest
 from linux_vmms import VMMS
-from programs import built_once
 
 
 def count(word):
@@ -40,9 +41,13 @@ def pytest_collection_modifyitems(config, items):
         raise pytest.UsageError(f"--wrong {wrong}: there is none")
 
 
-@pytest.fixture(scope="session")
-def programs(tmp_path_factory, request):
-    """Returns a daemon of this name, built as `programs.built_once` says: once, by whichever worker wants it first."""
-    folder = tmp_path_factory.getbasetemp()
-    shared = folder.parent if hasattr(request.config, "workerinput") else folder
-    return lambda name, **how: built_once(str(shared), name, **how)
+def pytest_sessionstart(session):
+    """Builds the programs of the suites that are run, which PROGRAMS of their conftest.py names; once, and not in each worker, nor where the
+    environment names a program."""
+    plugins = session.config.pluginmanager.get_plugins()
+    wanted = sorted({name for it in plugins for name in getattr(it, "PROGRAMS", ())})
+    if wanted and not hasattr(session.config, "workerinput") and not {"HOST_PROGRAM", "BACKEND_PROGRAM"} & set(os.environ):
+        try:
+            linux_kit.build(*wanted)
+        except linux_kit.Fault as fault:
+            pytest.exit(str(fault), returncode=2)

@@ -4,16 +4,23 @@ import os
 
 import linux_kit
 import pytest
-from hosts import Answering, Host, limit_from_now
-from programs import CHECKS
+from hosts import Answering, Host
+from waiting import patience_from_now
+
+
+PROGRAMS = ("checked/vhost_user_host", "older/vhost_user_host", "wrong-checked/vhost_user_host")
 
 
 @pytest.fixture(scope="session")
-def program(tmp_path_factory):
+def program():
     """The host's program, beside that of its guests: one that the environment names, or one that is built with the compiler's checks."""
-    if "HOST_PROGRAM" in os.environ:
-        return os.environ["HOST_PROGRAM"]
-    return linux_kit.build(str(tmp_path_factory.mktemp("programs")), linux_kit.core_of(), "vhost_user_host", flags=CHECKS)
+    return os.environ.get("HOST_PROGRAM") or linux_kit.built("checked/vhost_user_host")
+
+
+@pytest.fixture(scope="session")
+def wrong_program():
+    """The host that is wrong in the way that its environment's CONTROL_WRONG names, beside the program of its guests."""
+    return linux_kit.built("wrong-checked/vhost_user_host")
 
 
 @pytest.fixture(autouse=True)
@@ -37,7 +44,7 @@ def folder(tmp_path_factory):
 def host(program, folder):
     """A host of 480 MiB that is ready, and ends well."""
     it = Host(program, folder, str(folder), "--budget", "480")
-    it.lines.next(limit_from_now())
+    it.lines.next(patience_from_now())
     yield it
     assert it.end() == 0, it.said()
 

@@ -8,24 +8,21 @@ import socket
 import struct
 import subprocess
 import threading
-import time
 
 from bigvasta.connection import Connection
 from linux_guest import Lines
 from linux_kit import ROOT
 from vhost_client import BUFFERS, PAGE, STATISTICS, Client
-from waiting import eventually
-
-# Seconds of a wait.
-LIMIT = 20
+from waiting import PATIENCE, eventually
 
 # The tag of free memory (VIRTIO 1.1, 5.5.6.3).
 FREE_MEMORY = 4
 
 
-def limit_from_now():
-    """Returns when a wait that begins now has to have ended."""
-    return time.monotonic() + LIMIT
+def values(text):
+    """Returns the values of metrics by their names with labels."""
+    lines = [it for it in text.splitlines() if it and not it.startswith("#")]
+    return {name: float(value) for name, value in (it.rsplit(" ", 1) for it in lines)}
 
 
 def say(**fields):
@@ -38,7 +35,7 @@ class Raw:
 
     def __init__(self, path):
         self.socket = socket.socket(socket.AF_UNIX)
-        self.socket.settimeout(10)
+        self.socket.settimeout(PATIENCE)
         self.socket.connect(path)
         self.lines = self.socket.makefile("rb")
 
@@ -90,7 +87,7 @@ class Host:
         if self.process.poll() is None:
             self.process.send_signal(number)
         try:
-            return self.process.wait(LIMIT)
+            return self.process.wait(PATIENCE)
         finally:
             self.process.kill()
             self.process.wait()
@@ -122,7 +119,7 @@ class Answering(threading.Thread):
             while not self.ended.wait(0.02):
                 while select.select([self.client.own], [], [], 0)[0]:
                     # Another process that goes on may tell of what was used long ago.
-                    if self.client.told(LIMIT) == STATISTICS and self.client.is_all_used(STATISTICS):
+                    if self.client.told(PATIENCE) == STATISTICS and self.client.is_all_used(STATISTICS):
                         self.tell()
         except (OSError, TypeError, AssertionError):
             pass

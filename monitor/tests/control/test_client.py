@@ -9,12 +9,14 @@ import threading
 import pytest
 from bigvasta import picture
 from bigvasta.commands import log, metrics
+from bigvasta.connection import Connection
 from bigvasta.picture import PLAIN, Shown
 from bigvasta.sizes import mebibytes, parse_size, seconds
 from bigvasta.statuses import Usage
 from bigvasta.waits import wait_of
 from hosts import eventually
 from installed import CLIENT, bigvasta
+from waiting import PATIENCE
 
 MIB = 1 << 20
 
@@ -140,11 +142,18 @@ def test_log_that_is_followed(host, arrive):
     assert [it for it in said if it in wanted] == wanted, said
 
 
+def test_who_follows_waits_longer_than_for_an_answer(host):
+    with Connection(host.control, 0.5) as follower:
+        events = follower.follow()
+        threading.Timer(1.5, lambda: host.ask("add", name="a")).start()
+        assert next(events)["event"] == "added"
+
+
 def test_a_reader_that_goes_ends_it(host):
     host.ask("budget", bytes=400 * MIB)
     ran = subprocess.run(
         ["/bin/sh", "-c", f"/usr/bin/python3 -B -m bigvasta status --control {host.control} | true; exit 0"], capture_output=True, text=True,
-        env={**os.environ, "PYTHONPATH": CLIENT}, timeout=20,
+        env={**os.environ, "PYTHONPATH": CLIENT}, timeout=PATIENCE,
     )
     assert ran.stderr == ""
 
@@ -165,7 +174,12 @@ def test_columns():
     assert [seconds(it) for it in (0, 0.25, 99.9, 100, 5999, 7200)] == ["0.0 s", "0.2 s", "99.9 s", "2 min", "100 min", "2 h"]
 
 
-@pytest.mark.parametrize("text, address", (("localhost:9750", ("localhost", 9750)), (":9750", ("localhost", 9750)), ("[::1]:9750", ("::1", 9750))))
+ADDRESSES = (
+    ("localhost:9750", ("127.0.0.1", 9750)), (":9750", ("127.0.0.1", 9750)), ("[::1]:9750", ("::1", 9750)), ("a:1", ("a", 1)), ("a:65535", ("a", 65535)),
+)
+
+
+@pytest.mark.parametrize("text, address", ADDRESSES)
 def test_addresses(text, address):
     assert metrics.parse_address(text) == address
 

@@ -3,9 +3,10 @@
 import os
 import re
 import signal
+import socket
 
 import pytest
-from hosts import ROOT, Host, eventually, limit_from_now
+from hosts import ROOT, Host, eventually
 
 MIB = 1 << 20
 
@@ -47,6 +48,8 @@ WRONG = (
     ("period = 100", "period = 60001", "line 6: period: milliseconds, from 10 to 60000"),
     ("socket = {folder}/.control", "socket = .control", "line 9: socket: a path from / on, of 127 bytes at most"),
     ("mode = 0600", "mode = 999", "line 10: mode: an octal mode, as 0660"),
+    ("mode = 0600", "mode = 60", "line 10: mode: an octal mode, as 0660"),
+    ("mode = 0600", "mode = 00600", "line 10: mode: an octal mode, as 0660"),
     ("mode = 0600", "mode = 1777", "line 10: mode: an octal mode, as 0660"),
     ("group = {group}", "group = no-such-group", "line 11: group: a group of this machine"),
     ("level = info", "level = loud", "line 14: level: error, warning, notice, info or debug"),
@@ -66,6 +69,7 @@ WRONG = (
     ("[guest web-1]", "[guest web-1]\ncolour = red", "line 18: colour: this section has no such key"),
     ("[guest web-1]", "[guest web-1]\nleast = 9M\nmost = 8M", "guest web-1: its least is more than its most"),
     ("[guest web-1]", "[guest web.1]\nleast = 9M", "line 17: guest web.1: a guest's name has 1 to 31 letters, digits, - and _"),
+    ("[guest web-1]", "\n".join(f"[guest {it}]" for it in range(63)) + "\n[guest web-1]", "line 82: guest web-2: there are as many guests as can be"),
     ("[log]", "[status]\nmode = 8\n[log]", "line 14: mode: an octal mode, as 0660"),
     ("[log]", "[status]\nsocket = x\n[log]", "line 14: socket: a path from / on, of 127 bytes at most"),
     ("[log]", "[status]\ngroup = no-such-group\n[log]", "line 14: group: a group of this machine"),
@@ -85,9 +89,39 @@ FIXED = (
     ("period = 100", "period = 200", "period of [host]"),
     ("socket = {folder}/.control", "socket = {folder}/.other", "socket of [control]"),
     ("mode = 0600", "mode = 0660", "mode of [control]"),
+    ("group = {group}", "", "group of [control]"),
     ("[log]", "[status]\nsocket = {folder}/.other\n[log]", "socket of [status]"),
     ("[log]", "[status]\nmode = 0600\n[log]", "mode of [status]"),
     ("[log]", "[status]\ngroup = {group}\n[log]", "group of [status]"),
+)
+from waiting import PATIENCE, patience_from_now
+
+
+def lines_of_a_client(host):
+    """Has a client of a guest break a rule; returns the lines about it, once some are said or left out."""
+    with socket.socket(socket.AF_UNIX) as client:
+        client.connect(f"{host.folder}/web-1")
+        client.sendall(b"\xff" * 12)
+        return eventually(lambda: [it for it in host.said() if "web-1" in it])
+
+
+def term(name):
+    """Returns what reads a term of the guest's."""
+    return lambda host: host.guest("web-1")["terms"][name]
+
+
+# What changes while the host runs: the key, its line, what is in its place, and what shows that, with its value.
+TAKEN = (
+    ("budget of [host]", "budget = 480M", "budget = 300M", lambda host: host.status()["budget"], 300 * MIB),
+    ("floor of [host]", "floor = 8M", "floor = 3M", lambda host: host.status()["floor"], 3 * MIB),
+    ("level of [log]", "level = info", "level = notice", lambda host: [it for it in host.said() if it.endswith("read anew")], []),
+    ("lines of [log]", "lines = 2000", "lines = 0", lines_of_a_client, ["web-1: further lines of this second are left out"]),
+    ("least of [guest]", "[guest web-1]", "[guest web-1]\nleast = 5M", term("least"), 5 * MIB),
+    ("most of [guest]", "[guest web-1]", "[guest web-1]\nmost = 7M", term("most"), 7 * MIB),
+    ("priority of [guest]", "[guest web-1]", "[guest web-1]\npriority = 9", term("priority"), 9),
+    ("strict of [guest]", "[guest web-1]", "[guest web-1]\nstrict = yes", term("strict"), True),
+    ("overhead of [guest]", "[guest web-1]", "[guest web-1]\noverhead = 11M", term("overhead"), 11 * MIB),
+    ("limit of [guest]", "[guest web-1]", "[guest web-1]\nstrict = yes\nlimit = tmpfs:/dev/shm", term("limit"), "tmpfs:/dev/shm"),
 )
 
 
@@ -116,15 +150,19 @@ def file(folder):
 def configured(program, folder, file):
     """A host that was started by the file alone."""
     it = Host(program, folder, "--config", str(file))
-    it.lines.next(limit_from_now())
+    it.lines.next(patience_from_now())
     yield it
     assert it.end() == 0, it.said()
 
 
-def test_each_key_is_wrong_once(folder):
+def keys_of_sources():
+    """Returns each key that a file may have, after its section."""
     with open(f"{ROOT}/monitor/backends/service/config.c", encoding="utf-8") as file:
-        keys = set(re.findall(r'(?m)^ +\{"(\w+)", "(\w+)", WORD_', file.read()))
-    wrong = set()
+        return set(re.findall(r'(?m)^ +\{"(\w+)", "(\w+)", WORD_', file.read()))
+
+
+def test_each_key_is_wrong_once(folder):
+    keys, wrong = keys_of_sources(), set()
     for old, new, said in WRONG:
         line = re.match(r"line (\d+): (\w+): ", said)
         if line:
@@ -140,9 +178,16 @@ def test_what_the_file_says_is_done(configured, folder):
     assert os.stat(configured.control).st_mode & 0o777 == 0o600
 
 
+def test_as_many_guests_as_there_can_be(program, folder, file):
+    file.write_text(filled(folder) + "".join(f"[guest {it}]\n" for it in range(62)))
+    host = Host(program, folder, "--config", str(file))
+    host.lines.next(patience_from_now())
+    assert (host.status()["guests"], host.end()) == (64, 0)
+
+
 def test_the_command_line_is_before_the_file(program, folder, file):
     it = Host(program, folder, "--config", str(file), "--budget", "100", "--floor", "1", "--control-mode", "0640")
-    it.lines.next(limit_from_now())
+    it.lines.next(patience_from_now())
     assert [it.status()[name] for name in ("budget", "floor")] == [100 * MIB, MIB]
     assert os.stat(it.control).st_mode & 0o777 == 0o640
     assert it.end() == 0
@@ -152,14 +197,14 @@ def test_the_command_line_is_before_the_file(program, folder, file):
 def test_a_host_does_not_start_by_a_wrong_file(program, folder, file, old, new, said):
     file.write_text(filled(folder, old, new))
     it = Host(program, folder, "--config", str(file))
-    assert it.process.wait(10) == 2
+    assert it.process.wait(PATIENCE) == 2
     assert f"{file}: {said}" in it.said(), it.said()
     it.end()
 
 
 def test_a_file_that_is_not_there(program, folder):
     it = Host(program, folder, "--config", f"{folder}/none.conf")
-    assert it.process.wait(10) == 2
+    assert it.process.wait(PATIENCE) == 2
     assert it.said()[0] == f"{folder}/none.conf: No such file or directory"
     it.end()
 
@@ -184,6 +229,19 @@ def test_what_cannot_change_while_the_host_runs(configured, folder, file, old, n
     configured.process.send_signal(signal.SIGHUP)
     eventually(lambda: f"{file}: {key} can't change while the host runs: the old configuration stays" in configured.said())
     assert configured.status()["budget"] == 480 * MIB
+
+
+def test_each_key_changes_while_the_host_runs_or_cannot():
+    assert {f"{key} of [{section}]" for section, key in keys_of_sources()} == {it[-1] for it in FIXED} | {it[0] for it in TAKEN}
+
+
+@pytest.mark.parametrize("key, old, new, shown, value", TAKEN, ids=[it[0] for it in TAKEN])
+def test_what_changes_while_the_host_runs(configured, folder, file, key, old, new, shown, value):
+    # A guest that comes with the file is there once all of it was taken.
+    file.write_text(filled(folder, old, new) + "[guest last]\n")
+    configured.process.send_signal(signal.SIGHUP)
+    eventually(lambda: configured.status()["guests"] == 3)
+    assert shown(configured) == value, key
 
 
 def test_a_file_that_is_read_anew(configured, folder, file):

@@ -10,7 +10,7 @@ import time
 import pytest
 from bigvasta.connection import Connection
 from bigvasta.statuses import Refused
-from hosts import Host, Raw, eventually, limit_from_now, say
+from hosts import Host, Raw, eventually, say
 
 MIB, PAGE = 1 << 20, 4096
 PAGES = "a whole number of bytes in pages of 4096, up to 17592186036224"
@@ -57,6 +57,7 @@ WRONG = (
     (say(request="guest", name="a", limit="tmpfs:/\u00e9"), "bad-field", "limit", "a path of 151 bytes at most, each of them a letter, a digit or a sign of ASCII"),
     (say(request="guest", name="a", overhead=1), "bad-field", "overhead", PAGES),
     (say(request="guest", name="a", target=0), "refused", None, "nobody is there"),
+    (say(request="guest", name="a", least=PAGE, target=0), "refused", None, "nobody is there"),
     (say(request="guest", name="a", least=2 * PAGE, most=PAGE), "refused", None, "its least is more than its most"),
     (say(request="add", name="a"), "guest-exists", "name", "a guest is named a already"),
     (say(request="add", name="a/b"), "refused", None, "a name has 1 to 31 letters, digits, - and _, and no other guest has it"),
@@ -71,6 +72,7 @@ WRONG = (
     (say(request="log", limit=17), "bad-field", "limit", "a whole number from 1 to 16"),
     (say(request="events", since=0), "unknown-field", "since", "this request has no such field"),
 )
+from waiting import PATIENCE, patience_from_now
 
 
 @pytest.fixture
@@ -136,7 +138,13 @@ def test_a_guest_comes_is_changed_and_goes(host, arrive):
     assert (ready["state"], ready["memory"], ready["held"], ready["free"]) == ("ready", 128 * PAGE, 128 * PAGE, 60 * PAGE)
     assert ready["socket"] == f"{host.folder}/web-1"
     host.ask("floor", bytes=0)
-    assert host.ask("guest", name="web-1", target=5 * PAGE)["guest"]["target"] == 5 * PAGE
+    changed = host.ask("guest", name="web-1", least=2 * PAGE, priority=3, target=5 * PAGE)["guest"]
+    assert [changed["target"], *(changed["terms"][it] for it in ("least", "priority"))] == [5 * PAGE, 2 * PAGE, 3]
+    eventually(lambda: host.guest("web-1")["target"] == 0)  # other terms are decided on
+    host.ask("guest", name="web-1", target=5 * PAGE)
+    with pytest.raises(Refused, match="no mount of tmpfs"):
+        host.ask("guest", name="web-1", strict=True, limit="tmpfs:/etc", target=6 * PAGE)
+    assert host.guest("web-1")["target"] == 5 * PAGE
     guest.leave()
     eventually(lambda: host.guest("web-1")["state"] == "absent")
     host.ask("remove", name="web-1")
@@ -209,7 +217,7 @@ def test_followers_hear_each_event_once_and_in_order(host, arrive):
     first.hears("gone")
     host.ask("remove", name="a")
     for it in first, second:
-        it.join(20)
+        it.join(PATIENCE)
     assert first.heard == second.heard
     assert [it["number"] for it in first.heard] == list(range(first.heard[0]["number"], first.heard[0]["number"] + len(first.heard)))
     names = [it["event"] for it in first.heard]
@@ -231,7 +239,7 @@ def test_a_guest_that_is_removed_while_it_is_there_has_gone(host, arrive):
     follower, guest = Follower(host), arrive("a")
     follower.hears("answers")
     host.ask("remove", name="a")
-    follower.join(20)
+    follower.join(PATIENCE)
     assert [it["event"] for it in follower.heard][-2:] == ["gone", "removed"]
     guest.stop()
     follower.connection.close()
@@ -311,7 +319,7 @@ def test_one_client_too_many_is_told_so(host):
 def test_the_mode_and_the_group_of_the_socket(program, folder):
     group = os.getgid()
     it = Host(program, folder, str(folder), "--budget", "480", "--control-mode", "0600", "--control-group", group_name(group))
-    it.lines.next(limit_from_now())
+    it.lines.next(patience_from_now())
     its = os.stat(it.control)
     assert (stat.S_IMODE(its.st_mode), its.st_gid) == (0o600, group)
     assert it.end() == 0
@@ -331,13 +339,13 @@ def group_name(number):
 ))
 def test_command_lines_that_are_none(program, folder, words):
     it = Host(program, folder, str(folder), "--budget", "480", *words)
-    assert it.process.wait(10) == 2
+    assert it.process.wait(PATIENCE) == 2
     assert it.said()[-2].startswith("vhost_user_host FOLDER")
     it.end()
 
 
 def test_a_folder_without_room_for_a_socket(program, folder):
     it = Host(program, folder, f"{folder}/none", "--budget", "480")
-    assert it.process.wait(10) == 2
+    assert it.process.wait(PATIENCE) == 2
     assert it.said()[-1] == f"{folder}/none: No such file or directory"
     it.end()

@@ -6,16 +6,18 @@ import signal
 import socket
 import subprocess
 
+import linux_kit
 import pytest
-from hosts import LIMIT, ROOT, eventually, limit_from_now
+from hosts import ROOT, eventually
 from linux_guest import Lines
 from vhost_client import Client
+from waiting import PATIENCE, patience_from_now
 
 
 @pytest.fixture(scope="session")
-def backend(programs):
+def backend():
     """The backend's program, with the compiler's checks."""
-    return programs("vhost_user_balloon")
+    return linux_kit.built("checked/vhost_user_balloon")
 
 
 class Running:
@@ -25,12 +27,12 @@ class Running:
         self.process = subprocess.Popen(
             [program, *words], stdin=subprocess.DEVNULL, stdout=subprocess.PIPE, stderr=subprocess.PIPE, pass_fds=files
         )
-        self.first = Lines(self.process.stdout, "the backend").next(limit_from_now())
+        self.first = Lines(self.process.stdout, "the backend").next(patience_from_now())
 
     def end(self):
         """Ends it by SIGTERM; returns its status."""
         self.process.send_signal(signal.SIGTERM)
-        _, said = self.process.communicate(timeout=LIMIT)
+        _, said = self.process.communicate(timeout=PATIENCE)
         return self.process.returncode, said.decode()
 
 
@@ -85,7 +87,7 @@ def test_by_a_client_s_socket(backend):
 
 
 def test_what_it_can(backend):
-    ran = subprocess.run([backend, "--nonsense", "--print-capabilities", "--fd=x"], capture_output=True, text=True, timeout=LIMIT)
+    ran = subprocess.run([backend, "--nonsense", "--print-capabilities", "--fd=x"], capture_output=True, text=True, timeout=PATIENCE)
     assert (ran.returncode, json.loads(ran.stdout), ran.stderr) == (0, {"type": "balloon"}, "")
 
 
@@ -105,7 +107,7 @@ def test_command_lines_that_are_none(backend, words):
     with ours, theirs:
         number = theirs.fileno()
         ran = subprocess.run(
-            [backend, *(it.format(number) for it in words)], capture_output=True, text=True, timeout=LIMIT, stdin=subprocess.DEVNULL, pass_fds=[number]
+            [backend, *(it.format(number) for it in words)], capture_output=True, text=True, timeout=PATIENCE, stdin=subprocess.DEVNULL, pass_fds=[number]
         )
     assert (ran.returncode, ran.stdout) == (2, "")
     assert "vhost_user_balloon SOCKET | --socket-path SOCKET | --fd FD" in ran.stderr
@@ -121,6 +123,6 @@ NAMED = (
 
 @pytest.mark.parametrize("words, said", NAMED)
 def test_what_is_wrong_is_named(backend, words, said):
-    ran = subprocess.run([backend, *words], capture_output=True, text=True, timeout=LIMIT, stdin=subprocess.DEVNULL, env={"LC_ALL": "C"})
+    ran = subprocess.run([backend, *words], capture_output=True, text=True, timeout=PATIENCE, stdin=subprocess.DEVNULL, env={"LC_ALL": "C"})
     first, _, rest = ran.stderr.partition("vhost_user_balloon SOCKET |")
     assert (ran.returncode, first.removeprefix(f"{backend}: ").rstrip("\n")) == (2, said) and rest

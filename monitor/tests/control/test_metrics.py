@@ -12,9 +12,10 @@ import urllib.request
 
 import pytest
 from bigvasta.plan import lending, reading
-from hosts import ROOT, eventually
+from hosts import ROOT, eventually, values
 from installed import CLIENT, bigvasta
 from vhost_client import DEFLATE, INFLATE, REGIONS
+from waiting import PATIENCE
 
 RULES = os.path.join(ROOT, "packaging", "prometheus")
 PAGE, MIB = 4096, 1 << 20
@@ -27,7 +28,7 @@ pytestmark = pytest.mark.skipif(not shutil.which("promtool"), reason="promtool i
 
 def promtool(*words, text=None, folder=None):
     """Runs promtool; returns what it said."""
-    ran = subprocess.run(["promtool", *words], input=text, capture_output=True, text=True, timeout=60, cwd=folder)
+    ran = subprocess.run(["promtool", *words], input=text, capture_output=True, text=True, timeout=PATIENCE, cwd=folder)
     assert ran.returncode == 0 and "error" not in (ran.stdout + ran.stderr).lower(), ran
     return ran.stdout + ran.stderr
 
@@ -36,12 +37,6 @@ def test_the_rules():
     said = promtool("check", "rules", "bigvasta.rules.yml", folder=RULES)
     assert "SUCCESS: 6 rules found" in said
     assert "SUCCESS" in promtool("test", "rules", "bigvasta.rules.test.yml", folder=RULES)
-
-
-def values(text):
-    """Returns the values of metrics by their names with labels."""
-    lines = [it for it in text.splitlines() if it and not it.startswith("#")]
-    return {name: float(value) for name, value in (it.rsplit(" ", 1) for it in lines)}
 
 
 def test_metrics_without_a_remark(host, arrive):
@@ -100,7 +95,7 @@ def free_port():
 def get(port, path):
     """Returns what a server answers; None while it doesn't."""
     try:
-        with urllib.request.urlopen(f"http://localhost:{port}{path}", timeout=5) as answer:
+        with urllib.request.urlopen(f"http://localhost:{port}{path}", timeout=PATIENCE) as answer:
             return answer.read().decode()
     except OSError:
         return None

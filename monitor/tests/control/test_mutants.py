@@ -4,9 +4,7 @@ import os
 import subprocess
 import sys
 
-import linux_kit
 import pytest
-from programs import CHECKS
 
 # Each wrong host, and the test that has to refuse it.
 WRONG = {
@@ -30,16 +28,10 @@ WRONG = {
 HERE = os.path.dirname(os.path.realpath(__file__))
 
 
-@pytest.fixture(scope="session")
-def wrong_program(tmp_path_factory):
-    """The host that is wrong in the way that its environment's CONTROL_WRONG names, beside the program of its guests."""
-    return linux_kit.build(str(tmp_path_factory.mktemp("wrong")), linux_kit.core_of(), "vhost_user_host", wrong=True, flags=CHECKS)
-
-
 @pytest.mark.parametrize("name", [pytest.param(it, marks=pytest.mark.wrong(it)) for it in WRONG])
 def test_a_wrong_host_is_refused(wrong_program, name):
     words = [sys.executable, "-m", "pytest", "-q", "-x", "--tb=short", "-o", "timeout=60", os.path.join(HERE, WRONG[name])]
-    environment = {**os.environ, "CONTROL_WRONG": name, "HOST_PROGRAM": wrong_program}
+    environment = {**os.environ, "CONTROL_WRONG": name, "HOST_PROGRAM": wrong_program, "PATIENCE": "20"}
     ran = subprocess.run(words, env=environment, capture_output=True, text=True, timeout=200)
     faults = [it for it in ran.stdout.splitlines() if it.startswith("E  ")]
     assert ran.returncode == 1 and faults, f"{WRONG[name]} passes: {ran.stdout[-500:]}{ran.stderr[-200:]}"

@@ -9,8 +9,9 @@ import subprocess
 
 import pytest
 from bigvasta.cli import parser
-from hosts import ROOT, Host, eventually, limit_from_now
+from hosts import ROOT, Host, eventually
 from installed import CLIENT
+from waiting import PATIENCE, patience_from_now
 
 MAN = os.path.join(ROOT, "docs", "man")
 PAGES = ("bigvasta.1", "bigvasta-host.conf.5", "vhost_user_host.1", "vhost_user_balloon.1")
@@ -32,8 +33,18 @@ def test_pages_are_well_formed(name):
     if not shutil.which("man"):
         pytest.skip("man isn't there: apt-get install man-db")
     words = ["man", "--warnings", "-E", "UTF-8", "-l", "-Tutf8", "-Z", f"{MAN}/{name}"]
-    ran = subprocess.run(words, capture_output=True, text=True, timeout=60, env={**os.environ, "MANROFFSEQ": "", "MANWIDTH": "80", "LC_ALL": "C.UTF-8"})
+    ran = subprocess.run(words, capture_output=True, text=True, timeout=PATIENCE, env={**os.environ, "MANROFFSEQ": "", "MANWIDTH": "80", "LC_ALL": "C.UTF-8"})
     assert (ran.returncode, ran.stderr) == (0, "")
+
+
+@pytest.mark.parametrize("name", ("bigvasta-host.conf.5", "vhost_user_host.1"))
+def test_the_period_has_the_bounds_that_its_page_says(program, folder, name):
+    least, most = re.search(r"from (\d+) to (\d+)", page(name)).groups()
+    for period, status in ((int(least) - 1, 2), (int(least), 0), (int(most), 0), (int(most) + 1, 2)):
+        (folder / "host.conf").write_text(f"[host]\nperiod = {period}\n")
+        words = ["--period", str(period)] if name.endswith(".1") else ["--config", f"{folder}/host.conf"]
+        ran = subprocess.run([program, str(folder), "--budget", "480", *words], input="quit\n", capture_output=True, text=True, timeout=PATIENCE)
+        assert ran.returncode == status, (period, ran)
 
 
 def examples(name):
@@ -50,7 +61,7 @@ def test_what_the_page_of_the_client_shows(host, folder):
     for (program, *words), lines in shown:
         assert program == "bigvasta"
         ran = subprocess.run(
-            ["/usr/bin/python3", "-B", "-m", "bigvasta", *words], capture_output=True, text=True, timeout=20,
+            ["/usr/bin/python3", "-B", "-m", "bigvasta", *words], capture_output=True, text=True, timeout=PATIENCE,
             env={**os.environ, "PYTHONPATH": CLIENT, "BIGVASTA_CONTROL": host.control},
         )
         assert (ran.returncode, ran.stderr) == (0, ""), (words, ran)
@@ -63,13 +74,13 @@ def test_what_the_page_of_the_host_shows(program, folder):
     said = [it.replace("/run/bigvasta", str(folder)) for it in words]
     said[said.index("bigvasta")] = "root"
     host = Host(program, folder, *said)
-    assert [host.lines.next(limit_from_now()) for _ in lines] == lines
+    assert [host.lines.next(patience_from_now()) for _ in lines] == lines
     assert host.end() == 0
 
 
 def test_what_the_page_of_the_backend_shows(program):
     ((name, *words), lines), = examples("vhost_user_balloon.1")
-    ran = subprocess.run([os.path.join(os.path.dirname(program), name), *words], capture_output=True, text=True, timeout=20)
+    ran = subprocess.run([os.path.join(os.path.dirname(program), name), *words], capture_output=True, text=True, timeout=PATIENCE)
     assert (ran.returncode, ran.stderr, ran.stdout.splitlines()) == (0, "", lines)
 
 
@@ -77,7 +88,7 @@ def test_what_the_page_of_the_configuration_shows(program, folder):
     block, = re.findall(r"(?s)\n\.EX\n(.*?)\.EE\n", page("bigvasta-host.conf.5"))
     (folder / "host.conf").write_text(plain(block).replace("/run/bigvasta", str(folder)).replace("group = bigvasta", "group = root"))
     host = Host(program, folder, "--config", f"{folder}/host.conf")
-    assert host.lines.next(limit_from_now()) == "ready"
+    assert host.lines.next(patience_from_now()) == "ready"
     assert [it["name"] for it in host.ask("status")["guests"]] == ["web-1"]
     assert host.end() == 0
 
@@ -134,7 +145,7 @@ def test_completion_in_bash(host, folder):
         words = [it.format(control=host.control) for it in words]
         text = script.format(file=f"{ROOT}/packaging/bash-completion/bigvasta", words=" ".join(map(shlex.quote, words)), count=len(words))
         environment = {**os.environ, "PATH": f"{folder}:{os.environ['PATH']}", "BIGVASTA_CONTROL": host.control}
-        ran = subprocess.run(["bash", "-c", text], capture_output=True, text=True, timeout=20, env=environment)
+        ran = subprocess.run(["bash", "-c", text], capture_output=True, text=True, timeout=PATIENCE, env=environment)
         assert set(ran.stdout.split()) == wanted, (words, ran)
 
 

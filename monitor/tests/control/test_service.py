@@ -12,8 +12,9 @@ import time
 
 import pytest
 from bigvasta.connection import Connection
-from hosts import ROOT, Answering, Host, eventually, limit_from_now
+from hosts import ROOT, Answering, Host, eventually
 from installed import bigvasta
+from waiting import PATIENCE, patience_from_now
 
 SYSTEMD = os.path.join(ROOT, "packaging", "systemd")
 UNITS = ("bigvasta-host.service", "bigvasta-metrics.service")
@@ -35,7 +36,7 @@ class Manager:
         self.folder, self.kept = folder, {}
         self.socket = socket.socket(socket.AF_UNIX, socket.SOCK_DGRAM)
         self.socket.bind(f"{folder}/.notify")
-        self.socket.settimeout(10)
+        self.socket.settimeout(PATIENCE)
 
     def environment(self, watchdog=0):
         """Returns what it starts a service with."""
@@ -118,7 +119,7 @@ def test_a_client_that_comes_while_no_host_is_there(program, folder, manager):
     waiting = Connection(host.control)
     waiting.socket.sendall(b'{"version": 1, "request": "budget"}\n')
     host = manager.start(program, folder, str(folder), "--budget", "300")
-    assert waiting.receive()["budget"] == 300 << 20
+    assert waiting.receive({})["budget"] == 300 << 20
     assert host.status()["control"]["accepted"] == 2
     waiting.close()
     assert host.end() == 0
@@ -152,8 +153,19 @@ def test_without_a_watchdog(program, folder, manager):
 
 def test_without_a_manager(program, folder):
     host = Host(program, folder, str(folder), "--budget", "480", environment={"NOTIFY_SOCKET": f"{folder}/none"})
-    host.lines.next(limit_from_now())
+    host.lines.next(patience_from_now())
     assert host.end() == 0
+
+
+def test_a_host_without_a_manager_waits_for_what_is_due(host):
+    """Ten looks for events a second, one at the guests: it takes no turn for a manager that isn't there."""
+    def turns():
+        return sum(host.status()["measures"]["turns"]["counts"])
+
+    before, begin = turns(), time.monotonic()
+    time.sleep(2)
+    after, seconds = turns(), time.monotonic() - begin
+    assert after - before < 30 * seconds, (after - before, seconds)
 
 
 # A level, and how the lines begin that are said of a wrong file, of a right one, and of a guest that breaks a rule and goes.
@@ -168,7 +180,7 @@ def test_levels_in_the_journal(program, folder, level, begins):
     good = f"[host]\nfolder = {folder}\nbudget = 480M\n[log]\nlevel = {level}\n[guest a]\n"
     file.write_text(good)
     host = Host(program, folder, "--config", str(file), environment={"JOURNAL_STREAM": f"{its.st_dev}:{its.st_ino}"})
-    host.lines.next(limit_from_now())
+    host.lines.next(patience_from_now())
     file.write_text(good.replace("480M", "480"))
     host.process.send_signal(signal.SIGHUP)
     eventually(lambda: len(host.said()) == 2)
@@ -187,7 +199,7 @@ def test_levels_in_the_journal(program, folder, level, begins):
 def test_lines_elsewhere_have_no_level(program, folder):
     (folder / "host.conf").write_text("[host]\nbudget = 5\n")
     host = Host(program, folder, "--config", f"{folder}/host.conf", environment={"JOURNAL_STREAM": "1:1"})
-    assert host.process.wait(20) == 2
+    assert host.process.wait(PATIENCE) == 2
     assert host.said()[0].startswith(f"{folder}/host.conf: line 2: budget: ")
     host.end()
 
@@ -200,10 +212,10 @@ def test_units(unit, tmp_path):
         text = file.read()
     # The programs aren't installed here.
     (tmp_path / unit).write_text(re.sub(r"(?m)^ExecStart=\S+", "ExecStart=/bin/true", text))
-    ran = subprocess.run(["systemd-analyze", "verify", "--man=no", str(tmp_path / unit)], capture_output=True, text=True, timeout=60)
+    ran = subprocess.run(["systemd-analyze", "verify", "--man=no", str(tmp_path / unit)], capture_output=True, text=True, timeout=PATIENCE)
     assert (ran.returncode, [it for it in ran.stderr.splitlines() if unit in it]) == (0, []), ran
     words = ["systemd-analyze", "security", "--offline=yes", "--no-pager", "--threshold=20", f"{SYSTEMD}/{unit}"]
-    ran = subprocess.run(words, capture_output=True, text=True, timeout=60)
+    ran = subprocess.run(words, capture_output=True, text=True, timeout=PATIENCE)
     exposure = float(re.search(r"Overall exposure level for \S+: ([\d.]+)", ran.stdout)[1])
     assert ran.returncode == 0 and exposure <= 2.0, exposure
 
@@ -214,7 +226,7 @@ def test_the_user_and_the_folder_of_sockets(tmp_path):
     (tmp_path / "etc").mkdir()
     for program, file in (("systemd-sysusers", "sysusers.d/bigvasta.conf"), ("systemd-tmpfiles", "tmpfiles.d/bigvasta.conf")):
         words = [program, f"--root={tmp_path}", *(["--create"] if program.endswith("tmpfiles") else []), os.path.join(os.path.dirname(SYSTEMD), file)]
-        ran = subprocess.run(words, capture_output=True, text=True, timeout=60)
+        ran = subprocess.run(words, capture_output=True, text=True, timeout=PATIENCE)
         assert ran.returncode == 0, ran
     user, = (it.split(":") for it in (tmp_path / "etc/passwd").read_text().splitlines() if it.startswith("bigvasta:"))
     groups = {it.split(":")[0]: it.split(":")[2:] for it in (tmp_path / "etc/group").read_text().splitlines()}
@@ -239,7 +251,7 @@ def test_the_configuration_of_the_package(program, folder):
     for text in bare, full:
         (folder / "host.conf").write_text(text)
         host = Host(program, folder, "--config", f"{folder}/host.conf")
-        assert host.lines.next(limit_from_now()) == "ready"
+        assert host.lines.next(patience_from_now()) == "ready"
         assert host.status()["guests"] == ("[guest web-1]" in re.sub(r"(?m)^#.*$", "", text))
         assert bigvasta(host.control, "budget").stdout == "8192 MiB\n"
         assert host.end() == 0

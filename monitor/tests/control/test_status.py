@@ -2,11 +2,12 @@
 
 import json
 import os
+import re
 import stat
 
 import pytest
 from bigvasta.connection import Connection
-from hosts import Host, Raw, eventually, limit_from_now, say
+from hosts import ROOT, Host, Raw, eventually, say
 from installed import bigvasta
 
 PAGE, MIB = 4096, 1 << 20
@@ -18,6 +19,8 @@ CHANGES = (
     ("add", {"name": "b", "least": 1}, "request", "add"),
     ("remove", {"name": "a"}, "request", "remove"),
     ("remove", {"name": "none"}, "request", "remove"),
+    ("upgrade", {}, "request", "upgrade"),
+    ("renew", {"name": "a"}, "request", "renew"),
     ("guest", {"name": "a", "least": PAGE}, "least", "least"),
     ("guest", {"name": "a", "most": PAGE}, "most", "most"),
     ("guest", {"name": "a", "most": None}, "most", "most"),
@@ -38,9 +41,20 @@ WRONG = (
     (say(request="guest", name="none"), "no-guest"), (say(request="status", name="a"), "unknown-field"), (say(request="log", limit=0), "bad-field"),
     (b'{"version": 2, "request": "add"}', "version"),
 )
+from waiting import patience_from_now
 
-# What shows the host.
+# What shows the host; of these two requests more is shown than is the same at both sockets.
 SHOWS = (("guest", {"name": "a"}), ("budget", {}), ("floor", {}), ("log", {"since": 0, "limit": 1}))
+SHOWS_MORE = {("status", "request"), ("events", "request")}
+
+
+def fields_of_requests():
+    """Returns each request of the sources with the word `request`, and with each of its fields."""
+    with open(f"{ROOT}/monitor/backends/control/requests.c", encoding="utf-8") as file:
+        text = file.read().replace("\\\n", "")
+    terms = re.search(r"#define TERMS(.*)", text)[1]
+    kinds = re.findall(r'(?m)^    \{"(\w+)", (?:SHOWS|CHANGES), \w+, (.*)\},$', text)
+    return {(name, it) for name, fields in kinds for it in ("request", *re.findall(r'\{"(\w+)", FIELD_', fields.replace("TERMS", terms)))}
 
 
 @pytest.fixture
@@ -58,6 +72,13 @@ def is_the_same(host, before):
         for name in ("control", "status", "measures", "counters"):
             it["host"].pop(name, None)
     return after == before
+
+
+def test_each_request_and_each_field_has_a_row():
+    whole = {request for request, _, field, _ in CHANGES if field == "request"}
+    rows = {(request, field) for request, _, field, _ in CHANGES} | {(request, it) for request, fields in SHOWS for it in ("request", *fields)}
+    wanted = {(request, field) for request, field in fields_of_requests() if field == "request" or request not in whole}
+    assert wanted == rows | SHOWS_MORE, wanted ^ (rows | SHOWS_MORE)
 
 
 def test_what_would_change_the_host_is_refused_by_name_and_changes_nothing(host, raw):
@@ -107,10 +128,11 @@ def test_as_many_clients_as_there_can_be_leave_room_at_the_control_socket(host):
 
 def test_its_place_its_mode_and_its_group(program, folder):
     path = f"{folder}/shown"
-    group = os.getgroups()[-1] if os.getgroups() else os.getgid()
+    # Root may give a socket to any group, to that of number 1, too.
+    group = 1 if os.geteuid() == 0 else os.getgroups()[-1] if os.getgroups() else os.getgid()
     words = ("--status", path, "--status-mode", "0644", "--status-group", group_name(group))
     it = Host(program, folder, str(folder), "--budget", "480", *words)
-    it.lines.next(limit_from_now())
+    it.lines.next(patience_from_now())
     its = os.stat(path)
     assert (stat.S_IMODE(its.st_mode), its.st_gid) == (0o644, group)
     assert not os.path.exists(it.shown) and stat.S_IMODE(os.stat(it.control).st_mode) == 0o660

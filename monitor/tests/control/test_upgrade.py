@@ -3,14 +3,15 @@ version."""
 
 import os
 
-from hosts import Answering, Host, eventually, limit_from_now
+from hosts import Answering, Host, eventually
 from installed import OLDER, bigvasta, install, older_program, version
+from waiting import patience_from_now
 
 
 def begin(program, folder):
     """Starts a host that leaves its guests as it ends."""
     it = Host(program, folder, str(folder), "--budget", "480", "--leave")
-    it.lines.next(limit_from_now())
+    it.lines.next(patience_from_now())
     return it
 
 
@@ -22,8 +23,8 @@ def come(host, name):
     return guest
 
 
-def test_guests_live_through_an_upgrade(program, folder, tmp_path):
-    first = begin(older_program(tmp_path), folder)
+def test_guests_live_through_an_upgrade(program, folder):
+    first = begin(older_program(), folder)
     assert (first.status()["version"], come(first, "old").is_alive(), first.guest("old")["version"]) == (OLDER, True, OLDER)
     process = first.guest("old")["process"]
     assert first.end() == 0
@@ -44,7 +45,7 @@ def test_guests_live_through_an_upgrade(program, folder, tmp_path):
 
 def test_one_command_upgrades_the_host_and_its_guests(program, folder, tmp_path):
     installed = tmp_path / "installed"
-    host = begin(install(older_program(tmp_path), installed), folder)
+    host = begin(install(older_program(), installed), folder)
     guests = [come(host, it) for it in "ab"]
     host.ask("add", name="absent")
     before = {it: host.guest(it)["process"] for it in "ab"}
@@ -83,7 +84,7 @@ def test_a_program_that_does_not_run_upgrades_nothing(program, folder, tmp_path)
 
 def test_a_process_whose_program_does_not_go_on_stays(program, folder, tmp_path):
     installed = tmp_path / "installed"
-    host = begin(install(older_program(tmp_path), installed), folder)
+    host = begin(install(older_program(), installed), folder)
     come(host, "a")
     install(program, installed)
     # It says its version, and doesn't know what is kept.

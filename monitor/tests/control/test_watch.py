@@ -6,8 +6,9 @@ import shutil
 import subprocess
 
 import pytest
-from hosts import Host, eventually, limit_from_now
+from hosts import Host, eventually
 from installed import CLIENT
+from waiting import PATIENCE, patience_from_now
 
 PAGE, MIB = 4096, 1 << 20
 ENVIRONMENT = {**os.environ, "TERM": "screen-256color", "LC_ALL": "C.UTF-8"}
@@ -29,7 +30,7 @@ class Terminal:
 
     def tmux(self, *words):
         """Runs a command of tmux; returns what it printed."""
-        return subprocess.run(["tmux", "-S", self.socket, *words], capture_output=True, text=True, timeout=10, env=ENVIRONMENT, check=True).stdout
+        return subprocess.run(["tmux", "-S", self.socket, *words], capture_output=True, text=True, timeout=PATIENCE, env=ENVIRONMENT, check=True).stdout
 
     def screen(self):
         """Returns the lines that the terminal shows."""
@@ -46,7 +47,7 @@ class Terminal:
     def close(self):
         """Ends it, and what runs in it."""
         self.server.terminate()
-        self.server.wait(10)
+        self.server.wait(PATIENCE)
 
 
 @pytest.fixture
@@ -122,14 +123,14 @@ def test_a_terminal_without_utf8(host, opened):
 
 def test_a_host_that_goes_and_comes_back(program, folder, opened):
     host = Host(program, folder, str(folder), "--budget", "480")
-    host.lines.next(limit_from_now())
+    host.lines.next(patience_from_now())
     terminal = opened(host.control, "--interval", "0.2")
     shows(terminal, "0 guests, by name")
     assert host.end() == 0
     shows(terminal, "no host answers, and this was its last word: ..")
     assert terminal.screen()[0] == "budget 480  held 0  lent 0  promised 0 MiB"
     host = Host(program, folder, str(folder), "--budget", "400")
-    host.lines.next(limit_from_now())
+    host.lines.next(patience_from_now())
     shows(terminal, "budget 400  held 0  lent 0  promised 0 MiB")
     shows(terminal, "0 guests, by name")
     terminal.key("q")

@@ -2,4 +2,5 @@
 
 from planner import library, shared
 
+PROGRAMS = ("libvb.so",)
 __all__ = ("library", "shared")

@@ -10,9 +10,9 @@ import subprocess
 import time
 
 from planner import CLIENT
+from waiting import PATIENCE, patience_from_now
 
-LIMIT = 200.0
-PORT = 8786
+PORT, NAMESPACES = 8786, "/run/netns"
 
 # The addresses of the namespaces, as other machines have them.
 NETWORK = "10.213.77"
@@ -20,7 +20,7 @@ NETWORK = "10.213.77"
 
 def ip(*words):
     """Runs ip(8)."""
-    subprocess.run(["ip", *words], check=True, capture_output=True, text=True, timeout=LIMIT)
+    subprocess.run(["ip", *words], check=True, capture_output=True, text=True, timeout=PATIENCE)
 
 
 def read(path):
@@ -32,7 +32,7 @@ def read(path):
 def answers(address, inside=()):
     """Returns whether somebody answers at an address."""
     program = f"import socket; socket.create_connection({address!r}, 1)"
-    return subprocess.run([*inside, "/usr/bin/python3", "-c", program], capture_output=True, timeout=LIMIT).returncode == 0
+    return subprocess.run([*inside, "/usr/bin/python3", "-c", program], capture_output=True, timeout=PATIENCE).returncode == 0
 
 
 class Machines:
@@ -62,6 +62,9 @@ class Machines:
 
     def tie(self, count):
         """Makes this number of namespaces, and a bridge in the first one of them."""
+        if not os.path.ismount(NAMESPACES):
+            # The first namespace mounts their folder, and the last one leaves it mounted.
+            self.stack.callback(subprocess.run, ["umount", NAMESPACES])
         for number in range(count):
             ip("netns", "add", self.name(number))
             self.stack.callback(ip, "netns", "del", self.name(number))
@@ -102,7 +105,7 @@ class Machines:
 
 def eventually(condition):
     """Waits until a condition holds."""
-    deadline = time.monotonic() + LIMIT
+    deadline = patience_from_now()
     while not condition():
         assert time.monotonic() < deadline
         time.sleep(0.2)

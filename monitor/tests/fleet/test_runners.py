@@ -14,6 +14,7 @@ import pytest
 from bigvasta.plan.progress import Progress
 from dask_hosts import Machines, end, eventually, free_port, lacks
 from planner import CLIENT, run, words_of
+from waiting import PATIENCE
 
 # Guests on hosts that some find no room on: two promises, and six hosts at most for each.
 FLEET = ("--fleet", "6", "--budget", "24G", "--make", "180", "--hours", "6", "--promises", "1.5..1.8", "--steps", "1", "--json")
@@ -40,7 +41,7 @@ def test_a_fleet_of_a_file(shared, wanted, tmp_path):
 
 
 distributed = pytest.mark.skipif(
-    subprocess.run(["/usr/bin/python3", "-c", "import distributed"], capture_output=True, timeout=60).returncode != 0,
+    subprocess.run(["/usr/bin/python3", "-c", "import distributed"], capture_output=True, timeout=PATIENCE).returncode != 0,
     reason="Dask isn't there: apt-get install python3-distributed",
 )
 
@@ -69,7 +70,7 @@ def test_a_worker_that_is_killed_amid(shared, tmp_path):
         with subprocess.Popen(words, stdout=subprocess.PIPE, stderr=subprocess.PIPE, text=True, env=environment) as plan:
             first = plan.stderr.readline()
             end(machines.workers[0])
-            answer, rest = plan.communicate(timeout=240)
+            answer, rest = plan.communicate(timeout=PATIENCE)
     assert re.fullmatch(r"replayed 3 of \d+ hosts, .*\n", first), first + rest
     assert (answer, plan.returncode) == (wanted, 0)
     assert "100%" in rest
@@ -131,7 +132,7 @@ def test_a_scheduler_that_goes_away(shared, tmp_path):
         with subprocess.Popen(command, stdout=subprocess.PIPE, stderr=subprocess.PIPE, text=True, env=environment) as plan:
             plan.stderr.readline()
             end(machines.schedulers[0])
-            answer, rest = plan.communicate(timeout=240)
+            answer, rest = plan.communicate(timeout=PATIENCE)
     assert (answer, plan.returncode, rest.splitlines()[-1]) == ("", 3, f"bigvasta: --scheduler: {address} went away")
 
 
@@ -147,7 +148,7 @@ def test_a_worker_without_the_planner(shared, tmp_path):
 @distributed
 def test_a_worker_of_another_version(shared, tmp_path):
     other = tmp_path / "client"
-    subprocess.run(["cp", "-r", CLIENT, other], check=True, timeout=60)
+    subprocess.run(["cp", "-r", CLIENT, other], check=True, timeout=PATIENCE)
     (other / "bigvasta" / "__init__.py").write_text('__version__ = "0.0.1"\n')
     with Machines(tmp_path, "local") as machines:
         address = machines.scheduler("127.0.0.1", free_port())
@@ -198,14 +199,14 @@ def test_a_process_that_is_killed(shared):
     with subprocess.Popen(command, stdout=subprocess.PIPE, stderr=subprocess.PIPE, text=True, env=environment) as plan:
         assert plan.stderr.readline().startswith("replayed 3 of ")
         os.kill(int(children_of(plan.pid)[0]), 9)
-        answer, rest = plan.communicate(timeout=120)
+        answer, rest = plan.communicate(timeout=PATIENCE)
     assert (answer, plan.returncode) == ("", 4)
     assert rest.splitlines()[-1] == "bigvasta: plan: one of its processes was ended, as by a lack of memory"
 
 
 def children_of(process):
     """Returns the processes that a process has started."""
-    return subprocess.run(["ps", "--ppid", str(process), "-o", "pid="], capture_output=True, text=True, timeout=60).stdout.split()
+    return subprocess.run(["ps", "--ppid", str(process), "-o", "pid="], capture_output=True, text=True, timeout=PATIENCE).stdout.split()
 
 
 def test_a_plan_that_is_killed_leaves_no_process(shared):

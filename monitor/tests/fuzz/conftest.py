@@ -1,5 +1,7 @@
 """Options of the fuzzers' suite."""
 
+PROGRAMS = ("fuzz/fuzz_guest", "fuzz/fuzz_lender", "cover/fuzz_guest", "cover/fuzz_lender")
+
 
 def pytest_addoption(parser):
     """How long it takes, and whether what it found is kept."""

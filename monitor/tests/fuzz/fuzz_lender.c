@@ -49,9 +49,10 @@ static void process_begins(unsigned number, bool adopted)
     seat->channel = ends[0];
     processes[number] = ends[1];
     seat->here = true;
-    seat->adopts = seat->adopted = adopted;
+    seat->adopts = seat->adopted = seat->asks_terms = adopted;
     seat->adopts_until = loop_now() + TELLS_IN;
-    reports[number] = (struct lending_message){.kind = TELL_REPORT, .holds = seat->terms.strict};
+    seat->holds = seat->terms.strict;
+    reports[number] = (struct lending_message){.kind = TELL_REPORT, .holds = seat->holds};
 }
 
 static void process_goes(unsigned number)
@@ -67,10 +68,15 @@ static void change_report(struct lending_message *report)
     uint32_t *const numbers[] = {&report->pages, &report->wanted, &report->ballooned, &report->held_pages, &report->target, &report->obeyed};
     uint32_t *const words[] = {&report->ready, &report->waits, &report->taken_since, &report->has_terms, &report->holds, &report->status};
     unsigned what = next_below(16), value = next_byte();
-    if (what < 6)
-        *numbers[what] = value < 250 ? value : next_u32();
+    bool is_wild = value >= 250;
+    if (what == 0 && !is_wild)
+        report->pages = report->pages > 0 ? value % report->pages : 0;   /* more, and its service ends */
+    else if (what == 10)
+        report->holds ^= is_wild;
+    else if (what < 6)
+        *numbers[what] = is_wild ? next_u32() : value;
     else if (what < 12)
-        *words[what - 6] = value % 3;
+        *words[what - 6] = is_wild ? 3 : value % 3;
     else if (what == 12)
         report->wait++, report->held_wait++;
     else if (what == 13)
@@ -78,7 +84,7 @@ static void change_report(struct lending_message *report)
     else if (what == 14)
         report->counters.statistics++, report->figures[0] = (VbStatistic){.tag = 4 + value % 3, .value = value * UINT64_C(4096)};
     else
-        report->counters.taken += value, report->held_kib = value * 4;
+        report->counters.taken += value, report->held_kib = is_wild ? (uint64_t)next_u32() << 32 : value * 4;
     report->figure_count = what == 14 ? value % 40 : report->figure_count;
 }
 
@@ -170,7 +176,10 @@ static void check_loans(void)
     for (unsigned i = 0; i < MOST_PLACES; i++) {
         const VbLoan *loan = &host.loans[i];
         demand((uint64_t)loan->lent + loan->ballooned >= loan->pages && loan->pages >= (uint64_t)loan->lent + loan->asked);
+        demand(loan->pages <= MOST_SET);
     }
+    for (unsigned i = 0; i < SEATS; i++)
+        demand(host_held(&host) >= host.seats[i]->report.held_kib);
 }
 
 static void act(void)
@@ -199,6 +208,7 @@ static void begin_once(void)
         return;
     demand(mkdtemp(folder) && answers_begin(&host.answers));
     host.folder = folder;
+    demand(folder_lock(&host));
     host.program = "/bin/false";
     say_through = hush;
     for (unsigned i = 0; i < SEATS; i++) {

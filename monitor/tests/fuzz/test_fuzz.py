@@ -16,18 +16,10 @@ BACKENDS = os.path.join(linux_kit.MONITOR, "backends")
 # Per cent of the branches that have to be taken, and bytes of an input.
 LEAST, MOST_INPUT = 90, 400
 
-# What each fuzzer is made of: its own files, the backends' files, the functions that it has in their place, libraries; and the files whose
-# branches count.
+# Of each fuzzer (monitor/Makefile says what it is made of), the files whose branches count.
 FUZZERS = {
-    "guest": (
-        ("fuzz_guest.c", "client.c"), [it for it in linux_kit.CLIENT_PARTS["vhost_user_balloon"] if it != "guest/lent"],
-        ("poll_some", "clock_gettime", "kept_save"), ("vhost_user_balloon",),
-        ("guest/messages", "guest/slots", "guest/rings", "guest/ring_messages", "guest/inbox", "guest/marks", "guest/lent_channel"),
-    ),
-    "lender": (
-        ("fuzz_lender.c",), (*linux_kit.COMMON_PARTS, *(f"host/{it}" for it in linux_kit.HOST_PARTS)), ("clock_gettime",), (),
-        ("host/reports", "host/message", "host/orders", "host/policy", "host/rest"),
-    ),
+    "guest": ("guest/messages", "guest/slots", "guest/rings", "guest/ring_messages", "guest/inbox", "guest/marks", "guest/lent_channel"),
+    "lender": ("host/reports", "host/message", "host/orders", "host/policy", "host/rest"),
 }
 
 
@@ -41,17 +33,6 @@ def run(*words, **how):
     ran = subprocess.run(words, stdin=subprocess.DEVNULL, stdout=subprocess.PIPE, stderr=subprocess.STDOUT, text=True, errors="replace", **how)
     assert ran.returncode == 0, f"{words[0]} ends with status {ran.returncode}:\n{ran.stdout[-4000:]}"
     return ran.stdout
-
-
-def build(name, folder, *flags):
-    """Compiles a fuzzer."""
-    own, parts, wrapped, programs, _ = FUZZERS[name]
-    program = os.path.join(folder, f"{name}{len(flags)}")
-    sources = [*(os.path.join(HERE, it) for it in own), *(os.path.join(BACKENDS, f"{it}.c") for it in parts), linux_kit.core_of()]
-    words = [linux_kit.need("clang", "clang libclang-rt-14-dev llvm"), "-std=c11", "-O0", "-g", "-Wall", "-Wextra", "-Werror", *flags,
-             "-I", linux_kit.SHIM, "-I", linux_kit.HEADERS, "-o", program, *sources, *(f"-Wl,--wrap={it}" for it in wrapped)]
-    run(*words, *(word for it in programs for word in linux_kit.linked(it)))
-    return program
 
 
 def unpack(name, folder):
@@ -85,7 +66,7 @@ def branches(program, folder, corpus):
 
 def check_branches(name, taken):
     """Prints which part of the branches was taken, and demands most of them of the files that count."""
-    counts, missing = FUZZERS[name][-1], []
+    counts, missing = FUZZERS[name], []
     for it, (count, covered) in sorted(taken.items()):
         share = 100 * covered / count
         print(f"{it:<24}{count:>6} branches {share:>6.1f}%{' *' if it in counts else ''}")
@@ -98,7 +79,7 @@ def check_branches(name, taken):
 @pytest.mark.parametrize("name", FUZZERS)
 def test_fuzz(name, tmp_path, request):
     corpus, least = str(tmp_path / "corpus"), str(tmp_path / "least")
-    program = build(name, str(tmp_path), "-fsanitize=fuzzer,address,undefined")
+    program = linux_kit.built(f"fuzz/fuzz_{name}")
     unpack(name, corpus)
     seconds = request.config.getoption("--seconds") // len(FUZZERS)
     limits = (f"-max_total_time={seconds}", f"-max_len={MOST_INPUT}", "-handle_bus=0", f"-artifact_prefix={tmp_path}/")
@@ -106,7 +87,6 @@ def test_fuzz(name, tmp_path, request):
     print(*(it for it in said.splitlines() if it.startswith(("Done", "stat::new"))), sep="\n")
     os.makedirs(least)
     run(program, "-set_cover_merge=1", "-handle_bus=0", least, corpus)
-    covering = build(name, str(tmp_path), "-fsanitize=fuzzer", "-fprofile-instr-generate", "-fcoverage-mapping")
-    check_branches(name, branches(covering, str(tmp_path), least))
+    check_branches(name, branches(linux_kit.built(f"cover/fuzz_{name}"), str(tmp_path), least))
     if request.config.getoption("--keep"):
         keep(name, least)

@@ -2,22 +2,28 @@
 
 import os
 
+import linux_kit
 import pytest
 from delays import delay_beside
-from tenants import Guest, Lender, process_of
+from host_places import Cgroup, Mount, cgroups
+from tenants import FREE, Guest, Lender, process_of
+from test_strict import STRICT
 from vhost_client import Client
 
+PROGRAMS = ("plain/vhost_user_host", "checked/vhost_user_host", "simulated/vhost_user_host", "simulated-wrong/vhost_user_host", "loop/vhost_user_host",
+            "cut/vhost_user_balloon", "plain/vhost_user_chance", "plain/sandbox_calls", "libvb.so")
+
 
 @pytest.fixture(scope="session")
-def plain(programs):
+def plain():
     """The lender's program as it is installed, beside that of its guests; or one that the environment names."""
-    return os.environ.get("HOST_PROGRAM") or programs("vhost_user_host", flags=())
+    return os.environ.get("HOST_PROGRAM") or linux_kit.built("plain/vhost_user_host")
 
 
 @pytest.fixture(scope="session")
-def checked(programs):
+def checked():
     """The same with the compiler's checks, and without a sandbox."""
-    return programs("vhost_user_host")
+    return linux_kit.built("checked/vhost_user_host")
 
 
 @pytest.fixture
@@ -62,3 +68,29 @@ def beside(lend):
     client.start()
     yield lender, lambda act: delay_beside(act, client, process_of(lender, "worker"))
     client.leave()
+
+
+@pytest.fixture(params=["tmpfs", "cgroup"])
+def limits(request, tmp_path):
+    """Makes limits of one kind, which are gone at the end."""
+    made = []
+    if request.param == "cgroup" and not cgroups():
+        pytest.skip("this machine has no cgroups of memory")
+
+    def make(name):
+        made.append(Mount(f"{tmp_path}/{name}") if request.param == "tmpfs" else Cgroup(name))
+        return made[-1]
+
+    yield make
+    for it in made:
+        it.end()
+
+
+@pytest.fixture
+def one(lend, come, limits):
+    """A host with 256 frames, a guest that has a limit, and one that has none."""
+    lender, its = lend(1, *STRICT), limits("a")
+    guest = come(lender, "a", {FREE: 100}, f"overhead=0 limit={its.term}")
+    other = come(lender, "b", {FREE: 100})
+    lender.become("a", limit=128)
+    return lender, guest, other, its

@@ -10,7 +10,8 @@ import select
 import time
 
 from aside import Aside
-from vhost_client import INFLATE, LIMIT, PAGE, REGIONS
+from vhost_client import INFLATE, PAGE, REGIONS
+from waiting import PATIENCE
 
 # Milliseconds by which a host may delay a round, seconds of rounds, and rounds before them, in which what they take is loaded.
 MOST_DELAY, SECONDS, FIRST_ROUNDS = 5, 3, 20
@@ -63,11 +64,11 @@ def longest_delay(client, process, seconds, ended, begins):
     with one_processor(process), open(f"/proc/{process}/schedstat", "rb") as its, open("/proc/thread-self/schedstat", "rb") as own:
         files, longest = (its.fileno(), own.fileno()), 0.0
         for _ in range(FIRST_ROUNDS):
-            delay_of(client, files, LIMIT)
+            delay_of(client, files, PATIENCE)
         end = seconds and time.monotonic() + seconds
         begins()
         while time.monotonic() < end if end else not select.select([ended], [], [], 0)[0]:
-            longest = max(longest, delay_of(client, files, LIMIT))
+            longest = max(longest, delay_of(client, files, PATIENCE))
     return longest, client.available[INFLATE]
 
 

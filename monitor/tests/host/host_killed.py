@@ -9,7 +9,7 @@ import time
 from collections import Counter
 
 import linux_host
-from host_checks import eventually, finish, names, pages_moved
+from host_checks import eventually, finish, pages_moved
 from host_strict import BUDGET, DAY, LEFT, MEMORY, look, outside
 from linux_kit import demand
 

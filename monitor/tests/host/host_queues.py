@@ -9,8 +9,9 @@ import time
 from host_checks import eventually
 from host_seats import becomes
 from host_small import PAGES, Talker
-from linux_kit import demand
-from vhost_client import ADD_MEM_REG, BUFFERS, DEFLATE, INFLATE, LIMIT, NO_FILE, OFFERED, PAGE, REGIONS, REPORT, SET_VRING_KICK, WRITE, Client
+from linux_kit import built, demand
+from vhost_client import ADD_MEM_REG, BUFFERS, DEFLATE, INFLATE, NO_FILE, OFFERED, PAGE, REGIONS, REPORT, SET_VRING_KICK, WRITE, Client
+from waiting import PATIENCE
 
 MOST_CHAINS = 256
 
@@ -165,9 +166,9 @@ def longest_path(bench):
     with tempfile.TemporaryDirectory() as folder:
         deep = os.path.join(folder, (99 - len(folder)) * "x")
         os.mkdir(deep)
-        words = [bench.programs["checked"], deep, "--budget", "5", "--control", f"{folder}/.control", "--status", f"{folder}/.status"]
+        words = [built("checked/vhost_user_host"), deep, "--budget", "5", "--control", f"{folder}/.control", "--status", f"{folder}/.status"]
         ran = subprocess.run(words, input="add fives\nadd sixsix\nquit\n", capture_output=True,
-                             text=True, timeout=LIMIT)
+                             text=True, timeout=PATIENCE)
     said = f"ready\nlistening {deep}/fives\nerror: sixsix: File name too long\n"
     demand((ran.returncode, ran.stdout, len(deep)) == (0, said, 100), f"paths of 106 and 107 bytes: {ran}")
 

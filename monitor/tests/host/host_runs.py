@@ -281,7 +281,6 @@ class Bench:
         self.folder, self.count, self.wrong = folder, 0, None
         self.vmm = vmm_of(vmm, folder)
         self.vmm.demand_room(4 * MEMORY)
-        self.programs = linux_host.Programs(folder, linux_kit.core_of())
 
     def crowd(self, count, budget):
         """Returns the names of `count` guests, and their budget; those of a pair, where the VMM has no more at a time."""
@@ -290,6 +289,7 @@ class Bench:
     def town(self, budget, options=(), checked=False, uncounted=False, kind=linux_host.Town):
         """Returns a host without guests: with the compiler's checks, or one that ends where it counts a guest's whole set; a town of this kind."""
         self.count += 1
-        program = self.programs["wrong" if self.wrong else "checked" if checked else "uncounted" if uncounted else "plain"]
+        of = "wrong-plain" if self.wrong else "checked" if checked else "uncounted" if uncounted else "plain"
+        program = linux_kit.built(f"{of}/vhost_user_host")
         options = ("--step", "0", *options)
         return kind(self.vmm, program, f"{self.folder}/{self.count}", budget, options, {"HOST_WRONG": self.wrong or "0"})

@@ -10,8 +10,8 @@ import time
 from host_checks import check_decisions, eventually
 from linux_guest import PAGES_PER_MIB
 from linux_host import pairs
-from linux_kit import demand
-from vhost_client import BUFFERS, DEFLATE, INFLATE, LIMIT, NO_LINES, NO_NUMBERS, PAGE, REGIONS, STATISTICS, Client
+from linux_kit import built, demand
+from vhost_client import BUFFERS, DEFLATE, INFLATE, NO_LINES, NO_NUMBERS, PAGE, REGIONS, STATISTICS, Client
 
 FREE_MEMORY = 4
 
@@ -34,6 +34,7 @@ LINES = (
     (600 * "x", "error"), ("floor 0", "ok"),
     *((f"{word} {it}", "error: a number of MiB") for word in ("budget", "floor") for it in (*NO_NUMBERS, "16777216")),
 )
+from waiting import PATIENCE, patience_from_now
 
 
 class Talker(Client):
@@ -56,7 +57,7 @@ class Talker(Client):
     def tell_again(self, town):
         """Answers a question that is asked by a line."""
         demand(town.host.ask(f"{self.name} ask") == "asked", f"{self.name} isn't asked")
-        end = time.monotonic() + LIMIT
+        end = patience_from_now()
         while self.told() != STATISTICS:
             demand(time.monotonic() < end, f"{self.name} isn't told that it is asked")
         self.tell()
@@ -64,7 +65,7 @@ class Talker(Client):
     def answer(self):
         """Answers a question, if there is one."""
         while select.select([self.own], [], [], 0)[0]:
-            if self.told(LIMIT) == STATISTICS:
+            if self.told(PATIENCE) == STATISTICS:
                 self.tell()
 
 
@@ -96,7 +97,7 @@ def decisions_are_kept(town):
 def lines_run(bench):
     """Command lines, and lines of the control pipe."""
     for words in COMMANDS:
-        ran = subprocess.run([bench.programs["checked"], *words], stdin=subprocess.DEVNULL, capture_output=True, timeout=LIMIT)
+        ran = subprocess.run([built("checked/vhost_user_host"), *words], stdin=subprocess.DEVNULL, capture_output=True, timeout=PATIENCE)
         demand((ran.returncode, ran.stdout) == (2, b""), f"{words}: status {ran.returncode}, {ran.stdout}")
     with bench.town(5, checked=True) as town:
         for line, answer in LINES:

@@ -4,7 +4,7 @@ asked for and gave grants the same, within the time between two looks."""
 from host_checks import eventually, finish, pages_moved
 from linux_guest import PAGES_PER_MIB
 from linux_host import LEFT
-from linux_kit import Missing, build_shared, core_of, demand
+from linux_kit import Missing, built, demand
 from recording import Recorder
 
 MEMORY, BUDGET, DAY = 256, 560, 40
@@ -31,7 +31,7 @@ def compare(bench, recorder):
         raise Missing("the replay wants numpy and pandas: apt-get install python3-pandas") from None
     path = f"{bench.folder}/day.json"
     recorder.write(path)
-    found = checking.check(library.load(build_shared(bench.folder, core_of())), lending.read_lending(path))
+    found = checking.check(library.load(built("libvb.so")), lending.read_lending(path))
     demand(found.agrees(), "\n".join(checking.lines(found)))
     return max(it.apart() for it in found.courses) * found.look
 

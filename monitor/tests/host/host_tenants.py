@@ -18,8 +18,9 @@ from host_small import PAGES, Talker, targets_of
 from linux_guest import PAGES_PER_MIB
 from linux_kit import demand
 from vhost_client import (
-    ADD_MEM_REG, DEFLATE, INFLATE, LIMIT, OFFERED, PAGE, PAGES_OF_REGION, REGIONS, REM_MEM_REG, Client,
+    ADD_MEM_REG, DEFLATE, INFLATE, OFFERED, PAGE, PAGES_OF_REGION, REGIONS, REM_MEM_REG, Client,
 )
+from waiting import PATIENCE, patience_from_now
 
 # The pages of each region, and where memory may end at most.
 OF_REGION = [range(guest // PAGE, guest // PAGE + PAGES_OF_REGION) for guest, _ in REGIONS]
@@ -32,7 +33,7 @@ def served(client, number, pages):
     client.write(buffer, struct.pack(f"<{len(pages)}I", *pages))
     client.describe(number, 0, buffer, 4 * len(pages))
     client.publish(number, 0), client.kick(number)
-    end = time.monotonic() + LIMIT
+    end = patience_from_now()
     while client.told() != number:
         demand(time.monotonic() < end, "a request isn't served")
 
@@ -229,21 +230,21 @@ def lines_of_a_client(town):
 
 def ends_by_signals(bench):
     """A signal ends a host, which removes its sockets; and it answers --help and --version."""
-    program = bench.programs["checked"]
+    program = linux_kit.built("checked/vhost_user_host")
     for number in (signal.SIGTERM, signal.SIGINT, signal.SIGHUP):
         with tempfile.TemporaryDirectory() as folder:
             host = linux_host.Host(program, folder, 5)
             host.add("a"), host.add("b")
             host.process.send_signal(number)
-            left = (host.process.wait(LIMIT), os.listdir(folder))
+            left = (host.process.wait(PATIENCE), os.listdir(folder))
             demand(left == (0, ["backend.log"]), f"after signal {number} there are {left}")
             host.process.stdin.close(), host.process.stdout.close()
     for word, said in (("--help", "vhost_user_host FOLDER --budget MIB"), ("--version", "vhost_user_host ")):
-        ran = subprocess.run([program, word], stdin=subprocess.DEVNULL, capture_output=True, text=True, timeout=LIMIT)
+        ran = subprocess.run([program, word], stdin=subprocess.DEVNULL, capture_output=True, text=True, timeout=PATIENCE)
         demand((ran.returncode, ran.stderr, ran.stdout[: len(said)]) == (0, "", said), f"{word} is answered {ran}")
     with tempfile.TemporaryDirectory() as folder:
         words = ["sh", "-c", 'ulimit -n 50; exec "$0" "$@"', program, folder, "--budget", "5"]
-        ran = subprocess.run(words, input="quit\n", capture_output=True, text=True, timeout=LIMIT)
+        ran = subprocess.run(words, input="quit\n", capture_output=True, text=True, timeout=PATIENCE)
         demand("files may be wanted, and 50 may be open (RLIMIT_NOFILE)\n" in ran.stderr, f"50 files are few for 64 guests: {ran}")
 
 

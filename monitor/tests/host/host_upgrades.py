@@ -1,7 +1,6 @@
 """A strict day of a host that is upgraded again and again: by `bigvasta upgrade` the lender and its guests' processes become the programs that are
 installed now, whose version is another each time. Linux and its VMM notice nothing."""
 
-import os
 import time
 
 from host_checks import finish, pages_moved
@@ -18,8 +17,7 @@ class Upgraded(Town):
     """All guests of a host of which one version is installed after the other."""
 
     def __init__(self, vmm, program, folder, *words):
-        os.makedirs(f"{folder}/older")
-        self.programs = {version(): program, OLDER: older_program(f"{folder}/older")}
+        self.programs = {version(): program, OLDER: older_program()}
         self.installed, self.upgrades = f"{folder}/installed", 0
         super().__init__(vmm, install(self.programs[OLDER], self.installed), folder, *words)
 

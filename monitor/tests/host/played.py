@@ -6,12 +6,13 @@ import signal
 import socket
 import threading
 
+from aside import keep_alone
 from tenants import eventually
 
 PAGES_PER_KIB = 4
 
 # What a lender and a process say to each other (monitor/backends/host/message.h), which stays from version to version.
-VERSION, ORDER_LOOK, ORDER_TARGET, ORDER_GRANT, TELL_REPORT, WAIT_ROOM = 1, 1, 3, 7, 9, 1
+VERSION, ORDER_LOOK, ORDER_TARGET, ORDER_GRANT, ORDER_LEAVE, TELL_REPORT, WAIT_ROOM = 1, 1, 3, 7, 8, 9, 1
 COUNTERS, FIGURES, WORDS = 19, 16, 256
 NUMBERS = (
     "pages", "wanted", "wait", "holds", "held_pages", "held_wait", "waits", "target", "actual", "ballooned", "status", "ready", "obeyed", "asked",
@@ -34,42 +35,69 @@ class Message(ctypes.Structure):
     ]
 
 
-class Played(threading.Thread):
-    """The process of a strict guest, which an earlier lender might have started; these numbers are in its first report. Its reports have a target once
-    it has heard that, where `hears` says so."""
+class Listens:
+    """The socket where a lender finds a guest's process. Another process listens there, of this user: that is the one which the lender knows."""
 
-    def __init__(self, lender, name, hears=False, **its):
-        super().__init__(daemon=True)
-        self.hears = hears
-        self.lender, self.name_of, self.its = lender, name, {"holds": 1, "ready": 1, **its}
-        self.granted, self.lock = 0, threading.Lock()
-        with socket.socket(socket.AF_UNIX, socket.SOCK_SEQPACKET) as listener:
-            listener.bind(f"{lender.folder}/+{name}")
-            self.listens(listener)
-            lender.demand(f"add {name} strict=1")
-            self.channel, _ = listener.accept()
-        self.start()
-        self.report()
-        lender.become(name, pages=its.get("pages", 0))
-
-    def listens(self, listener):
-        """Another process listens: that is the one which the lender knows."""
+    def __init__(self, folder, name, user=None):
+        self.socket = socket.socket(socket.AF_UNIX, socket.SOCK_SEQPACKET)
+        os.makedirs(f"{folder}/.channels", 0o700, exist_ok=True)
+        self.socket.bind(f"{folder}/.channels/{name}")
         reads, writes = os.pipe()
         self.child = os.fork()
         if self.child == 0:
-            listener.listen()
+            self.listen(writes, user)
+        os.close(writes)
+        assert os.read(reads, 1) == b"!", "nobody listens"
+        os.close(reads)
+
+    def listen(self, writes, user):
+        """Listens as this user, says so, and waits."""
+        try:
+            keep_alone({0, 1, 2, writes, self.socket.fileno()})
+            if user is not None:
+                os.setresuid(user, user, user)
+            self.socket.listen()
             os.write(writes, b"!")
             signal.pause()
-            os._exit(0)
-        os.read(reads, 1)
-        os.close(reads), os.close(writes)
+        finally:
+            os._exit(1)
+
+    def accept(self):
+        """Returns the lender's end."""
+        channel, _ = self.socket.accept()
+        self.socket.close()
+        return channel
+
+    def end(self):
+        """Ends the process that listens."""
+        os.kill(self.child, signal.SIGKILL)
+        os.waitpid(self.child, 0)
+
+
+class Played(threading.Thread):
+    """The process of a strict guest, which an earlier lender might have started; these numbers are in its first report. Its reports have a target once
+    it has heard that, where `hears` says so. It `listens` already where its lender finds it as that begins."""
+
+    def __init__(self, lender, name, hears=False, listens=None, **its):
+        super().__init__(daemon=True)
+        self.hears = hears
+        self.lender, self.name_of, self.its = lender, name, {"holds": 1, "ready": 1, **its}
+        self.granted, self.told_to_leave, self.lock = 0, 0, threading.Lock()
+        self.listens = listens or Listens(lender.folder, name)
+        if not listens:
+            lender.demand(f"add {name} strict=1")
+        self.channel = self.listens.accept()
+        self.start()
+        self.report()
+        if "pages" in its:
+            lender.become(name, pages=its["pages"])
 
     def report(self, number=0, **changed):
         """Reports, with what has changed."""
         with self.lock:
             self.its |= changed
             held = self.its.get("pages", 0) - self.its.get("ballooned", 0)
-            message = Message(version=VERSION, kind=TELL_REPORT, number=number, held_kib=held * PAGES_PER_KIB, **self.its)
+            message = Message(version=VERSION, kind=TELL_REPORT, number=number, **{"held_kib": held * PAGES_PER_KIB, **self.its})
             self.channel.send(bytes(message))
 
     def run(self):
@@ -83,6 +111,7 @@ class Played(threading.Thread):
                     self.report(target=order.target)
                 if order.kind == ORDER_GRANT:
                     self.granted = order.wait
+                self.told_to_leave += order.kind == ORDER_LEAVE
         except OSError:
             pass
 
@@ -101,8 +130,7 @@ class Played(threading.Thread):
 
     def leave(self):
         """Ends."""
-        os.kill(self.child, signal.SIGKILL)
-        os.waitpid(self.child, 0)
+        self.listens.end()
         self.channel.shutdown(socket.SHUT_RDWR)
         self.join()
         self.channel.close()

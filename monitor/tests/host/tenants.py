@@ -1,5 +1,6 @@
 """A lender for tests, and guests that answer it: clients of 128 pages, which tell what they are set to."""
 
+import contextlib
 import os
 import select
 import signal
@@ -7,8 +8,8 @@ import struct
 import threading
 
 import linux_host
-from vhost_client import BUFFERS, DEFLATE, INFLATE, LIMIT, PAGE, REGIONS, STATISTICS, Client
-from waiting import eventually
+from vhost_client import BUFFERS, DEFLATE, INFLATE, PAGE, REGIONS, STATISTICS, Client
+from waiting import PATIENCE, eventually
 
 # Tags of statistics (VIRTIO 1.1, 5.5.6.3), and the first pages of a client's regions: the first region has its rings.
 FREE, AVAILABLE = 4, 6
@@ -79,7 +80,7 @@ class Guest(threading.Thread):
                 while select.select([self.client.own], [], [], 0)[0]:
                     with self.lock:
                         # Another process that goes on may tell of what was used long ago.
-                        if self.client.told(LIMIT) == STATISTICS and self.answers and self.client.is_all_used(STATISTICS):
+                        if self.client.told(PATIENCE) == STATISTICS and self.answers and self.client.is_all_used(STATISTICS):
                             self.tell()
         except (OSError, TypeError, AssertionError, ValueError):
             pass
@@ -101,6 +102,20 @@ class Guest(threading.Thread):
 def process_of(lender, name):
     """Returns the number of a guest's process."""
     return eventually(lambda: lender.guests()[name]["process"])
+
+
+def writer_of(lender, name):
+    """Returns the process that writes a guest's limit, by its words."""
+    wanted = f"vhost_user_host\0--write-limits\0{lender.folder}/{name}\0".encode()
+
+    def found():
+        for number in filter(str.isdigit, os.listdir("/proc")):
+            with contextlib.suppress(OSError), open(f"/proc/{number}/cmdline", "rb") as words:
+                if words.read() == wanted:
+                    return int(number)
+        return None
+
+    return eventually(found, f"nobody writes the limit of {name}")
 
 
 def status_of(process):

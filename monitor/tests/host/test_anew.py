@@ -11,7 +11,7 @@ import linux_kit
 import pytest
 from tenants import FREE, PAGES, PAGES_OF_ALL, eventually, process_of
 from vhost_client import (
-    BUFFERS, DEFLATE, GET_CONFIG, INFLATE, PAGE, SET_CONFIG, SET_VRING_BASE, SIZE, STATISTICS, Client,
+    BUFFERS, DEFLATE, GET_CONFIG, INFLATE, PAGE, SET_CONFIG, SET_STATUS, SET_VRING_BASE, SIZE, STATISTICS, Client,
 )
 
 WIDE = ("--floor", "0", "--period", "100", "--step", "0")
@@ -26,9 +26,9 @@ GIVEN = [*range(PAGES_OF_ALL + 28, PAGES_OF_ALL + 64), *range(PAGES, PAGES + 64)
 
 
 @pytest.fixture(scope="session")
-def cutting(tmp_path_factory):
+def cutting():
     """The program of a guest's process that is cut off in one place (cut_lent.c)."""
-    return linux_kit.build(str(tmp_path_factory.mktemp("cut")), linux_kit.core_of(), wrong="cut")
+    return linux_kit.built("cut/vhost_user_balloon")
 
 
 def is_told(client, number):
@@ -128,6 +128,34 @@ def test_a_process_that_is_cut_off_anywhere(lend, cutting, way, strict, each):
     assert place and place > LEAST_CUTS, f"{place} places"
 
 
+# How a client stops all queues: Linux disables them, QEMU asks where each goes on, and before that tells of a reset.
+STOPS = {
+    "disabled": lambda client: [client.enable(number, 0) for number in range(4)],
+    "asked": lambda client: [client.stop_ring(number) for number in range(4)],
+    "reset": lambda client: client.accepted(SET_STATUS, struct.pack("<Q", 0)),
+}
+
+
+@pytest.mark.timeout(900)
+@pytest.mark.parametrize("way", STOPS)
+def test_a_process_that_is_cut_off_as_a_driver_stops(lend, cutting, way):
+    """The next driver has none of the pages in its balloon that this one had."""
+    lender = lend(64, *WIDE, "--lines", "10000", "--program", cutting)
+    for place in range(1, MOST_CUTS, 2):
+        name = f"cut-{place}"
+        client = Client(lender.add(name), lambda: lender.said()[-4:])
+        client.start_by_events()
+        serve(client, INFLATE, [[PAGES, PAGES + 1]])
+        STOPS[way](client)
+        client.go_on()
+        lender.become(name, ready=1, ballooned=0)
+        client.leave()
+        lender.demand(f"remove {name}")
+        if not any(it.startswith(f"{name}: its process has ended by signal") for it in lender.said()):
+            break
+    assert place > LEAST_CUTS
+
+
 class Worked:
     """Pages of a guest with bytes of their own, of which some are in its balloon."""
 
@@ -195,7 +223,7 @@ def test_a_process_that_ends_again_and_again_is_not_started_anew(lend, cutting):
     client = Client(lender.add("cut-always"), lambda: "")
     assert client.socket.recv(1) == b""
     lender.become("cut-always", here=0)
-    assert lender.said()[-2:] == ["cut-always: its process has ended by signal 4", "gone cut-always"]
+    assert lender.said()[-2:] == ["cut-always: its process has ended by signal 6", "gone cut-always"]
 
 
 WRONG = ("index-0", "no-set", "answers-twice", "lost-bytes", "lost-files", "old-state", "new-number", "ungranted", "handles-twice", "no-call")
@@ -205,7 +233,8 @@ WRONG = ("index-0", "no-set", "answers-twice", "lost-bytes", "lost-files", "old-
 @pytest.mark.parametrize("wrong", [pytest.param(it, marks=pytest.mark.wrong(it)) for it in WRONG])
 def test_a_process_that_goes_on_wrongly_is_found(lend, cutting, wrong, monkeypatch):
     monkeypatch.setenv("ANEW_WRONG", wrong)
-    monkeypatch.setattr("vhost_client.LIMIT", 2), monkeypatch.setattr("tenants.LIMIT", 2)
+    for it in ("vhost_client", "tenants", "waiting"):
+        monkeypatch.setattr(f"{it}.PATIENCE", 2)
     lender = lend(64, *WIDE, "--strict", "--lines", "10000", "--program", cutting)
     with pytest.raises((AssertionError, OSError, struct.error, TypeError)) as found:
         for way in BEGINS:

@@ -11,8 +11,7 @@ import pytest
 from charged_guest import GIVEN
 from host_places import SECOND, Cgroup, cgroups
 from linux_guest import Lines
-from tenants import LIMIT, eventually, go_on, stop
-from test_limits import writer_of
+from tenants import eventually, go_on, stop, writer_of
 from test_strict import STRICT, lent, waits_of
 
 # MiB of the budget, of a guest, and beside its loan: less than a guest has in its balloon, and more than its process has itself.
@@ -23,6 +22,7 @@ ALL = GUEST * PAGES_PER_MIB
 pytestmark = pytest.mark.skipif(
     os.geteuid() != 0 or cgroups() != SECOND, reason="this machine has no cgroups of memory of the second version: tools/test machine boots one"
 )
+from waiting import PATIENCE, patience_from_now
 
 
 class Charged:
@@ -39,7 +39,7 @@ class Charged:
 
     def answer(self):
         """Returns its next answer."""
-        return self.lines.next(time.monotonic() + LIMIT)
+        return self.lines.next(patience_from_now())
 
     def begin(self, line):
         """Has it begin what a line says."""
@@ -168,7 +168,7 @@ def test_who_takes_pages_unasked_hits_its_own_limit(seats):
         it.follows(ALL - GIVEN)
     most = a.its.pages()
     a.guest.begin(f"write 0 {GIVEN}")
-    assert a.guest.process.wait(LIMIT) == -9
+    assert a.guest.process.wait(PATIENCE) == -9
     assert (a.kills(), a.its.pages()) == ("1", most)
     lender.become("a", here=0, lent=0)
     assert "gone a" in lender.said()
@@ -186,7 +186,7 @@ def test_an_overhead_below_what_is_in_use_costs_its_own_process(seats):
     """The kernel makes room in this cgroup for the limit that was written."""
     lender, a, b = seats
     lender.demand("terms a overhead=0")
-    assert a.guest.process.wait(LIMIT) == -9
+    assert a.guest.process.wait(PATIENCE) == -9
     lender.become("a", here=0, lent=0)
     assert (a.its.pages(), "gone a" in lender.said()) == (ALL, True)
     b.is_well()

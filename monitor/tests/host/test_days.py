@@ -6,10 +6,14 @@ import os
 import subprocess
 from typing import NamedTuple
 
+import linux_kit
 import pytest
 
-# How many days of each kind, and the seconds of each, of its time and of a real one at most.
+# How many days of each kind, and the seconds of each, of its time and of a processor's at most.
 DAYS, SECONDS, LIMIT = int(os.environ.get("DAYS", "10")), 600, 60
+
+# A day ends by its processor's time.
+pytestmark = pytest.mark.timeout(0)
 
 
 class Day(NamedTuple):
@@ -41,10 +45,10 @@ KINDS = {
 def live(program, folder, number, day):
     """Returns the status of a day, and its numbers by their names."""
     numbers = {"DAY": number, "SECONDS": SECONDS, "FOLDER": folder, **{name.upper(): it for name, it in day._asdict().items()}}
-    # Other tests measure delays.
-    words = ["nice", "-n", "19", program, folder, "--budget", str(day.budget), "--strict", "--program", "/bin/true"]
+    # Other tests measure delays, so that days may wait long for a processor.
+    words = ["prlimit", f"--cpu={LIMIT}", "nice", "-n", "5", program, folder, "--budget", str(day.budget), "--strict", "--program", "/bin/true"]
     ran = subprocess.run(
-        words, env=os.environ | {name: str(it) for name, it in numbers.items()}, stdin=subprocess.DEVNULL, capture_output=True, text=True, timeout=LIMIT,
+        words, env=os.environ | {name: str(it) for name, it in numbers.items()}, stdin=subprocess.DEVNULL, capture_output=True, text=True,
     )
     return ran.returncode, ran.stdout.replace("ready\n", "")
 
@@ -60,8 +64,8 @@ WRONG = {"11": "waits for a deflate", "12": "waits for a deflate", "13": "have m
 
 
 @pytest.fixture(scope="session")
-def host(programs):
-    return programs("vhost_user_host", simulated=True, flags=())
+def host():
+    return linux_kit.built("simulated/vhost_user_host")
 
 
 @pytest.mark.parametrize("kind", KINDS)
@@ -87,9 +91,9 @@ def test_a_day_of_one_number_is_always_the_same(host, tmp_path_factory):
 
 
 @pytest.mark.parametrize("number", [pytest.param(it, marks=pytest.mark.wrong(it)) for it in WRONG])
-def test_a_wrong_host_is_found(programs, number, tmp_path_factory, monkeypatch):
+def test_a_wrong_host_is_found(number, tmp_path_factory, monkeypatch):
     monkeypatch.setenv("HOST_WRONG", number)
-    host = programs("vhost_user_host", simulated=True, wrong=True, flags=())
+    host = linux_kit.built("simulated-wrong/vhost_user_host")
     status, said = live(host, str(tmp_path_factory.mktemp("d")), 1, KINDS["shift"][0])
     print(f"wrong host {number}: {said.splitlines()[0]}")
     assert status == 1 and WRONG[number] in said, said

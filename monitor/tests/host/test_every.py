@@ -13,11 +13,12 @@ from delays import MOST_DELAY, delay_beside
 from tenants import process_of
 from vhost_client import (
     ADD_MEM_REG, Client, FEATURES, GET_CONFIG, GET_FEATURES, GET_MAX_MEM_SLOTS, GET_PROTOCOL_FEATURES, GET_QUEUE_NUM,
-    GET_STATUS, GET_VRING_BASE, HAS_PROTOCOL, INFLATE, LIMIT, OFFERED, PAGE, PAGES_OF_REGION, REGIONS, REM_MEM_REG,
+    GET_STATUS, GET_VRING_BASE, HAS_PROTOCOL, INFLATE, OFFERED, PAGE, PAGES_OF_REGION, REGIONS, REM_MEM_REG,
     RESET_DEVICE, RESET_OWNER, SET_BACKEND_REQ_FD, SET_CONFIG, SET_FEATURES, SET_MEM_TABLE, SET_OWNER, SET_PROTOCOL_FEATURES,
     SET_STATUS, SET_VRING_ADDR, SET_VRING_BASE, SET_VRING_CALL, SET_VRING_ENABLE, SET_VRING_ERR, SET_VRING_KICK, SET_VRING_NUM,
     VRING_KICK,
 )
+from waiting import patience_from_now
 
 # Messages at random, and the seats whose clients send them.
 MESSAGES, SEATS = int(os.environ.get("MESSAGES", 10**6)), 8
@@ -104,7 +105,7 @@ class Seats:
 
     def wait_for(self, gone):
         """Waits until clients have gone, without a rest."""
-        end = time.monotonic() + LIMIT
+        end = patience_from_now()
         while not gone(self.host.guests()):
             assert time.monotonic() < end, "a client doesn't go"
 
@@ -121,7 +122,7 @@ class Seats:
     def serves(self):
         """Demands that the client that is well is served."""
         self.well.post_pages(INFLATE, [REGIONS[1][0] // PAGE])
-        end = time.monotonic() + LIMIT
+        end = patience_from_now()
         while self.well.told() != INFLATE:  # the host reminds it of its target
             assert time.monotonic() < end, "the client that is well isn't served"
 
@@ -161,9 +162,9 @@ class Seats:
 
 
 @pytest.fixture(scope="module")
-def all_seats(programs, tmp_path_factory):
+def all_seats(tmp_path_factory):
     """One host for all of these tests; it has to end well."""
-    seats = Seats(programs("vhost_user_host"), str(tmp_path_factory.mktemp("every")))
+    seats = Seats(linux_kit.built("checked/vhost_user_host"), str(tmp_path_factory.mktemp("every")))
     yield seats
     assert seats.close() == (0, [])
 
@@ -174,7 +175,7 @@ def seats(all_seats):
     before = all_seats.held()
     yield all_seats
     all_seats.serves()
-    end = time.monotonic() + LIMIT
+    end = patience_from_now()
     while all_seats.held() > before:  # its process ends after its client; that of the test before may end only now
         assert time.monotonic() < end, f"the host has {all_seats.held()} files open, and had {before}"
         time.sleep(0.01)
@@ -234,10 +235,7 @@ def test_each_message_before_and_after_each_other(seats, first):
 
 @pytest.mark.timeout(900)
 def test_a_million_random_messages(seats):
-    program = os.path.join(seats.folder, "chance")
-    source = os.path.join(linux_kit.MONITOR, "tests/vhost_user_chance.c")
-    words = [linux_kit.need("cc", "gcc libc6-dev"), *linux_kit.FLAGS, "-I", linux_kit.SHIM, "-o", program, source]
-    subprocess.run(words, check=True)
+    program = linux_kit.built("plain/vhost_user_chance")
     seats.chance(program, MESSAGES // 10, 1)
     before, said = seats.memory(), []
     send = lambda rounds: said.append(seats.chance(program, MESSAGES, 2))

@@ -13,10 +13,11 @@ import pytest
 from aside import Aside
 from bigvasta.connection import Connection
 from delays import MOST_DELAY, delay_beside
-from tenants import LIMIT, eventually, process_of
+from tenants import eventually, process_of
 from vhost_client import (
     ADD_MEM_REG, BUFFERS, GET_FEATURES, INFLATE, OFFERED, PAGE, REGIONS, REM_MEM_REG, SET_MEM_TABLE, SET_VRING_KICK, Client,
 )
+from waiting import PATIENCE
 
 # What a process sends to the lender (message.h): the number of a report, and where a message has its kind and the guest's pages.
 TELL_REPORT, KIND_AT, PAGES_AT = 9, 4, 48
@@ -163,7 +164,7 @@ def test_a_queue_of_the_longest_requests(beside):
             client.write(available + 2, struct.pack("<H", index))
             client.kick(INFLATE)
             while client.read(used + 2, 2) != struct.pack("<H", index) or select.select([client.own], [], [], 0)[0]:
-                client.told(LIMIT)
+                client.told(PATIENCE)
 
     assert rounds(act) < MOST_DELAY
     client.leave()
@@ -190,7 +191,7 @@ def test_a_client_that_comes_again_and_again(beside):
     def act(ended):
         while not ended.is_set():
             client = socket.socket(socket.AF_UNIX, socket.SOCK_STREAM)
-            client.settimeout(LIMIT)
+            client.settimeout(PATIENCE)
             try:
                 client.connect(path)
                 client.send(struct.pack("<III", 99, 1, 0))
@@ -214,7 +215,7 @@ def unread(plain, tmp_path):
     eventually(lambda: select.select([reads], [], [], 0)[0])
     yield host, str(tmp_path), reads
     host.terminate()
-    assert host.wait(LIMIT) == 0
+    assert host.wait(PATIENCE) == 0
     host.stdin.close(), os.close(reads)
 
 
@@ -238,7 +239,7 @@ def test_words_and_answers_that_nobody_reads(unread):
     # All answers come as they are read, whole and in order.
     got = b""
     while got.count(b"\n") < 61 + 50 * 61:
-        assert select.select([reads], [], [], LIMIT)[0], got[-200:]
+        assert select.select([reads], [], [], PATIENCE)[0], got[-200:]
         got += os.read(reads, 1 << 16)
     found = [it for it in got.split(b"\n") if it.startswith((b"ready", b"listening", b"guests ", b"g"))]
     assert [it.split()[0] for it in found if not it.startswith(b"gone")][:62] == [b"ready"] + [b"listening"] * 60 + [b"guests"]
@@ -256,7 +257,7 @@ def flood(path, seconds, begins):
     report[KIND_AT] = TELL_REPORT
     channel.setblocking(False)
     while time.monotonic() < begin + seconds:
-        report[PAGES_AT] = sent % 256
+        struct.pack_into("<I", report, PAGES_AT, MOST_SET // PAGE - sent)
         try:
             channel.send(report)
             sent += 1
@@ -269,7 +270,7 @@ def flood(path, seconds, begins):
 def test_a_process_that_sends_more_than_it_may(lend):
     # The lender reads 40 messages of it in 50 ms.
     lender = lend(64, "--floor", "0")
-    process = Aside(lambda begins: flood(f"{lender.folder}/+bad", 2, begins))
+    process = Aside(lambda begins: flood(f"{lender.folder}/.channels/bad", 2, begins))
     lender.demand("add bad")
     room, sent, seconds = process.numbers()
     assert room < sent <= room + 40 * (seconds / 0.05 + 2)

@@ -8,10 +8,11 @@ import sys
 
 import pytest
 from delays import MOST_DELAY
-from tenants import LIMIT, process_of, status_of
+from tenants import process_of, status_of
 from vhost_client import (
     ADD_MEM_REG, GET_FEATURES, OFFERED, SET_BACKEND_REQ_FD, SET_MEM_TABLE, SET_VRING_CALL, SET_VRING_KICK, Client,
 )
+from waiting import PATIENCE
 
 SIZE, USER = 1 << 20, 1 << 40
 
@@ -50,7 +51,7 @@ class Mounted:
         self.release()
         subprocess.run(["umount", "--lazy", self.folder], check=True)
         self.process.terminate()
-        self.process.wait(LIMIT)
+        self.process.wait(PATIENCE)
         self.process.stdout.close(), self.process.stderr.close()
 
 

@@ -8,6 +8,7 @@ import pytest
 from bigvasta.connection import Connection
 from tenants import FREE, PAGES, PAGES_OF_ALL, eventually, go_on, has_ended, process_of, stop
 from vhost_client import DEFLATE, PAGE, Client
+from waiting import PATIENCE
 
 QUICK = ("--floor", "0", "--period", "100", "--step", "0")
 
@@ -18,7 +19,7 @@ TOLD_IN = 4
 def leave(lender):
     """A lender says that it goes."""
     lender.process.stdin.write(b"leave\n"), lender.process.stdin.flush()
-    assert lender.process.wait(10) == 0
+    assert lender.process.wait(PATIENCE) == 0
     lender.process.stdin.close(), lender.process.stdout.close()
 
 
@@ -29,7 +30,7 @@ WAYS = (leave, lambda lender: lender.kill())
 def test_the_next_lender_goes_on_with_the_guests(lend, come, end):
     first = lend(1, *QUICK)
     a = come(first, "a", {FREE: 100}, "priority=2 least=0 most=3")
-    b = come(first, "b", {FREE: 100})
+    come(first, "b", {FREE: 100})
     first.demand("add empty")
     first.demand("budget 0"), first.demand("terms b priority=1")
     eventually(lambda: [it["target"] for it in first.guests().values()] == [100, 100, 0])
@@ -87,7 +88,7 @@ def test_memory_that_comes_while_no_lender_is_there_waits_for_one(lend):
     waits.join(0.5)
     assert waits.is_alive()
     second = lend(2, *QUICK, folder=lender.folder)
-    waits.join(10)
+    waits.join(PATIENCE)
     assert not waits.is_alive()
     second.become("a", pages=128)
     client.leave()

@@ -1,7 +1,6 @@
 """Limits that the kernel enforces: the size of a tmpfs that has a guest's memory, and a cgroup, of the version that this machine has, both
 real. A limit is raised before its guest has pages, and lowered after they came."""
 
-import contextlib
 import errno
 import os
 import socket
@@ -11,54 +10,15 @@ import time
 
 import pytest
 from host_places import FIRST, SECOND, Cgroup, Mount, cgroups, run
-from tenants import FREE, eventually, go_on, stop
+from tenants import FREE, eventually, go_on, stop, writer_of
 from test_strict import GIVEN, STRICT, used, waits_of
 from vhost_client import DEFLATE, PAGE, Client
+from waiting import PATIENCE
 
 # Pages of a guest.
 ALL = 128
 
 pytestmark = pytest.mark.skipif(os.geteuid() != 0, reason="mounts and cgroups are for root")
-
-
-@pytest.fixture(params=["tmpfs", "cgroup"])
-def limits(request, tmp_path):
-    """Makes limits of one kind, which are gone at the end."""
-    made = []
-    if request.param == "cgroup" and not cgroups():
-        pytest.skip("this machine has no cgroups of memory")
-
-    def make(name):
-        made.append(Mount(f"{tmp_path}/{name}") if request.param == "tmpfs" else Cgroup(name))
-        return made[-1]
-
-    yield make
-    for it in made:
-        it.end()
-
-
-@pytest.fixture
-def one(lend, come, limits):
-    """A host with 256 frames, a guest that has a limit, and one that has none."""
-    lender, its = lend(1, *STRICT), limits("a")
-    guest = come(lender, "a", {FREE: 100}, f"overhead=0 limit={its.term}")
-    other = come(lender, "b", {FREE: 100})
-    lender.become("a", limit=ALL)
-    return lender, guest, other, its
-
-
-def writer_of(lender, name):
-    """Returns the process that writes a guest's limit, by its words."""
-    wanted = f"vhost_user_host\0--write-limits\0{lender.folder}/{name}\0".encode()
-
-    def found():
-        for number in filter(str.isdigit, os.listdir("/proc")):
-            with contextlib.suppress(OSError), open(f"/proc/{number}/cmdline", "rb") as words:
-                if words.read() == wanted:
-                    return int(number)
-        return None
-
-    return eventually(found, f"nobody writes the limit of {name}")
 
 
 def test_a_limit_follows_its_loan(one):
@@ -139,12 +99,27 @@ def test_a_limit_goes_on_with_the_next_lender(one, lend):
 
 
 def test_a_writer_that_ends_is_begun_anew(one):
+    """After half a second, as one may end each time."""
     lender, a, _, its = one
+    writer, begin = writer_of(lender, "a"), time.monotonic()
+    os.kill(writer, 9)
+    eventually(lambda: writer_of(lender, "a") != writer)
+    assert time.monotonic() - begin >= 0.5
+    a.give(GIVEN[:50])
+    lender.become("a", limit=78, limit_failures=1)
+    assert its.pages() == 78
+    assert f"a: its limit {its.term} can't be set to {ALL * 4} KiB: its writer has ended" in lender.said()
+
+
+def test_a_writer_that_has_ended_before_it_is_asked_is_named(one):
+    lender, a, _, its = one
+    stop(lender.process.pid)
     os.kill(writer_of(lender, "a"), 9)
     a.give(GIVEN[:50])
+    go_on(lender.process.pid)
     lender.become("a", limit=78)
     assert its.pages() == 78
-    assert "a: its limit" in "".join(lender.said())
+    assert sum(f"a: its limit {its.term} can't be set to " in it for it in lender.said()) == 1
 
 
 def test_a_limit_that_cannot_be_written_is_named(one):
@@ -214,6 +189,7 @@ REFUSED = (
     ("limit=/x", NO_LIMIT),
     ("limit=tmpfs:x", NO_PATH),
     ("limit=tmpfs:/x/../y", NO_PATH),
+    ("limit=tmpfs:/x/./y", NO_PATH),
     ("limit=cgroup:/x/", NO_PATH),
     ("limit=tmpfs:/" + "x" * 151, "a path of 151 bytes at most, each of them a letter, a digit or a sign of ASCII"),
     ("limit=cgroup:/etc", "no cgroup of memory"),
@@ -221,6 +197,7 @@ REFUSED = (
     NO_MEMORY[cgroups()],
     ("limit=tmpfs:/etc", "no mount of tmpfs"),
     ("limit=tmpfs:/dev/shm/x", "no mount of tmpfs"),
+    ("limit=tmpfs:/" + "x" * 150, "no mount of tmpfs"),
     ("strict=0 limit=tmpfs:/dev/shm", "a limit is for a strict guest, whose deflates wait until it is raised"),
 )
 
@@ -232,7 +209,7 @@ def test_what_is_no_limit_is_refused(lend, terms, why):
     lender.demand("add a")
     assert lender.ask(f"terms a {terms}") == f"error: {why}"
     assert lender.guests()["a"]["overhead"] == 64 * 256
-    assert os.readlink(f"{lender.folder}/=a") == "16384 none"
+    assert os.readlink(f"{lender.folder}/=a").endswith(" 16384 none")
 
 
 def test_a_limit_is_one_guests(lend, limits):
@@ -253,6 +230,15 @@ def test_a_limit_is_one_guests(lend, limits):
     lender.demand("terms a limit=none"), lender.demand(f"terms b limit={its.term}")
 
 
+def test_a_tmpfs_within_another_one_is_a_limit_of_its_own(lend, tmp_path):
+    lender, outer = lend(1, *STRICT), Mount(f"{tmp_path}/outer")
+    inner = Mount(f"{outer.path}/inner")
+    try:
+        lender.demand(f"add a limit={outer.term}"), lender.demand(f"add b limit={inner.term}")
+    finally:
+        inner.end(), outer.end()
+
+
 def answer_of_a_writer(lender, kind, path, pages):
     """Has the program of a lender write a limit, as a lender does; returns the errno."""
     ours, its = socket.socketpair(socket.AF_UNIX, socket.SOCK_SEQPACKET)
@@ -261,7 +247,7 @@ def answer_of_a_writer(lender, kind, path, pages):
     ours.send(struct.pack("<QQI152s4x", 7, pages * PAGE, kind, path.encode()))
     number, code = struct.unpack("<Qi", ours.recv(4096)[:12])
     ours.close()
-    assert (number, writer.wait(20)) == (7, 0)
+    assert (number, writer.wait(PATIENCE)) == (7, 0)
     return code
 
 

@@ -6,12 +6,13 @@ import subprocess
 import time
 
 import pytest
-from tenants import FREE, LIMIT, eventually, go_on, has_ended, process_of, status_of, stop
+from tenants import FREE, eventually, go_on, has_ended, process_of, status_of, stop
+from waiting import PATIENCE
 
 
 def test_a_second_host_of_a_folder_is_refused(lend, plain):
     lender = lend(5)
-    ran = subprocess.run([plain, lender.folder, "--budget", "5"], stdin=subprocess.DEVNULL, capture_output=True, text=True, timeout=LIMIT)
+    ran = subprocess.run([plain, lender.folder, "--budget", "5"], stdin=subprocess.DEVNULL, capture_output=True, text=True, timeout=PATIENCE)
     assert (ran.returncode, ran.stdout, ran.stderr) == (2, "", f"{lender.folder} is another host's\n")
     assert lender.demand("add a").startswith("listening")
 
@@ -22,7 +23,7 @@ def test_the_end_of_its_input_is_not_its_end(plain, tmp_path):
         with pytest.raises(subprocess.TimeoutExpired):
             host.wait(0.5)
         host.send_signal(signal.SIGTERM)
-        assert host.wait(LIMIT) == 0
+        assert host.wait(PATIENCE) == 0
 
 
 def test_the_lender_has_no_file_of_a_client(lend, come):
@@ -76,8 +77,8 @@ def test_who_comes_once_another_has_gone_is_heard_by_files_of_the_same_numbers(l
 
 
 def test_a_process_that_stands_still_is_told_apart_from_a_silent_guest(lend, come):
-    lender = lend(5, "--floor", "0", "--period", "50")
-    silent, stuck = come(lender, "silent", {FREE: 60}), come(lender, "stuck", {FREE: 60})
+    lender = lend(5, "--floor", "0", "--period", "400")  # three of them are less than a wait takes
+    silent, _ = come(lender, "silent", {FREE: 60}), come(lender, "stuck", {FREE: 60})
     silent.answers = False
     process = process_of(lender, "stuck")
     stop(process)
@@ -127,5 +128,5 @@ def test_quit_waits_for_no_process_of_its_own(lend):
 
 def test_a_program_that_is_not_there(plain, tmp_path):
     ran = subprocess.run([plain, str(tmp_path), "--budget", "5", "--program", "/nowhere"], stdin=subprocess.DEVNULL, capture_output=True,
-                         text=True, timeout=LIMIT)
+                         text=True, timeout=PATIENCE)
     assert (ran.returncode, ran.stderr) == (2, "/nowhere: No such file or directory\n")

@@ -28,7 +28,7 @@ LOAN, ASKED, GRANTED, WAITING = LENDING
 @pytest.fixture(scope="module")
 def shared(tmp_path_factory):
     """The path of libvb.so."""
-    return linux_kit.build_shared(str(tmp_path_factory.mktemp("library")), linux_kit.core_of())
+    return linux_kit.built("libvb.so")
 
 
 def live(lender, guests):

@@ -8,6 +8,7 @@ import pytest
 from bigvasta.connection import Connection
 from tenants import FREE, PAGES, PAGES_OF_ALL, eventually, process_of
 from vhost_client import ADD_MEM_REG, DEFLATE, OFFERED, PAGE, REM_MEM_REG, Client
+from waiting import PATIENCE
 
 STRICT = ("--floor", "0", "--period", "100", "--step", "0", "--strict")
 
@@ -43,7 +44,7 @@ class Later(threading.Thread):
 
     def ends(self):
         """Waits until it is done."""
-        self.join(20)
+        self.join(PATIENCE)
         assert not self.is_alive() and self.fault is None, self.fault
 
 
@@ -220,7 +221,7 @@ def test_who_waits_and_goes_is_forgotten(two):
     eventually(lambda: waits_of(lender, "c") == "room")
     client.socket.shutdown(2)
     lender.become("c", here=0, lent=0)
-    comes.join(10)
+    comes.join(PATIENCE)
     eventually(lambda: [it["target"] for it in lender.guests().values()] == [0, 0, 0])
     client.leave()
 

@@ -113,6 +113,9 @@ def disk():
         print(f"making the disk of a Debian of {SUITE}, once, in some minutes", file=sys.stderr, flush=True)
         try:
             make(part)
+            for older in glob.glob(f"{CACHE}/{SUITE}-*"):
+                if not older.startswith(folder):
+                    shutil.rmtree(older, ignore_errors=True)
             os.rename(part, folder)
         except OSError:
             if not os.path.isdir(folder):

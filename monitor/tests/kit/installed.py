@@ -5,11 +5,12 @@ import shutil
 import subprocess
 
 import linux_kit
+from waiting import PATIENCE
 
 CLIENT = os.path.join(linux_kit.ROOT, "client")
 
-# The version of the older programs; seconds of a command.
-OLDER, LIMIT = "0.1.9", 20
+# The version of the older programs, as monitor/Makefile has it.
+OLDER = "0.1.9"
 
 
 def version():
@@ -18,13 +19,9 @@ def version():
         return file.read().strip()
 
 
-def older_program(folder):
-    """Builds the programs of a host as they were in an older version; returns the path of the host's. A header takes others of its folder."""
-    shutil.copy(os.path.join(linux_kit.HEADERS, "vb_lending.h"), folder)
-    with open(os.path.join(linux_kit.HEADERS, "vb.h"), encoding="utf-8") as header, open(f"{folder}/vb.h", "w", encoding="utf-8") as copy:
-        text = header.read()
-        copy.write(text.replace(f'#define VB_VERSION "{version()}"', f'#define VB_VERSION "{OLDER}"'))
-    return linux_kit.build(str(folder), linux_kit.core_of(), "vhost_user_host", flags=("-I", str(folder)))
+def older_program():
+    """Builds the programs of a host as they were in an older version; returns the path of the host's."""
+    return linux_kit.built("older/vhost_user_host")
 
 
 def install(program, folder):
@@ -36,7 +33,7 @@ def install(program, folder):
     return f"{folder}/vhost_user_host"
 
 
-def bigvasta(control, *words, limit=LIMIT, **options):
+def bigvasta(control, *words, limit=PATIENCE, **options):
     """Runs the client program; returns what came of it."""
     return subprocess.run(
         ["/usr/bin/python3", "-B", "-m", "bigvasta", *words], capture_output=True, text=True, timeout=limit,

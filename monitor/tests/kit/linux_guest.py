@@ -8,12 +8,10 @@ import subprocess
 import threading
 import time
 
-from linux_kit import Fault, last_line
+from linux_packages import Fault, last_line
+from waiting import PATIENCE, patience_from_now
 
 PAGES_PER_MIB = 256
-
-# Seconds that a boot, an answer of the backend, and a line of the guest may take. The machine may have other work.
-BOOT_LIMIT, ANSWER_LIMIT, LINE_LIMIT = 300, 30, 300
 
 # Seconds of a boot where limits are what they say; a guest whose boot takes longer has more time for the rest, too.
 USUAL_BOOT = 10
@@ -55,7 +53,7 @@ class Backend:
                 env={**os.environ, **(environment or {})},
             )
         self.lines = Lines(self.process.stdout, "the backend")
-        self.lines.next(time.monotonic() + ANSWER_LIMIT)
+        self.lines.next(patience_from_now())
 
     def why(self):
         """Returns the last thing that it said on standard error."""
@@ -68,7 +66,7 @@ class Backend:
             try:
                 self.process.stdin.write(line.encode() + b"\n")
                 self.process.stdin.flush()
-                return self.lines.next(time.monotonic() + ANSWER_LIMIT)
+                return self.lines.next(patience_from_now())
             except (OSError, Fault) as fault:
                 raise Fault(f"the backend doesn't answer {line!r}: {self.why() or fault}") from None
 
@@ -79,7 +77,7 @@ class Backend:
                 self.process.stdin.write(part)
                 self.process.stdin.flush()
                 time.sleep(0.1)
-            return [self.lines.next(time.monotonic() + ANSWER_LIMIT) for _ in range((first + last).count(b"\n"))]
+            return [self.lines.next(patience_from_now()) for _ in range((first + last).count(b"\n"))]
 
     def counters(self):
         """Returns its counters by their names."""
@@ -108,7 +106,7 @@ class Backend:
             except OSError:
                 pass
         try:
-            return self.process.wait(5)
+            return self.process.wait(PATIENCE)
         except subprocess.TimeoutExpired:
             self.process.kill()
             self.process.wait()
@@ -146,7 +144,7 @@ class Guest:
 
     def boot(self):
         """Waits until its driver is loaded, and drives its device."""
-        end, said = time.monotonic() + BOOT_LIMIT, []
+        end, said = patience_from_now(), []
         while not said or not said[-1].startswith(("READY", "UNBOUND")):
             try:
                 said.append(self.lines.next(end))
@@ -187,7 +185,7 @@ class Guest:
         except OSError:
             raise Fault(f"the guest has gone before {line!r}") from None
 
-    def end(self, line, limit=LINE_LIMIT):
+    def end(self, line, limit=PATIENCE):
         """Waits for the line's end; returns its status and what it printed."""
         until, said = time.monotonic() + limit, []
         while True:
@@ -199,7 +197,7 @@ class Guest:
                 return int(got.split()[1]), said
             said.append(got)
 
-    def do(self, line, limit=LINE_LIMIT):
+    def do(self, line, limit=PATIENCE):
         """Has it obey a line; returns what it printed. Its status has to be 0."""
         self.begin(line)
         status, said = self.end(line, limit)
@@ -222,7 +220,7 @@ class Guest:
         self.let_go()
         try:
             self.begin("exit")
-            self.process.wait(10)
+            self.process.wait(PATIENCE)
             gone = True
         except (Fault, subprocess.TimeoutExpired):
             gone = False
@@ -296,7 +294,7 @@ class Machine:
 
     def statistics(self):
         """Asks the guest for new statistics, and returns them by their names."""
-        end = time.monotonic() + ANSWER_LIMIT
+        end = patience_from_now()
         before, _ = self.backend.statistics()
         # A driver that has just begun gives its buffer after its first queue runs.
         while self.backend.ask("ask") != "asked":

@@ -8,15 +8,14 @@ import threading
 import time
 from typing import NamedTuple
 
-import linux_kit
-from linux_guest import ANSWER_LIMIT, PAGES_PER_MIB, Backend
-from linux_kit import Fault
+from linux_guest import PAGES_PER_MIB, Backend
+from linux_kit import ROOT, Fault
 from linux_member import Member
-from programs import CHECKS
 
-sys.path.append(os.path.join(linux_kit.ROOT, "client"))
+sys.path.append(os.path.join(ROOT, "client"))
 
 from bigvasta.connection import Connection
+from waiting import patience_from_now
 
 MIB = 1 << 20
 
@@ -71,7 +70,7 @@ class Host(Backend):
             try:
                 self.process.stdin.write(line.encode() + b"\n")
                 self.process.stdin.flush()
-                end = time.monotonic() + ANSWER_LIMIT
+                end = patience_from_now()
                 count = int(self.lines.next(end).split()[1])
                 return [self.lines.next(end) for _ in range(count)]
             except (OSError, Fault) as fault:
@@ -253,26 +252,3 @@ class Town:
     def above(self):
         """Returns by how many MiB each look was above the budget that was."""
         return [sum(it.held) - self.budget for it in self.samples if sum(it.held) > self.budget]
-
-
-def build(folder, core, wrong=False, flags=()):
-    """Compiles a host over this core, and the program of its guests' processes; with hosts in it that are wrong on purpose, where they
-    are asked for."""
-    return linux_kit.build(folder, core, "vhost_user_host", wrong=wrong, flags=flags)
-
-
-# The compiler's words for a host with its checks; and for one that ends by a fault where it counts the whole set of a guest again.
-FLAGS = {"checked": CHECKS, "uncounted": ("-no-pie", "-Wl,--wrap=vb_count_ballooned", "-Wl,--defsym=__wrap_vb_count_ballooned=0")}
-
-
-class Programs(dict):
-    """The hosts under test by name, each compiled as it is first wanted."""
-
-    def __init__(self, folder, core):
-        super().__init__()
-        self.folder, self.core = folder, core
-
-    def __missing__(self, name):
-        os.makedirs(f"{self.folder}/{name}")
-        self[name] = build(f"{self.folder}/{name}", self.core, wrong=name == "wrong", flags=FLAGS.get(name, ()))
-        return self[name]

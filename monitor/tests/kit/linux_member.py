@@ -4,12 +4,13 @@ import contextlib
 import os
 import signal
 
-from linux_guest import BOOT_LIMIT, Guest
+from linux_guest import Guest
 from linux_kit import Fault
 from linux_vmms import Shape
+from waiting import PATIENCE
 
-# MiB that a guest keeps all the time. One that fills its memory has to be done some time, however full the host is.
-KEPT, FILL_LIMIT = 10, 300
+# MiB that a guest keeps all the time.
+KEPT = 10
 
 
 class Member:
@@ -51,8 +52,8 @@ class Member:
 
     def fill(self, name, mib):
         """Has it fill a file with random bytes, in its memory."""
-        self.guest.do(f"fill {name} {mib}", FILL_LIMIT)
-        self.sums[name] = self.guest.do(f"sums {name}", FILL_LIMIT)
+        self.guest.do(f"fill {name} {mib}")
+        self.sums[name] = self.guest.do(f"sums {name}")
 
     def drop(self, name):
         """Has it free a file, whose sum has to be right."""
@@ -63,7 +64,7 @@ class Member:
     def check(self, *names):
         """Demands that files have their sums; all that there are, where none is named."""
         for name in names or tuple(self.sums):
-            said = self.guest.do(f"sums {name}", FILL_LIMIT)
+            said = self.guest.do(f"sums {name}")
             if said != self.sums[name]:
                 raise Fault(f"{self.name}: kept bytes have changed: {said} was {self.sums[name]}")
             self.checked += 1
@@ -98,7 +99,7 @@ class Member:
     def panic(self, guest):
         """Has its guest's kernel panic, which ends its process; then another one boots."""
         guest.begin("exec false")
-        guest.process.wait(BOOT_LIMIT)
+        guest.process.wait(PATIENCE)
         guest.close()
         self.boot()
 

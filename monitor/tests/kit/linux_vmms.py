@@ -149,6 +149,18 @@ class Uml(OverSocket):
         return guest.end("read_all", limit)
 
 
+def can_create(program, device):
+    """Whether a QEMU can create a device. It is asked for that one: for a list of all it loads each module, also those of another QEMU that is
+    installed, which end it. The device's options alone don't say that it may be created."""
+    said = subprocess.run([*program, "-device", f"{device},help"], capture_output=True, text=True)
+    if said.returncode < 0:
+        raise Missing(f"{program[0]}: {last_line(said.stderr)}")
+    if not said.stdout.startswith(f"{device} options"):
+        return False
+    tried = subprocess.run([*program, "-machine", "none", "-nodefaults", "-display", "none", "-device", device], capture_output=True, text=True)
+    return "pluggable device type" not in tried.stderr
+
+
 class Emulator:
     """QEMU, and a machine whose device isn't said. A class of it says which devices do (`devices`), whose QEMU is fetched where the
     one that is installed has none of them (`debian`), and what its kernel is told besides (`kernel_words`)."""
@@ -176,11 +188,8 @@ class Emulator:
         return program, device
 
     def device_of(self, program):
-        """Returns the first of the devices that this QEMU has, or none."""
-        said = subprocess.run([*program, "-device", "help"], capture_output=True, text=True)
-        if said.returncode != 0:
-            raise Missing(f"{program[0]}: {last_line(said.stderr)}")
-        return next((it for it in self.devices if f'"{it}"' in said.stdout), None)
+        """Returns the first of the devices that this QEMU can create, or none."""
+        return next((it for it in self.devices if can_create(program, it)), None)
 
     def demand_room(self, _):
         """A memfd has no limit of its own."""

@@ -7,6 +7,7 @@ import struct
 import tempfile
 
 import linux_guest
+from waiting import PATIENCE
 
 PAGE = 4096
 PAGES = 64
@@ -20,7 +21,6 @@ NOTIFY, ISR, DEVICE = 0x1000, 0x2000, 0x3000
 
 QUEUE_SIZE = 8
 BUFFERS = 16 * PAGE
-LIMIT = 20
 
 
 class Client:
@@ -29,7 +29,7 @@ class Client:
     def __init__(self, program, *options):
         self.folder = tempfile.TemporaryDirectory(prefix="test-pci-proxy-")
         self.socket, theirs = socket.socketpair()
-        self.socket.settimeout(LIMIT)
+        self.socket.settimeout(PATIENCE)
         self.backend = linux_guest.Backend(program, self.folder.name, [str(theirs.fileno()), "--strict", *options], [theirs.fileno()])
         theirs.close()
         self.memory, self.interrupt = os.memfd_create("memory"), os.eventfd(0, os.EFD_NONBLOCK)
@@ -45,7 +45,7 @@ class Client:
     def close(self):
         """Goes; returns the backend's status and what it said last."""
         self.socket.close()
-        status = self.backend.process.wait(LIMIT)
+        status = self.backend.process.wait(PATIENCE)
         os.close(self.memory), os.close(self.interrupt)
         self.backend.process.stdin.close(), self.backend.process.stdout.close()
         said = self.backend.why()

@@ -6,14 +6,15 @@ import subprocess
 import linux_kit
 import pytest
 from bigvasta.plan import library as loading
+from waiting import PATIENCE
 
 CLIENT = os.path.join(linux_kit.ROOT, "client")
 
 
 @pytest.fixture(scope="session")
-def shared(tmp_path_factory):
+def shared():
     """The path of libvb.so, over the library or the plain implementation."""
-    return linux_kit.build_shared(str(tmp_path_factory.mktemp("library")), linux_kit.core_of())
+    return linux_kit.built("libvb.so")
 
 
 @pytest.fixture(scope="session")
@@ -27,7 +28,7 @@ def words_of(*words, path=CLIENT):
     return ["/usr/bin/python3", "-B", "-m", "bigvasta", "plan", *words], {**os.environ, "PYTHONPATH": path}
 
 
-def run(*words, status=0, path=CLIENT, limit=280):
+def run(*words, status=0, path=CLIENT, limit=PATIENCE):
     """Runs the command; returns what it printed, or the line that it says where it refuses."""
     command, environment = words_of(*words, path=path)
     ran = subprocess.run(command, capture_output=True, text=True, timeout=limit, env=environment)

@@ -4,9 +4,7 @@ import json
 import socket
 
 from linux_packages import Fault
-
-# Seconds that an answer or an event may take.
-LIMIT = 300
+from waiting import PATIENCE
 
 
 class Qmp:
@@ -15,7 +13,7 @@ class Qmp:
     def __init__(self, path):
         self.events = []
         self.socket = socket.socket(socket.AF_UNIX, socket.SOCK_STREAM)
-        self.socket.settimeout(LIMIT)
+        self.socket.settimeout(PATIENCE)
         self.socket.connect(path)
         self.lines = self.socket.makefile("r")
         self.lines.readline()

@@ -7,6 +7,8 @@ import select
 import socket
 import struct
 
+from waiting import PATIENCE
+
 PAGE = 4096
 PAGES_OF_REGION = 64
 
@@ -39,9 +41,6 @@ NEXT, WRITE, INDIRECT = 1, 2, 4
 # Each queue has a size of 8 and three pages of a region; buffers begin at page 16 of the first.
 SIZE = 8
 BUFFERS = REGIONS[0][0] + 16 * PAGE
-
-# Seconds of a wait, and how many times as long it takes where a machine is emulated.
-LIMIT = 20 * int(os.environ.get("PATIENCE", "1"))
 
 # Words that are no decimal number, nor one of 64 bits: what C's strtoul would take is among them.
 NO_NUMBERS = ("", "x", " 5", "+5", "-1", "5 ", "5x", "0x5", "-18446744073709551615", "18446744073709551621")
@@ -82,7 +81,7 @@ class Client:
             self.socket.close(), self.own.close(), self.theirs.close()
         self.socket = socket.socket(socket.AF_UNIX, socket.SOCK_STREAM)
         self.socket.connect(self.path)
-        self.socket.settimeout(LIMIT)
+        self.socket.settimeout(PATIENCE)
         self.own, self.theirs = socket.socketpair()
         self.begun = False
 
@@ -96,7 +95,7 @@ class Client:
     def receive(self, stream=None):
         """Returns the request and the body of the next message; None where there is none any more."""
         stream = stream or self.socket
-        stream.settimeout(LIMIT)
+        stream.settimeout(PATIENCE)
         head = stream.recv(12, socket.MSG_WAITALL)
         if len(head) < 12:
             return None
@@ -291,19 +290,19 @@ class Client:
         at, index = self.table(number) + 2 * PAGE, self.used_index(number)
         return index, [struct.unpack("<II", self.read(at + 4 + 8 * (it % SIZE), 8)) for it in range(index)]
 
-    def told(self, limit=LIMIT):
+    def told(self, limit=PATIENCE):
         """Returns the next thing that the backend tells: a queue's number, or None for the configuration."""
         if not select.select([self.own], [], [], limit)[0]:
             raise AssertionError(f"the backend tells nothing: {self.why()}")
         request, body = self.receive(self.own)
         return struct.unpack("<I", body[:4])[0] if request == VRING_CALL else None
 
-    def called(self, number, limit=LIMIT):
+    def called(self, number, limit=PATIENCE):
         """Returns how often a queue was called by its event since the last time, and waits for the first."""
         if not select.select([self.calls[number]], [], [], limit)[0]:
             return 0
         return os.eventfd_read(self.calls[number])
 
-    def said(self, number, limit=LIMIT):
+    def said(self, number, limit=PATIENCE):
         """Returns the next bytes of a pipe by which a queue is called; none where nothing comes in time."""
         return os.read(self.calls[number], 8) if select.select([self.calls[number]], [], [], limit)[0] else b""

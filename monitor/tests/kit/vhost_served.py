@@ -8,7 +8,8 @@ import tempfile
 import time
 
 import linux_guest
-from vhost_client import BUFFERS, LIMIT, PAGE, PAGES_OF_REGION, REGIONS, SIZE, VRING_KICK, Client
+from vhost_client import BUFFERS, PAGE, PAGES_OF_REGION, REGIONS, SIZE, VRING_KICK, Client
+from waiting import PATIENCE, patience_from_now
 
 class Served(Client):
     """A client with a backend of its own."""
@@ -35,7 +36,7 @@ class Served(Client):
     def close(self):
         """Goes; returns the backend's status and what it said last. `lines` is all that it said."""
         self.socket.close()
-        status = self.backend.process.wait(LIMIT)
+        status = self.backend.process.wait(PATIENCE)
         self.leave()
         self.backend.process.stdin.close(), self.backend.process.stdout.close()
         said = self.backend.why()
@@ -70,7 +71,7 @@ class Served(Client):
 
     def are_used(self, numbers, count):
         """Waits until `count` chains of each queue are used: whether they are, in time."""
-        end = time.monotonic() + LIMIT
+        end = patience_from_now()
         while any(self.read(self.table(it) + 2 * PAGE + 2, 2) != struct.pack("<H", count) for it in numbers):
             if time.monotonic() > end:
                 return False

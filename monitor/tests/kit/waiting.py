@@ -1,13 +1,20 @@
 """Waits of tests, which end by themselves."""
 
+import os
 import time
 
-from vhost_client import LIMIT
+# Seconds after which any wait has failed: a machine may be busy, or emulated. Who tests programs that are wrong gives them fewer.
+PATIENCE = float(os.environ.get("PATIENCE", "300"))
 
 
-def eventually(condition, what="", limit=LIMIT):
-    """Waits until a condition holds, for `limit` seconds at most, and returns what it came to."""
-    end = time.monotonic() + limit
+def patience_from_now():
+    """Returns when a wait that begins now has failed."""
+    return time.monotonic() + PATIENCE
+
+
+def eventually(condition, what="", limit=None):
+    """Waits until a condition holds, for `limit` seconds at most (PATIENCE), and returns what it came to."""
+    end = time.monotonic() + (limit or PATIENCE)
     while True:
         found = condition()
         if found:

@@ -1,6 +1,5 @@
 """A Linux of Debian's own on a backend: the cases that the command line asks for, and what all of them share."""
 
-import linux_kit
 import pytest
 from linux_bench import ALL_RUNS, SHARED_RUNS, WRONG_DEVICES, Bench
 from linux_vmms import FORMS, VMMS
@@ -49,4 +48,4 @@ def pytest_generate_tests(metafunc):
 def bench(tmp_path_factory, request):
     """A kernel, the program under test, and a folder."""
     asked = request.config.getoption
-    return Bench(linux_kit.core_of(), asked("--vmm"), asked("--suite"), str(tmp_path_factory.mktemp("linux")))
+    return Bench(asked("--vmm"), asked("--suite"), str(tmp_path_factory.mktemp("linux")))

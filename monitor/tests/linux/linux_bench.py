@@ -1,6 +1,5 @@
 """What all runs of a Linux on a backend share: a kernel, the program under test, and a folder."""
 
-import functools
 import os
 import random
 
@@ -11,7 +10,6 @@ from linux_kit import Fault, demand
 from linux_machine_runs import MACHINE_RUNS
 from linux_runs import RUNS, SIZES, DeviceFault, audit
 from linux_vmms import FORMS, Shape, vmm_of
-from programs import CHECKS
 
 WRONG_DEVICES = ("1", "2", "3", "4", "5")
 SHARED_RUNS = {**RUNS, **HINT_RUNS}
@@ -21,16 +19,9 @@ ALL_RUNS = {**SHARED_RUNS, **MACHINE_RUNS}
 class Bench:
     """A kernel, the program under test, and a folder."""
 
-    def __init__(self, core, vmm, suite, folder):
-        self.folder, self.core, self.count = folder, core, 0
+    def __init__(self, vmm, suite, folder):
+        self.folder, self.count = folder, 0
         self.vmm = vmm_of(vmm, folder, suite)
-        self.program_of = functools.cache(self.build)
-
-    def build(self, flags):
-        """Compiles the program under test with these flags more; returns its path."""
-        place = os.path.join(self.folder, "checked" if flags else "plain")
-        os.mkdir(place)
-        return linux_kit.build(place, self.core, self.vmm.backend, audited=True, flags=flags)
 
     def run(self, name, memory, form, seed, wrong=None):
         """Runs one of the runs with a guest of its own; raises a fault where it fails. Returns words about it."""
@@ -38,7 +29,7 @@ class Bench:
         folder = os.path.join(self.folder, f"run-{self.count}")
         run = ALL_RUNS[name]
         options, shape = ["--strict", *FORMS[form], *run.backend_words], Shape(memory, **run.guest)
-        program = self.program_of(CHECKS if name in MACHINE_RUNS else ())
+        program = linux_kit.built(f"{'audited-checked' if name in MACHINE_RUNS else 'audited'}/{self.vmm.backend}")
         with Machine(self.vmm, program, folder, shape, options, {"BALLOON_WRONG": wrong or "0"}) as machine:
             said = self.judge(machine, run.do, random.Random(f"{name} {memory} {seed}"))
             counters, entries = machine.backend.counters(), audit(machine)

@@ -9,9 +9,7 @@ import linux_guest
 import linux_packages
 import linux_vmms
 import pytest
-
-# Seconds in which what is missing has to be said.
-LIMIT = 5
+from waiting import PATIENCE
 
 OLD_QEMU = "whose x-pci-proxy-dev ends by a signal: QEMU 7 to 10 is wanted, or --vmm qemu"
 
@@ -39,7 +37,7 @@ def boot(tmp_path):
         except linux_guest.Unbound as said:
             return str(said)
         finally:
-            assert time.monotonic() - begin < LIMIT
+            assert time.monotonic() - begin < PATIENCE
         return None
 
     yield make
@@ -66,12 +64,22 @@ def test_the_busybox_of_each_debian(tmp_path, place):
     assert linux_packages.busybox_of(str(tmp_path)) == str(path)
 
 
+FAKE_QEMU = """case "$*" in
+--version) echo "QEMU emulator version {version}" ;;
+*"-device help") kill -ABRT $$ ;;
+*"-device {device},help") echo "{device} options:" ;;
+*,help) echo "Device not found" >&2 ;;
+*"-device {device}") echo "{tried}" >&2; exit 1 ;;
+esac"""
+
+
 @pytest.fixture
 def qemu_of(tmp_path, monkeypatch):
-    """Puts a QEMU of this version and with this device first on the path; returns its own."""
+    """Puts a QEMU of this version and with this device first on the path, which answers one that would create it so, and ends by a signal where
+    it is to list all devices; returns its own path."""
     monkeypatch.setenv("PATH", f"{tmp_path}:{os.environ['PATH']}")
-    text = "[ $1 = --version ] && echo QEMU emulator version '{}' || echo 'name \"{}\", bus PCI'"
-    return lambda version, device: program(tmp_path, "qemu-system-x86_64", text.format(version, device))
+    return lambda version, device, tried="No 'PCI' bus found": program(
+        tmp_path, "qemu-system-x86_64", FAKE_QEMU.format(version=version, device=device, tried=tried))
 
 
 @pytest.fixture
@@ -101,13 +109,18 @@ def test_an_installed_qemu_that_does(qemu_of, vmm, version, device):
     assert vmm.find(object.__new__(vmm)) == ([path], device)
 
 
-@pytest.mark.parametrize("vmm", (linux_vmms.Qemu, linux_vmms.QemuProxy))
-def test_no_qemu_and_no_mirror(qemu_of, no_debian, vmm, tmp_path):
-    qemu_of("7.2.18", "virtio-balloon-pci")
+NOT_TO_BE_CREATED = ("10.0.2", "vhost-user-device-pci", "Parameter 'driver' expects a pluggable device type")
+
+
+@pytest.mark.parametrize("vmm, qemu", (
+    (linux_vmms.Qemu, ("7.2.18", "virtio-balloon-pci")), (linux_vmms.QemuProxy, ("7.2.18", "virtio-balloon-pci")), (linux_vmms.Qemu, NOT_TO_BE_CREATED),
+))
+def test_no_qemu_and_no_mirror(qemu_of, no_debian, vmm, qemu, tmp_path):
+    qemu_of(*qemu)
     begin = time.monotonic()
     with pytest.raises(linux_packages.Missing, match=f"apt-get finds no packages of {vmm.debian}: .*") as missing:
         vmm(str(tmp_path))
-    assert time.monotonic() - begin < LIMIT and str(missing.value).count("\n") == 0
+    assert time.monotonic() - begin < PATIENCE and str(missing.value).count("\n") == 0
 
 
 def test_a_mirror_that_says_nothing(no_debian, monkeypatch):
@@ -117,14 +130,14 @@ def test_a_mirror_that_says_nothing(no_debian, monkeypatch):
         begin = time.monotonic()
         with pytest.raises(linux_packages.Missing, match="apt-get finds no packages of sid: .*"):
             linux_packages.fetch_kernel("sid")
-        assert time.monotonic() - begin < LIMIT
+        assert time.monotonic() - begin < PATIENCE
 
 
 @pytest.mark.parametrize("words", (("boot-linux",), ("test", "linux")))
 def test_a_tool_says_so_in_one_line(qemu_of, words):
     qemu_of("11.1.3", PROXY)
     command = [os.path.join(linux_packages.ROOT, "tools", words[0]), *words[1:], "--vmm", "qemu-proxy", "--reference"]
-    ran = subprocess.run(command, capture_output=True, text=True, timeout=LIMIT)
+    ran = subprocess.run(command, capture_output=True, text=True, timeout=PATIENCE)
     assert (ran.returncode, ran.stdout, ran.stderr.count("\n")) == (2, "", 1), ran.stderr
     assert OLD_QEMU in ran.stderr
 

@@ -6,7 +6,7 @@ import sys
 
 import pytest
 from debian_machine import Machine
-from linux_kit import ROOT
+from linux_kit import ROOT, built
 from linux_packages import last_line
 from installed import older_program
 
@@ -23,16 +23,14 @@ def package(tmp_path_factory):
 
 
 @pytest.fixture(scope="session")
-def files(tmp_path_factory, programs, request):
+def files(request):
     """What comes with the machine, by where it is there: sources, the programs of a host, those of an older version, and the package; or the
     sources, and programs that are wrong."""
     sources = {f"source/{it}": os.path.join(ROOT, it) for it in SOURCES}
     if request.config.getoption("--wrong") is not None:
-        return sources | {"programs": os.path.dirname(programs("vhost_user_host", flags=(), wrong=True))}
-    older = str(tmp_path_factory.mktemp("older"))
-    older_program(older)
+        return sources | {"programs": os.path.dirname(built("wrong-plain/vhost_user_host"))}
     package = request.getfixturevalue("package")[0]
-    return sources | {"programs": os.path.dirname(programs("vhost_user_host", flags=())), "older": older, "package": package}
+    return sources | {"programs": os.path.dirname(built("plain/vhost_user_host")), "older": os.path.dirname(older_program()), "package": package}
 
 
 @pytest.fixture(scope="session")

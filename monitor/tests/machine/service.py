@@ -14,8 +14,8 @@ import time
 
 from bigvasta.connection import CONTROL, Connection
 from bigvasta.statuses import Away, Unclear
-from vhost_client import LIMIT, PAGE
-from waiting import eventually
+from vhost_client import PAGE
+from waiting import PATIENCE, eventually
 
 HERE = os.path.dirname(os.path.realpath(__file__))
 HOST, GUEST, NAME = "bigvasta-host", "guest-web-1", "web-1"
@@ -33,7 +33,7 @@ CLIENT = f"yes turn 0 {TURN} {OF_REQUEST} | python3 -B {HERE}/../host/charged_gu
 
 def run(*words):
     """Runs a program that has to succeed; returns what it printed."""
-    ran = subprocess.run(words, stdin=subprocess.DEVNULL, capture_output=True, text=True, timeout=LIMIT)
+    ran = subprocess.run(words, stdin=subprocess.DEVNULL, capture_output=True, text=True, timeout=PATIENCE)
     assert ran.returncode == 0, f"{' '.join(words)}: {ran.returncode}: {ran.stderr.strip() or ran.stdout.strip()}"
     return ran.stdout
 
@@ -96,7 +96,7 @@ def begin():
     run("bigvasta", "add", NAME, "strict=yes", "overhead=32M", f"limit=cgroup:{CGROUP}")
     with open(ANSWERS, "w", encoding="ascii"):
         path = os.environ["PYTHONPATH"]
-    run("systemd-run", "--quiet", f"--unit={GUEST}", f"--setenv=PYTHONPATH={path}", f"--setenv=PATIENCE={os.environ['PATIENCE']}",
+    run("systemd-run", "--quiet", f"--unit={GUEST}", f"--setenv=PYTHONPATH={path}",
         f"--property=ExecStartPre=chown bigvasta {CGROUP}/memory.max", "--property=MemoryAccounting=yes", "bash", "-c", CLIENT)
     goes_on()
     assert guest()["limit"] > 0

@@ -12,8 +12,8 @@ from linux_kit import ROOT
 HOST = "monitor/tests/host"
 FILES = ("test_cgroups.py", "test_limits.py")
 
-# How many times as long as elsewhere a wait may take there, and the seconds of a test.
-PATIENCE, LIMIT = 15, 1500
+# Seconds of a test there.
+LIMIT = 1500
 
 # What each wrong host of monitor/tests/mutants/wrong_host.c has to fail.
 WRONG = {
@@ -33,7 +33,7 @@ def names(file):
 
 def words_of(tests, **settings):
     """Returns the words that run tests there, but for those over a tmpfs, which any machine has."""
-    settings = {"HOST_PROGRAM": f"{FOLDER}/programs/vhost_user_host", "PATIENCE": PATIENCE, "PYTHONUNBUFFERED": 1, **settings}
+    settings = {"HOST_PROGRAM": f"{FOLDER}/programs/vhost_user_host", "PYTHONUNBUFFERED": 1, **settings}
     said = " ".join(f"{name}={it}" for name, it in settings.items())
     paths = " ".join(f"{HOST}/{it}" for it in tests)
     return f"cd {FOLDER}/source && {said} python3 -m pytest -v --tb=short -o timeout={LIMIT} -k 'not tmpfs' --junitxml=/tmp/report {paths}"

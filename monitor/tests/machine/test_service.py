@@ -4,9 +4,6 @@ upgraded, and the guest's client notices nothing (service.py says what is done, 
 import pytest
 from debian_disk import FOLDER
 
-# How many times as long as elsewhere a wait may take there.
-PATIENCE = 15
-
 # A command in the machine has limits of its own.
 pytestmark = pytest.mark.timeout(0)
 
@@ -17,7 +14,7 @@ def service(machine, package):
     if package[1]:
         pytest.fail(package[1], pytrace=False)
     tests = f"{FOLDER}/source/monitor/tests"
-    settings = f"PATIENCE={PATIENCE} PYTHONPATH={tests}/kit:{FOLDER}/source/client"
+    settings = f"PYTHONPATH={tests}/kit:{FOLDER}/source/client"
 
     def do(step):
         return machine.run(f"{settings} python3 -B {tests}/machine/service.py {step}", step)

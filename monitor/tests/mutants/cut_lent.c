@@ -1,4 +1,4 @@
-/* A guest's process that ends by a fault in one place, so that another one goes on: that of the guest `cut-N` or `cut-N-..` at the Nth of
+/* A guest's process that aborts in one place, so that another one goes on: that of the guest `cut-N` or `cut-N-..` at the Nth of
  * these places that it comes by, which are before and after each call that this file is put before. Later processes of that guest don't end,
  * but those of the guest `cut-always`, each at the first place.
  *
@@ -38,7 +38,7 @@ static bool is(const char *name)
 static void cut(void)
 {
     if (kept && (kept->ended_by == 0 || always) && ++at == left)
-        __builtin_trap();
+        abort();
 }
 
 #define REAL(type, name, ...) \

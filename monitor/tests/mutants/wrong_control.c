@@ -16,6 +16,7 @@
  *     not-ready         the service manager isn't told that the host is ready
  *     no-watchdog       nor that it lives
  *     forgets-socket    nor given the control socket to keep
+ *     no-utf-8          a guest's state has a name that JSON can't have
  */
 #define _GNU_SOURCE
 #include "../../backends/control/answers.h"
@@ -26,6 +27,7 @@
 #include "../../backends/control/socket.h"
 #include "../../backends/guest/process.h"
 #include "../../backends/host/journal.h"
+#include "../../backends/host/view.h"
 #include "../../backends/service/config.h"
 #include "../../backends/service/config_words.h"
 #include "../../backends/service/notify.h"
@@ -109,6 +111,11 @@ WRAPPED(bool, config_stays, const struct config *old, const struct config *new, 
 WRAPPED(bool, process_took_reload, int file)
 {
     return __real_process_took_reload(file) && !is("deaf");
+}
+
+WRAPPED(const char *, guest_state_word, enum guest_state state)
+{
+    return is("no-utf-8") ? "\xff" : __real_guest_state_word(state);
 }
 
 WRAPPED(void, notify_ready, void)

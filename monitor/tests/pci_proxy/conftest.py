@@ -2,14 +2,17 @@
 
 import os
 
+import linux_kit
 import pytest
 from pci_client import Client
 
+PROGRAMS = ("checked/pci_proxy_balloon",)
+
 
 @pytest.fixture(scope="session")
-def program(programs):
+def program():
     """The backend under test: one that the environment names, or one that is built with the compiler's checks."""
-    return os.environ.get("BACKEND_PROGRAM") or programs("pci_proxy_balloon")
+    return os.environ.get("BACKEND_PROGRAM") or linux_kit.built("checked/pci_proxy_balloon")
 
 
 @pytest.fixture

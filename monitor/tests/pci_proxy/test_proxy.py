@@ -11,10 +11,11 @@ import time
 import pytest
 import linux_kit
 from pci_client import (
-    ACCEPTED, ACCEPT_SELECT, BAR_READ, BUFFERS, CONFIGURATION_WRITE, DEVICE, DEVICE_RESET, ISR, LIMIT, NOTIFY, OFFERED, PAGE,
+    ACCEPTED, ACCEPT_SELECT, BAR_READ, BUFFERS, CONFIGURATION_WRITE, DEVICE, DEVICE_RESET, ISR, NOTIFY, OFFERED, PAGE,
     PAGES, QUEUES, QUEUE_SIZE, SET_INTERRUPT, STATUS, SYNC_MEMORY,
 )
 from vhost_client import NO_NUMBERS
+from waiting import PATIENCE, patience_from_now
 
 
 def test_configuration_space(client):
@@ -62,7 +63,7 @@ def test_what_is_left_as_the_driver_gets_ready_is_served(client):
     os.pwrite(client.memory, struct.pack("<I", 20), BUFFERS)
     os.pwrite(client.memory, struct.pack(f"<HH{size}H", 1, size, *range(size)), 4 * PAGE)
     client.write(STATUS, 15)
-    end = time.monotonic() + LIMIT
+    end = patience_from_now()
     while os.pread(client.memory, 2, 5 * PAGE + 2) != struct.pack("<H", size):
         assert time.monotonic() < end, "the first look left chains, and no other one came"
 
@@ -149,7 +150,7 @@ def test_answers_that_nobody_reads(serve):
     client = serve()
     client.start()
     client.socket.setblocking(False)
-    end = time.monotonic() + LIMIT
+    end = patience_from_now()
     while client.backend.process.poll() is None:
         assert time.monotonic() < end, "the backend waits for somebody to read"
         try:
@@ -158,7 +159,7 @@ def test_answers_that_nobody_reads(serve):
             time.sleep(0.01)
         except (BrokenPipeError, ConnectionResetError):
             break
-    assert client.backend.process.wait(LIMIT) == 0
+    assert client.backend.process.wait(PATIENCE) == 0
     assert client.close() == (0, "")
 
 
@@ -175,20 +176,20 @@ def test_place(serve):
 
 def test_help_and_version(program):
     for word, said in (("--help", "pci_proxy_balloon FD ["), ("--version", "pci_proxy_balloon ")):
-        ran = subprocess.run([program, word], stdin=subprocess.DEVNULL, capture_output=True, text=True, timeout=LIMIT)
+        ran = subprocess.run([program, word], stdin=subprocess.DEVNULL, capture_output=True, text=True, timeout=PATIENCE)
         assert (ran.returncode, ran.stderr, ran.stdout[: len(said)]) == (0, "", said)
 
 
 def test_a_signal_ends_it(serve):
     client = serve()
     client.backend.process.send_signal(signal.SIGTERM)
-    assert client.backend.process.wait(LIMIT) == 0
+    assert client.backend.process.wait(PATIENCE) == 0
     assert client.close() == (0, "")
 
 
 @pytest.mark.parametrize("words", ([], *([it] for it in NO_NUMBERS), ["4294967296"], ["0", "1"], ["0", "--features", "8"]))
 def test_command_lines(program, words):
-    ran = subprocess.run([program, *words], stdin=subprocess.DEVNULL, capture_output=True, timeout=LIMIT)
+    ran = subprocess.run([program, *words], stdin=subprocess.DEVNULL, capture_output=True, timeout=PATIENCE)
     assert (ran.returncode, ran.stdout) == (2, b"")
 
 

@@ -7,10 +7,11 @@ import time
 
 import pytest
 from pci_client import (
-    ACCEPTED, ACCEPT_SELECT, BAR_WRITE, BUFFERS, CONFIGURATION_READ, DEVICE, ENABLE, GENERATION, ISR, LIMIT, MSIX, NOTIFY,
+    ACCEPTED, ACCEPT_SELECT, BAR_WRITE, BUFFERS, CONFIGURATION_READ, DEVICE, ENABLE, GENERATION, ISR, MSIX, NOTIFY,
     NOTIFY_OFF, OFFERED, OFFER_SELECT, PAGE, PAGES, PLACE, QUEUES, QUEUE_MSIX, QUEUE_SIZE, SELECT, SET_INTERRUPT, SIZE, STATUS,
     SYNC_MEMORY,
 )
+from waiting import patience_from_now
 
 COMMON, NOTIFIES, INTERRUPTS, CONFIGURATION = 1, 2, 3, 4
 
@@ -26,7 +27,7 @@ def queue(client, number):
 
 def eventually(condition, words):
     """Waits until a condition holds."""
-    end = time.monotonic() + LIMIT
+    end = patience_from_now()
     while not condition():
         assert time.monotonic() < end, words
 

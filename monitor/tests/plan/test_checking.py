@@ -6,6 +6,7 @@ import subprocess
 import pytest
 from planner import run, words_of
 from test_matrix import answer
+from waiting import PATIENCE
 
 PAGE = 4096
 CELLS = {
@@ -98,7 +99,7 @@ def check(tmp_path, shared, day, *words, status=0, fails=False):
     if not fails:
         return run(str(path), "--check", "--library", shared, *words, status=status)
     command, environment = words_of(str(path), "--check", "--library", shared, *words)
-    ran = subprocess.run(command, capture_output=True, text=True, timeout=60, env=environment)
+    ran = subprocess.run(command, capture_output=True, text=True, timeout=PATIENCE, env=environment)
     assert (ran.returncode, ran.stderr) == (1, "")
     return ran.stdout
 

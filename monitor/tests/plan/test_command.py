@@ -9,6 +9,7 @@ import pytest
 from bigvasta.plan.search import spread, tightest
 from linux_kit import HEADERS
 from planner import CLIENT, run
+from waiting import PATIENCE
 
 # The version that a library of vb.h has.
 with open(os.path.join(HEADERS, "vb.h"), encoding="utf-8") as file:
@@ -101,7 +102,7 @@ def test_a_day_that_is_made_is_the_same_for_a_seed(tmp_path, shared):
 
 @pytest.mark.parametrize("kind", ("svg", "png"))
 def test_a_picture(tmp_path, shared, day, kind):
-    if subprocess.run(["/usr/bin/python3", "-c", "import matplotlib"], capture_output=True, timeout=60).returncode:
+    if subprocess.run(["/usr/bin/python3", "-c", "import matplotlib"], capture_output=True, timeout=PATIENCE).returncode:
         pytest.skip("matplotlib isn't there: apt-get install python3-matplotlib")
     path = tmp_path / f"plan.{kind}"
     run(day, "--library", shared, "--draw", str(path))
@@ -139,6 +140,7 @@ REFUSED = (
     (("DAY", "--budgets", "many"), "--budgets: 'many' is no size: a number with K, M, G or T, in pages of 4K, such as 480M"),
     (("DAY", "--floor", "3"), "--floor: '3' is no size: a number with K, M, G or T, in pages of 4K, such as 480M"),
     (("none.csv",), "none.csv: No such file or directory"),
+    (("\x1b[2J.csv",), "\\x1b[2J.csv: No such file or directory"),
 )
 
 
@@ -151,8 +153,8 @@ def test_what_is_no_library(tmp_path, day, shared):
     (tmp_path / "libvb.so").write_text("no library")
     assert run(day, "--library", f"{tmp_path}/libvb.so", status=2).startswith(f"bigvasta: plan: {tmp_path}/libvb.so is no library of vb.h: ")
     program = "import bigvasta.plan.library as it; it.VERSION += 256; it.load({!r})".format(shared)
-    ran = subprocess.run(["/usr/bin/python3", "-B", "-c", program], capture_output=True, text=True, timeout=60, env={**os.environ, "PYTHONPATH": CLIENT})
+    ran = subprocess.run(["/usr/bin/python3", "-B", "-c", program], capture_output=True, text=True, timeout=PATIENCE, env={**os.environ, "PYTHONPATH": CLIENT})
     assert f"Usage: plan: {shared} has version {VERSION:#08x}, and {VERSION + 256:#08x} is wanted\n" in ran.stderr
     program = "import bigvasta.plan.library as it; it.PLACES = (); it.load()"
-    ran = subprocess.run(["/usr/bin/python3", "-B", "-c", program], capture_output=True, text=True, timeout=60, env={**os.environ, "PYTHONPATH": CLIENT})
+    ran = subprocess.run(["/usr/bin/python3", "-B", "-c", program], capture_output=True, text=True, timeout=PATIENCE, env={**os.environ, "PYTHONPATH": CLIENT})
     assert "Usage: plan: the library isn't there: make -C monitor shared makes it, --library FILE names another\n" in ran.stderr

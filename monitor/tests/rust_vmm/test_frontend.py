@@ -11,22 +11,22 @@ import linux_kit
 import pytest
 from linux_guest import Backend
 from linux_packages import rust_vmm_crates
+from waiting import PATIENCE
 
 HERE = os.path.dirname(__file__)
-LIMIT = 120
 
 # MUST_TELL_HOST, STATS_VQ, DEFLATE_ON_OOM and reports (VIRTIO 1.1, 5.5.3), VERSION_1, and bit 30 for protocol features.
 FEATURES = 1 << 32 | 1 << 30 | 0x27
 
-TARGET = 300
+# The queues of inflates, deflates, statistics, hints and reports.
+QUEUES, TARGET = 5, 300
 QUEUE = ("set_vring_num", "set_vring_addr", "set_vring_base", "set_vring_call", "set_vring_err", "set_vring_kick", "set_vring_enable")
 
 
 class Offer(NamedTuple):
-    """What a backend offers: protocol features by their bits, queues, memory slots; and its target at first."""
+    """What a backend offers: protocol features by their bits, memory slots; and its target at first."""
 
     protocol: tuple
-    queues: int
     slots: int
     target: int
 
@@ -34,7 +34,7 @@ class Offer(NamedTuple):
 # MQ, REPLY_ACK, CONFIG, RESET_DEVICE and CONFIGURE_MEM_SLOTS; those of `vhost_user_balloon` besides are BACKEND_REQ, INBAND_NOTIFICATIONS
 # and STATUS. The crate has 509 slots.
 SAME = (0, 3, 9, 13, 15)
-OF_BALLOON, OF_EXAMPLE = Offer((*SAME, 5, 14, 16), 5, 32, 0), Offer(SAME, 4, 509, TARGET)
+OF_BALLOON, OF_EXAMPLE = Offer((*SAME, 5, 14, 16), 32, 0), Offer(SAME, 509, TARGET)
 
 
 def config(target, actual):
@@ -48,8 +48,8 @@ def lines_of(offer):
     change = ("waits", "handle_request 0", "changes 1") if 5 in offer.protocol else ()
     return [
         f"get_features {FEATURES}", "set_owner ()", f"get_protocol_features {sum(1 << it for it in offer.protocol)}",
-        "set_protocol_features ()", f"get_queue_num {offer.queues}", *channel, f"get_max_mem_slots {offer.slots}", "set_features ()",
-        "set_mem_table ()", "add_mem_region ()", "remove_mem_region ()", *(f"{it} ()" for it in offer.queues * QUEUE), config(offer.target, 0),
+        "set_protocol_features ()", f"get_queue_num {QUEUES}", *channel, f"get_max_mem_slots {offer.slots}", "set_features ()",
+        "set_mem_table ()", "add_mem_region ()", "remove_mem_region ()", *(f"{it} ()" for it in QUEUES * QUEUE), config(offer.target, 0),
         # The one chain is descriptor 0; the device writes nothing into it. Its four pages leave the file.
         "used 1 (0, 0)", "pages given back 4", "set_config ()", *change, config(TARGET, 4),
         # The crate itself refuses what the backend doesn't offer.
@@ -69,15 +69,6 @@ def built(folder, source, name, environment=None):
     return f"{folder}/debug/{name}"
 
 
-def library(folder):
-    """Returns the library that decides as a file to link."""
-    core = linux_kit.core_of()
-    if core != linux_kit.REFERENCE:
-        return core
-    subprocess.run([linux_kit.need("ar", "binutils"), "rcs", f"{folder}/libreference.a", core], check=True)
-    return f"{folder}/libreference.a"
-
-
 @pytest.fixture(scope="session")
 def frontend(tmp_path_factory):
     """The program that is a front end."""
@@ -89,13 +80,13 @@ def example(tmp_path_factory):
     """The example that is a daemon on rust-vmm's crate."""
     folder = str(tmp_path_factory.mktemp("example"))
     source = os.path.join(linux_kit.MONITOR, "examples/vhost_user_daemon")
-    return built(folder, source, "vhost_user_daemon", {"VB_LIB": library(folder)})
+    return built(folder, source, "vhost_user_daemon", {"VB_LIB": linux_kit.core_of()})
 
 
 @pytest.fixture
-def backend(programs, tmp_path):
+def backend(tmp_path):
     """A backend that waits for the program."""
-    it = Backend(programs("vhost_user_balloon"), str(tmp_path), [str(tmp_path / "socket"), "--strict"])
+    it = Backend(linux_kit.built("checked/vhost_user_balloon"), str(tmp_path), [str(tmp_path / "socket"), "--strict"])
     yield it
     it.close()
 
@@ -108,7 +99,7 @@ def talk(frontend, socket, waits, *words):
             lines.append(line.split(":")[0].strip())
             if lines[-1] == "waits":
                 waits()
-        assert process.wait(LIMIT) == 0, lines
+        assert process.wait(PATIENCE) == 0, lines
         return lines
 
 

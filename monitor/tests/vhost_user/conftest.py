@@ -2,23 +2,26 @@
 
 import os
 
+import linux_kit
 import pytest
 from vhost_client import QEMU_PROTOCOL
 from vhost_served import Served
+
+PROGRAMS = ("checked/vhost_user_balloon", "wrong-backend/vhost_user_balloon", "loop-checked/vhost_user_balloon")
 
 pytest.register_assert_rewrite("vhost_demands")
 
 
 @pytest.fixture(scope="session")
-def program(programs):
+def program():
     """The backend under test: one that the environment names, or one that is built with the compiler's checks."""
-    return os.environ.get("BACKEND_PROGRAM") or programs("vhost_user_balloon")
+    return os.environ.get("BACKEND_PROGRAM") or linux_kit.built("checked/vhost_user_balloon")
 
 
 @pytest.fixture(scope="session")
-def wrong_program(programs):
+def wrong_program():
     """The backend that is wrong in the way that its environment's BACKEND_WRONG names."""
-    return programs("vhost_user_balloon", wrong=True)
+    return linux_kit.built("wrong-backend/vhost_user_balloon")
 
 
 @pytest.fixture

@@ -3,6 +3,7 @@ it, and that alone is run."""
 
 import os
 
+import linux_kit
 import pytest
 from mutants import demand_refused
 
@@ -54,6 +55,6 @@ def test_a_wrong_backend_is_refused(wrong_program, name):
 
 
 @pytest.mark.parametrize("name", each(LOOPS))
-def test_a_wrong_loop_is_refused(programs, name):
-    fault = demand_refused(f"{HERE}/{LOOPS[name]}", LOOP_WRONG=name, BACKEND_PROGRAM=programs("vhost_user_balloon", wrong="loop"))
+def test_a_wrong_loop_is_refused(name):
+    fault = demand_refused(f"{HERE}/{LOOPS[name]}", LOOP_WRONG=name, BACKEND_PROGRAM=linux_kit.built("loop-checked/vhost_user_balloon"))
     print(f"{name} is refused by {LOOPS[name]}: {fault}")

@@ -1,10 +1,11 @@
 """Tests of requests of more numbers than a portion has, 256: of a page of numbers, as Windows' driver sends, and of far more."""
 
 import os
+import signal
 import struct
 
 import pytest
-from vhost_client import BUFFERS, DEFLATE, INFLATE, NEXT, PAGE, PAGES_OF_REGION, REGIONS
+from vhost_client import BUFFERS, DEFLATE, INFLATE, NEXT, PAGE, PAGES_OF_REGION, REGIONS, VRING_KICK
 from vhost_demands import FIRST, demand_refused
 
 PORTION = 256
@@ -66,6 +67,22 @@ def test_a_hundred_thousand_numbers(start):
     assert (client.told(), client.used(DEFLATE)) == (DEFLATE, (1, [(0, 0)]))
     counters = client.backend.counters()
     assert [counters[it] for it in ("chains", "deflated", "interrupts")] == [1, 100_000, 1]
+
+
+def test_other_queues_are_served_amid_a_long_request(start):
+    client = start("--strict")
+    client.write(BUFFERS, struct.pack("<I", FIRST + 9) * (ROOM // 4))
+    client.describe(INFLATE, 0, BUFFERS, ROOM)
+    client.describe(DEFLATE, 3, BUFFERS, 4)
+    for it, head in ((INFLATE, 0), (DEFLATE, 3)):
+        client.publish(it, head)
+    client.backend.process.send_signal(signal.SIGSTOP)
+    for it in INFLATE, DEFLATE:
+        client.send(VRING_KICK, struct.pack("<II", it, 0), flags=1)
+    client.backend.process.send_signal(signal.SIGCONT)
+    assert [client.told(), client.told()] == [DEFLATE, INFLATE]
+    assert (client.used(DEFLATE), client.used(INFLATE)) == ((1, [(3, 0)]), (1, [(0, 0)]))
+    assert [client.counter(it) for it in ("inflated", "deflated")] == [ROOM // 4, 1]
 
 
 def test_a_wrong_number_in_the_second_portion(serve):

@@ -12,8 +12,9 @@ import time
 import pytest
 import linux_guest
 import linux_kit
-from vhost_client import INFLATE, LIMIT, PAGE, PAGES_OF_REGION, SIZE, STATE_BYTES, Client
+from vhost_client import INFLATE, PAGE, PAGES_OF_REGION, SIZE, STATE_BYTES, Client
 from vhost_demands import FIRST, demand_served
+from waiting import PATIENCE, patience_from_now
 
 
 def state_of(path):
@@ -32,7 +33,7 @@ def started_by(program, tmp_path):
         words = ["sh", "-c", f'exec "$0" "$@" {closed}', program, path]
         backend = subprocess.Popen(words, stdin=subprocess.PIPE, stdout=subprocess.PIPE, stderr=subprocess.PIPE)
         running.append(backend)
-        end = time.monotonic() + LIMIT
+        end = patience_from_now()
         while True:  # the socket's name is there before the socket listens
             try:
                 return backend, Client(path)
@@ -54,7 +55,7 @@ def test_standard_files_that_are_closed(started_by, number, closed):
         os.lseek(it, 0, os.SEEK_SET)  # where one who writes to it would
     client.publish(INFLATE, SIZE)
     client.kick(INFLATE)
-    assert backend.wait(LIMIT) == 1
+    assert backend.wait(PATIENCE) == 1
     assert [os.fstat(it).st_size for it in client.files] == 2 * [PAGES_OF_REGION * PAGE]
     assert [os.lseek(it, 0, os.SEEK_CUR) for it in client.files] == [0, 0]
     client.leave()
@@ -63,7 +64,7 @@ def test_standard_files_that_are_closed(started_by, number, closed):
 def test_a_standard_input_that_is_closed(program):
     with tempfile.TemporaryDirectory() as folder:
         words = ["sh", "-c", 'exec "$0" "$@" <&-', program, f"{folder}/socket"]
-        ran = subprocess.run(words, capture_output=True, text=True, timeout=LIMIT)
+        ran = subprocess.run(words, capture_output=True, text=True, timeout=PATIENCE)
         assert (ran.returncode, ran.stderr) == (2, f"vhost_user_balloon: {folder}/socket: Operation canceled\n")
 
 
@@ -72,12 +73,12 @@ def test_signals_end_it_and_remove_the_socket(serve, program, number):
     with tempfile.TemporaryDirectory() as folder:
         backend = linux_guest.Backend(program, folder, [f"{folder}/socket"])
         backend.process.send_signal(number)
-        assert (backend.process.wait(LIMIT), os.listdir(folder), backend.why()) == (0, ["backend.log"], "")
+        assert (backend.process.wait(PATIENCE), os.listdir(folder), backend.why()) == (0, ["backend.log"], "")
         backend.process.stdout.close(), backend.process.stdin.close()
     client = serve()
     client.start_by_events()
     client.backend.process.send_signal(number)
-    assert client.backend.process.wait(LIMIT) == 0
+    assert client.backend.process.wait(PATIENCE) == 0
     assert (sorted(os.listdir(client.folder.name)), client.close()) == (["backend.log"], (0, ""))
 
 
@@ -87,7 +88,7 @@ def test_signals_end_it_and_remove_the_socket(serve, program, number):
 def test_help_and_version(program, words, said):
     with open(os.path.join(linux_kit.ROOT, "VERSION"), encoding="ascii") as file:
         said = said.replace("VERSION", file.read().strip())
-    ran = subprocess.run([program, *words], stdin=subprocess.DEVNULL, capture_output=True, text=True, timeout=LIMIT)
+    ran = subprocess.run([program, *words], stdin=subprocess.DEVNULL, capture_output=True, text=True, timeout=PATIENCE)
     assert (ran.returncode, ran.stderr, ran.stdout[: len(said)]) == (0, "", said)
 
 
@@ -109,7 +110,7 @@ def test_no_file_is_left_for_a_client(serve_well):
 
 def test_few_files_are_allowed(program):
     words = ["sh", "-c", 'ulimit -n 20; exec "$0" "$@"', program, "/nowhere/socket"]
-    ran = subprocess.run(words, stdin=subprocess.DEVNULL, capture_output=True, text=True, timeout=LIMIT)
+    ran = subprocess.run(words, stdin=subprocess.DEVNULL, capture_output=True, text=True, timeout=PATIENCE)
     assert " files may be wanted, and 20 may be open (RLIMIT_NOFILE)\n" in ran.stderr
 
 
@@ -158,7 +159,7 @@ def test_a_state_that_cannot_be_written(serve):
     demand_served(client, INFLATE, [FIRST])
     assert client.is_at_rest(), "a state can't be written, and the backend tries again and again"
     os.rmdir(f"{state}.part")
-    end = time.monotonic() + LIMIT
+    end = patience_from_now()
     while state_of(state) == before:
         assert time.monotonic() < end, "a state isn't written once it can be"
     client.counter("target")

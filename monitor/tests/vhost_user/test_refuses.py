@@ -9,7 +9,7 @@ import pytest
 import linux_guest
 from vhost_client import (
     ADD_MEM_REG, BUFFERS, FEATURES, GET_CONFIG, GET_FEATURES, GET_STATUS, GET_VRING_BASE, HAS_PROTOCOL, INDIRECT, INFLATE,
-    LIMIT, NEXT, NO_FILE, PAGE, PAGES_OF_REGION, QEMU_PROTOCOL, REGIONS, REM_MEM_REG, SET_BACKEND_REQ_FD, SET_CONFIG,
+    NEXT, NO_FILE, PAGE, PAGES_OF_REGION, QEMU_PROTOCOL, REGIONS, REM_MEM_REG, SET_BACKEND_REQ_FD, SET_CONFIG,
     SET_FEATURES, SET_MEM_TABLE, SET_PROTOCOL_FEATURES, SET_STATUS, SET_VRING_ADDR, SET_VRING_BASE, SET_VRING_CALL,
     SET_VRING_ENABLE, SET_VRING_ERR, SET_VRING_KICK, SET_VRING_NUM, SIZE, STATISTICS, VRING_KICK, WRITE,
 )
@@ -30,6 +30,7 @@ RULES = (
     (8, "a length that the queue doesn't take", 0, [(0, BUFFERS, 5, 0, 0)]),
     (9, "no such page", 0, [(0, BUFFERS, 4, 0, 0)]),
 )
+from waiting import PATIENCE
 
 
 @pytest.mark.parametrize("rule, words, head, descriptors", RULES)
@@ -257,7 +258,7 @@ def test_saved_states_that_are_none(program):
         ):
             with open(path, "wb") as file:
                 file.write(data)
-            ran = subprocess.run([program, *words], stdin=subprocess.DEVNULL, capture_output=True, text=True, timeout=LIMIT)
+            ran = subprocess.run([program, *words], stdin=subprocess.DEVNULL, capture_output=True, text=True, timeout=PATIENCE)
             said = f"refused: {path} is no saved state: it is answered {code}\n"
             assert (ran.returncode, ran.stdout, ran.stderr) == (2, "", said)
 
@@ -272,7 +273,7 @@ def test_states_that_cannot_be_read(program, tmp_path, words, make):
     path = str(tmp_path / "state")
     make(path)
     options = [program, f"{tmp_path}/socket", "--state", path]
-    ran = subprocess.run(options, stdin=subprocess.DEVNULL, capture_output=True, text=True, timeout=LIMIT)
+    ran = subprocess.run(options, stdin=subprocess.DEVNULL, capture_output=True, text=True, timeout=PATIENCE)
     assert (ran.returncode, ran.stdout, ran.stderr) == (2, "", f"refused: {path}: {words}\n")
 
 
@@ -285,7 +286,7 @@ def test_bytes_that_are_no_message(serve_ready):
 def test_a_file_in_the_socket_s_place_stays(program):
     with tempfile.NamedTemporaryFile() as file:
         file.write(b"here"), file.flush()
-        ran = subprocess.run([program, file.name], stdin=subprocess.DEVNULL, capture_output=True, text=True, timeout=LIMIT)
+        ran = subprocess.run([program, file.name], stdin=subprocess.DEVNULL, capture_output=True, text=True, timeout=PATIENCE)
         assert (ran.returncode, ran.stderr) == (2, f"vhost_user_balloon: {file.name}: Address already in use\n")
         file.seek(0)
         assert file.read() == b"here"
@@ -294,7 +295,7 @@ def test_a_file_in_the_socket_s_place_stays(program):
 def test_nobody_comes(program):
     with tempfile.TemporaryDirectory() as folder:
         words = [program, f"{folder}/socket"]
-        ran = subprocess.run(words, input="", capture_output=True, text=True, timeout=LIMIT)
+        ran = subprocess.run(words, input="", capture_output=True, text=True, timeout=PATIENCE)
         assert (ran.returncode, ran.stderr) == (2, f"vhost_user_balloon: {words[1]}: Operation canceled\n")
         assert os.listdir(folder) == []
 
@@ -302,5 +303,5 @@ def test_nobody_comes(program):
 @pytest.mark.parametrize("words", ([], ["--features"], ["a", "b"], ["a", "--features", "x"], ["--wrong", "a"], ["x" * 200],
     *(["a", "--features", it] for it in ("8", "", " 100000027", "+100000027", "100000027 ", "10000000000000000"))))
 def test_command_lines(program, words):
-    ran = subprocess.run([program, *words], stdin=subprocess.DEVNULL, capture_output=True, timeout=LIMIT)
+    ran = subprocess.run([program, *words], stdin=subprocess.DEVNULL, capture_output=True, timeout=PATIENCE)
     assert (ran.returncode, ran.stdout) == (2, b""), words

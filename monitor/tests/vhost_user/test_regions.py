@@ -5,8 +5,9 @@ import time
 
 import pytest
 import vhost_client
-from vhost_client import BUFFERS, DEFLATE, GET_VRING_BASE, INFLATE, LIMIT, PAGE, PAGES_OF_REGION, REGIONS, SET_MEM_TABLE, VRING_KICK
+from vhost_client import BUFFERS, DEFLATE, GET_VRING_BASE, INFLATE, PAGE, PAGES_OF_REGION, REGIONS, SET_MEM_TABLE, VRING_KICK
 from vhost_demands import MOST_CHAINS
+from waiting import patience_from_now
 
 GUEST, USER = REGIONS[0]
 
@@ -64,7 +65,7 @@ def demand_all_used(client, turn):
     client.write(used, bytes(4) if turn == 0 else struct.pack("<HH", 0, turn * MOST_CHAINS))
     client.write(available, struct.pack(f"<HH{MOST_CHAINS}H", 1, (turn + 1) * MOST_CHAINS, *heads))
     client.send(VRING_KICK, struct.pack("<II", INFLATE, 0))
-    end = time.monotonic() + LIMIT
+    end = patience_from_now()
     while client.counter("chains") < (turn + 1) * MOST_CHAINS:
         assert time.monotonic() < end, "a chain isn't served"
     wanted = struct.pack("<HH", 0, (turn + 1) * MOST_CHAINS) + b"".join(struct.pack("<II", it, 0) for it in heads)

@@ -10,10 +10,11 @@ import time
 import pytest
 import linux_kit
 from vhost_client import (
-    DEFLATE, FEATURES, GET_CONFIG, GET_FEATURES, GET_PROTOCOL_FEATURES, GET_QUEUE_NUM, HAS_PROTOCOL, INFLATE, LIMIT, NEXT,
+    DEFLATE, FEATURES, GET_CONFIG, GET_FEATURES, GET_PROTOCOL_FEATURES, GET_QUEUE_NUM, HAS_PROTOCOL, INFLATE, NEXT,
     NO_LINES, NO_NUMBERS, OFFERED, PAGE, PAGES_OF_REGION, REGIONS, REPORT, SET_CONFIG, SET_FEATURES, SIZE, STATISTICS, WRITE,
 )
 from vhost_demands import MOST_CHAINS, post_statistics
+from waiting import PATIENCE
 
 # A seal of a memory's file (memfd_create(2)).
 FUTURE_WRITE = 0x10
@@ -341,5 +342,5 @@ def test_quit(serve_ready):
     client = serve_ready()
     client.backend.process.stdin.write(b"quit\n")
     client.backend.process.stdin.flush()
-    assert client.backend.process.wait(LIMIT) == 0
+    assert client.backend.process.wait(PATIENCE) == 0
     assert client.close() == (0, "")

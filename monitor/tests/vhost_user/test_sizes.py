@@ -4,8 +4,9 @@ import struct
 import time
 
 import pytest
-from vhost_client import BUFFERS, INFLATE, LIMIT, NEXT, PAGE, REGIONS, SET_VRING_ADDR, SET_VRING_BASE, SET_VRING_NUM, VRING_KICK
+from vhost_client import BUFFERS, INFLATE, NEXT, PAGE, REGIONS, SET_VRING_ADDR, SET_VRING_BASE, SET_VRING_NUM, VRING_KICK
 from vhost_demands import demand_refused
+from waiting import patience_from_now
 
 GUEST, USER = REGIONS[0]
 
@@ -59,7 +60,7 @@ def publish(client, size, entries, first):
 
 def used_since(client, size, count, first):
     """Returns the elements that were used from an index on, once there are `count`."""
-    end, wanted = time.monotonic() + LIMIT, struct.pack("<H", first + count & 0xFFFF)
+    end, wanted = patience_from_now(), struct.pack("<H", first + count & 0xFFFF)
     while client.read(USED + 2, 2) != wanted:
         assert time.monotonic() < end, f"not all chains are used: {client.why()}"
     return [struct.unpack("<II", client.read(USED + 4 + 8 * (it % size), 8)) for it in range(first, first + count)]

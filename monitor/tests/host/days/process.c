@@ -5,6 +5,7 @@
 #include <stdio.h>
 #include <string.h>
 #include <sys/socket.h>
+#include <sys/stat.h>
 #include <sys/un.h>
 #include <unistd.h>
 
@@ -235,7 +236,9 @@ void process_is_alone(struct guest *guest)
 void process_begins(struct guest *guest, const char *folder)
 {
     struct sockaddr_un address = {.sun_family = AF_UNIX};
-    snprintf(address.sun_path, sizeof address.sun_path, "%s/+guest-%u", folder, guest->number + 1);
+    snprintf(address.sun_path, sizeof address.sun_path, "%s/.channels", folder);
+    mkdir(address.sun_path, S_IRWXU);
+    snprintf(address.sun_path, sizeof address.sun_path, "%s/.channels/guest-%u", folder, guest->number + 1);
     guest->channel = -1;
     guest->listener = socket(AF_UNIX, SOCK_SEQPACKET | SOCK_NONBLOCK, 0);
     if (bind(guest->listener, (struct sockaddr *)&address, sizeof address) || listen(guest->listener, 1))

@@ -1,0 +1,128 @@
+"""A host whose numbers are made: each differs from all others, and is more than 32 bits count, as bytes where it counts pages. What has one is read in
+the sources, so that a field that is new has one, too."""
+
+import os
+import re
+
+import linux_kit
+
+
+# What a number of each type begins at: a multiple of a prime is added. Of those that are no more than guests or processes there are few.
+FIRST = {"uint64_t": 1 << 33, "int64_t": 1 << 34, "uint32_t": 1 << 31, "double": float(1 << 33), "unsigned": 1 << 20, "pid_t": 1 << 21}
+PRIME = 104729
+PHASES, GUESTS = 2, 6
+
+# Flags of guests, a bit for each guest: no two are alike over all guests. States of guests; what each waits for in both phases, and how the waits
+# end that the second doesn't have any longer.
+FLAGS = {"strict": 0b000111, "answers": 0b011001, "reports": 0b101010, "cooperates": 0b110101}
+STATES = ("ABSENT", "COMING", "WAITING", "STARTING", "READY", "LEAVING")
+WAITS = (("NOTHING", "ROOM"), ("ROOM", "DEFLATE"), ("DEFLATE", "RESET"), ("RESET", "NOTHING"), ("ROOM", "ROOM"), ("NOTHING", "NOTHING"))
+ENDS = {1: "GRANTED", 2: "REFUSED", 3: "WITHDRAWN"}
+LIMITS = ({"kind": "LIMIT_NONE", "path": ""}, {"kind": "LIMIT_CGROUP", "path": "/a/b"}, {"kind": "LIMIT_TMPFS", "path": "/c"})
+
+
+def members(header, struct):
+    """Returns the types of a struct's members, by their names, in their order."""
+    with open(os.path.join(linux_kit.MONITOR, "backends", header), encoding="utf-8") as file:
+        text = re.search(rf"(?s)struct {struct} \{{(.*?)\n\}};", file.read())[1]
+    found = {}
+    for line in re.sub(r"(?s)/\*.*?\*/", "", text).split(";"):
+        its = re.fullmatch(r"(?s)\s*((?:const |struct |enum )?\w+)\s+(.*)", line)
+        for name in its[2].split(",") if its else ():
+            found[re.match(r"\s*\*?(\w+)", name)[1]] = its[1]
+    return found
+
+
+class Made:
+    """Numbers, of which none was there before."""
+
+    def __init__(self):
+        self.count = 0
+
+    def value(self, kind, name):
+        """Returns a value of a type."""
+        self.count += 1
+        if kind == "const char":
+            return f"{name}-{self.count}"
+        return FIRST[kind] + self.count * (0.5 if kind == "double" else PRIME)
+
+    def struct(self, header, struct, **given):
+        """Returns the values of a struct's members, of which some are given."""
+        return {name: given[name] if name in given else self.value(kind, name) for name, kind in members(header, struct).items()}
+
+    def guest(self, number, phase):
+        """Returns a guest: in the second phase it has the state and the flags that the next one had."""
+        flags = {name: bool((bits >> (number + phase) % GUESTS) & 1) for name, bits in FLAGS.items()}
+        strict = flags.pop("strict")
+        most = {"most": (1 << 32) - 1} if number == 0 else {}
+        terms = self.struct("host/view.h", "guest_terms", strict=strict, limit=LIMITS[number % len(LIMITS)], **most)
+        ended = self.struct("host/view.h", "ended_wait", what=f"WAITS_FOR_{WAITS[number][0]}", how=f"WAS_{ENDS.get(number, 'GRANTED')}")
+        ended["number"] = phase if number in ENDS else 0
+        state = {"state": f"GUEST_{STATES[(number + phase) % GUESTS]}", "waits_for": f"WAITS_FOR_{WAITS[number][phase]}"}
+        return self.struct("host/view.h", "guest_view", terms=terms, ended=ended, name=f"guest-{number}", **state, **flags)
+
+    def durations(self):
+        """Returns counts and their sum."""
+        return {"counts": [self.value("uint64_t", "") for _ in range(8)], "sum": self.value("double", "")}
+
+    def measures(self):
+        """Returns what the host has measured."""
+        counts = {name: [self.value("uint64_t", "") for _ in range(many)] for name, many in (("gone", 4), ("ungranted", 3))}
+        durations = {it: self.durations() for it in ("waits", "decisions", "turns", "processor")}
+        return self.struct("host/measures.h", "measures", **counts, **durations)
+
+    def decision(self, reason):
+        """Returns a decision about two guests."""
+        shares = [
+            self.struct("host/journal.h", "share", name=f"guest-{it}", bound="BY_LOAN", need=self.need()) for it in range(2)
+        ]
+        return self.struct("host/journal.h", "decision", reason=reason, who="guest-1", count=2, shares=shares)
+
+    def need(self):
+        """Returns what a guest has and can spare (vb_lending.h)."""
+        return {"pages": self.value("uint32_t", ""), "spare": self.value("uint32_t", "")}
+
+
+def written(value):
+    """Returns a value as C has it."""
+    if isinstance(value, dict):
+        return "{" + ", ".join(f".{name} = {written(it)}" for name, it in value.items()) + "}"
+    if isinstance(value, list):
+        return "{" + ", ".join(map(written, value)) + "}"
+    if isinstance(value, bool):
+        return str(value).lower()
+    if isinstance(value, str):
+        return value if re.match(r"[A-Z]+_", value) else f'"{value}"'
+    return repr(value)
+
+
+class MadeHost:
+    """The values: of the host and its guests in each phase, decisions, measures, and what the control sockets count."""
+
+    def __init__(self):
+        made = Made()
+        self.hosts = [made.struct("host/view.h", "host_view", guests=GUESTS, strict=True) for _ in range(PHASES)]
+        self.hosts[1]["decisions"] = self.hosts[0]["decisions"] + 1
+        self.guests = [[made.guest(it, phase) for it in range(GUESTS)] for phase in range(PHASES)]
+        self.decisions = [made.decision("BY_SPARE"), made.decision("BY_MISSING")]
+        self.measures = made.measures()
+        self.counters = [made.struct("control/control.h", "control_counters") for _ in range(2)]
+
+    def header(self):
+        """Returns them as C."""
+        return "".join(
+            f"static const struct {kind} {name} = {written(values)};\n"
+            for kind, name, values in (
+                ("host_view", f"made_hosts[{PHASES}]", self.hosts), ("guest_view", f"made_guests[{PHASES}][{GUESTS}]", self.guests),
+                ("decision", "made_decisions[]", self.decisions), ("measures", "made_measures", self.measures),
+                ("control_counters", "made_counters[]", self.counters),
+            )
+        )
+
+    def build(self):
+        """Builds a host's program that shows them; returns its path."""
+        folder = os.path.join(linux_kit.MONITOR, "out", "made")
+        os.makedirs(folder, exist_ok=True)
+        with open(os.path.join(folder, "made_values.h"), "w", encoding="utf-8") as file:
+            file.write(self.header())
+        return linux_kit.built("made/vhost_user_host")

@@ -1,0 +1,35 @@
+"""A guest's process that waits for room, with a deflate in its hands that is granted meanwhile."""
+
+from bigvasta.connection import Connection
+from tenants import FREE, PAGES, PAGES_OF_ALL, eventually
+from vhost_client import ADD_MEM_REG, DEFLATE, INFLATE, OFFERED, PAGE, Client
+
+# Pages of the first region that its driver gives, after its rings; and how many it takes back.
+GIVEN, TAKEN = [*range(PAGES_OF_ALL + 20, PAGES_OF_ALL + 60)], 10
+
+
+def begin(client):
+    """Has a driver ready over the first region alone."""
+    client.negotiate(protocol=OFFERED)
+    client.accepted(ADD_MEM_REG, client.region_body(0), client.files[:1])
+    for number in range(4):
+        client.place(number), client.enable(number)
+
+
+def test_a_client_that_cannot_be_told_is_not_served_on_while_it_waits(lend, come):
+    lender = lend(1, "--floor", "0", "--period", "100", "--step", "0", "--strict")
+    other, client = come(lender, "b", {FREE: 100}), Client(lender.add("c"), lambda: "")
+    begin(client)
+    client.post_pages(INFLATE, GIVEN)
+    lender.become("c", ballooned=len(GIVEN), lent=64 - len(GIVEN))
+    with Connection(f"{lender.folder}/.control") as it:
+        it.ask("budget", bytes=(128 + 64 - len(GIVEN)) * PAGE)
+    client.post_pages(DEFLATE, GIVEN[:TAKEN])
+    lender.become("c", waits="deflate")
+    client.send(ADD_MEM_REG, client.region_body(1), client.files[1:], flags=1)
+    lender.become("c", waits="room")
+    client.own.shutdown(2)
+    other.give(range(PAGES, PAGES + TAKEN))
+    eventually(lambda: "refused c: the client can't be told of a used buffer" in lender.said(), lender.said)
+    lender.become("c", here=0, lent=0)
+    client.leave()

@@ -1,0 +1,93 @@
+"""A guest's process that somebody has taken over, and that lies: the lender ends its service, and lends to the others as before."""
+
+import contextlib
+import os
+import signal
+
+import pytest
+from played import WAIT_ROOM, Listens, Played
+from tenants import FREE, eventually
+from test_later_states import seen
+from test_strict import GIVEN, STRICT, lent, used
+from vhost_client import DEFLATE, PAGE
+
+ALL, MOST_PAGES, HUGE = 128, 1 << 24, (1 << 32) - 1
+
+TOO_MANY = "more pages than a guest may have"
+
+# What a process that was granted all pages of its guest reports, and why that isn't believed.
+LIES = {
+    "pages": ({"pages": ALL + 1}, "pages that nobody has granted"),
+    "no loan": ({"holds": 0, "pages": 4_000_000_000}, TOO_MANY),
+    "holds": ({"holds": 0}, "that its deflates don't wait"),
+    "held": ({"held_kib": (1 << 64) - 4096}, "more memory that it holds than there is"),
+    "waits": ({"waits": 3, "wait": 1}, "a wait that isn't one"),
+    "wanted": ({"waits": WAIT_ROOM, "wait": 1, "wanted": MOST_PAGES + 1}, TOO_MANY),
+    **{it: ({it: HUGE}, TOO_MANY) for it in ("ballooned", "held_pages", "ballooned_then")},
+}
+
+
+def ended_by(child):
+    """Returns the signal that has ended a process of the test's; 0 where it is there."""
+    found, status = os.waitpid(child, os.WNOHANG)
+    return os.WTERMSIG(status) if found else 0
+
+
+@pytest.mark.parametrize("lie", LIES)
+def test_a_lie_ends_the_service_of_its_process_alone(lend, come, lie):
+    changed, why = LIES[lie]
+    lender = lend(1, *STRICT)
+    b = come(lender, "b", {FREE: 100})
+    b.give(GIVEN[:50])
+    lender.become("b", ballooned=50, lent=ALL - 50)
+    a = Played(lender, "a", pages=ALL)
+    held = lender.counters()["held_kib"]
+    assert lent(lender) == 2 * ALL - 50
+    a.report(**changed)
+    eventually(lambda: ended_by(a.listens.child) == signal.SIGKILL)
+    eventually(lambda: lender.hear() or f"refused a: its process reports {why}" in lender.said(), lender.said)
+    lender.become("a", here=0, pages=0)
+    assert lender.counters()["held_kib"] <= held
+    b.take(GIVEN[:10])
+    used(b, DEFLATE, 1)
+    lender.become("b", lent=ALL - 40)
+    assert lent(lender) == ALL - 40
+    a.channel.close()
+
+
+def test_the_first_report_to_a_later_lender_is_bounded(lend):
+    lender = lend(1, *STRICT)
+    listens = Listens(lender.folder, "a")
+    lender.demand("add a strict=1")
+    with contextlib.suppress(BrokenPipeError):  # it may report twice before it ends
+        Played(lender, "a", listens=listens, ballooned=MOST_PAGES + 1)
+    eventually(lambda: ended_by(listens.child) == signal.SIGKILL)
+    eventually(lambda: lender.hear() or f"refused a: its process reports {TOO_MANY}" in lender.said(), lender.said)
+
+
+def terms_after(lend, lender, kept=None):
+    """Returns a guest's terms by the next lender, to which its process tells others; where the folder has other ones `kept`, by these."""
+    link, channel = f"{lender.folder}/=a", f"{lender.folder}/.channels/a"
+    lender.kill()
+    os.unlink(channel)
+    if kept:
+        os.unlink(link), os.symlink(kept, link)
+    listens = Listens(lender.folder, "a")
+    later = lend(1, *STRICT, folder=lender.folder)
+    a = Played(later, "a", listens=listens, pages=ALL, has_terms=1, least=7, most=9, priority=8, strict=0)
+    found = {name: it for name, it in seen(later)["terms"].items() if name in ("least", "most", "priority", "strict")}
+    a.leave()
+    later.become("a", here=0)
+    return later, found
+
+
+def test_a_process_tells_no_terms_of_its_own(lend):
+    lender = lend(1, *STRICT)
+    lender.demand("add a least=0 most=1 priority=2 strict=1")
+    later, found = terms_after(lend, lender)
+    assert found == {"least": 0, "most": 1 << 20, "priority": 2, "strict": True}
+    # Of a process of 0.3.0 they count once, as that kept two terms in the folder.
+    later, found = terms_after(lend, later, "0 none")
+    assert found == {"least": 7 * PAGE, "most": 9 * PAGE, "priority": 8, "strict": False}
+    os.unlink(f"{later.folder}/=a"), os.symlink("terms 0 256 3 1 0 none", f"{later.folder}/=a")
+    assert terms_after(lend, later)[1] == {"least": 0, "most": 1 << 20, "priority": 3, "strict": True}
