@@ -8,6 +8,8 @@ import os
 import re
 import sys
 
+from suites import SUITES, packages_of
+
 ROOT = os.path.realpath(os.path.join(os.path.dirname(__file__), "../.."))
 
 WORDS = "no one two three four five six seven eight nine ten eleven twelve thirteen fourteen fifteen sixteen seventeen eighteen nineteen twenty".split()
@@ -100,18 +102,41 @@ PACKAGES = (
     (
         ("monitor/Makefile", r"(?m)^PACKAGES = (.*)$"),
         ("README.md", r"`make -C monitor test` \|[^|]*\(`([^`]*)`\)"),
+        ("tools/lib/gate_steps.py", r'(?m)^SHIMS = "(.*)"$'),
         ("monitor/README.md", r"`apt-get install ([^`]*librust-vm-memory-dev)`"),
     ),
     (
-        ("README.md", r"`tools/boot-linux` \|[^|]*\(`([^`]*)`\)"),
-        ("docs/LINUX.md", r"on amd64, with `apt-get install ([^`]*)`"),
-        ("tools/host-linux", r"what tools/boot-linux does: apt-get install ([^,]*),"),
+        ("README.md", r"`make -C monitor daemons` \|[^|]*\(`([^`]*)`\)"),
+        ("monitor/Makefile", r"in out/library/plain \(`apt-get install ([^`]*)`\)"),
+        ("tools/lib/suites.py", r'(?m)^DAEMONS = "(.*)"$'),
+    ),
+    (
+        ("README.md", r"`tools/test SUITE` \|[^|]*\(`([^`]*)`"),
+        ("tools/lib/suites.py", r'(?m)^PYTEST = "(.*)"$'),
+    ),
+    (
+        ("README.md", r"`tools/test machine` \|[^|]*\(`([^`]*)`\)"),
+        ("tools/lib/suites.py", r'"([^"]* mmdebstrap [^"]*)"'),
+    ),
+    (
+        ("README.md", r"`tools/test fuzz` \|[^|]*\(`([^`]*)`\)"),
+        ("tools/lib/suites.py", r'"(clang libclang-rt[^"]*)"'),
     ),
     (
         ("README.md", r"`tools/release` \|[^|]*\(`([^`]*)`\)"),
         ("tools/release", r"`apt-get install ([^`]*)`"),
     ),
 )
+
+
+def wanted():
+    """Returns the packages that the tests of a suite of monitor say to install, and that aren't among the suite's."""
+    found = []
+    for name, suite in SUITES.items():
+        for path in sorted(it for word in suite.words for it in glob.glob(f"{ROOT}/{word}/*.py") if word.startswith("monitor/")):
+            asked = set(re.findall(r"apt-get install ([a-z][a-z0-9+.-]+)", read(os.path.relpath(path, ROOT))))
+            found += [f"tools/lib/suites.py: {name} wants {it}" for it in sorted(asked - set(packages_of(name, all_of_it=True)))]
+    return found
 
 
 def packages():
@@ -124,7 +149,7 @@ def packages():
             continue
         for path, pattern in others:
             lists = re.findall(pattern, read(path))
-            if len(lists) != 1 or set(lists[0].split()) != set(wanted[0].split()):
+            if len(lists) != 1 or set(lists[0].split()) - {"#"} != set(wanted[0].split()):
                 found.append(f"{path}: packages {' or '.join(lists) or 'none'}, and {first} has {wanted[0]}")
     return found
 
@@ -207,4 +232,4 @@ def sanitized():
 
 def claims():
     """Returns all that pages claim falsely."""
-    return [*counts(), *packages(), *times(), *listings(), *order(), *named_files(), *named_tools(), *sanitized()]
+    return [*counts(), *packages(), *wanted(), *times(), *listings(), *order(), *named_files(), *named_tools(), *sanitized()]

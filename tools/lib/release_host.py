@@ -2,7 +2,7 @@
 
 import os
 
-from linux_kit import ROOT, build, build_shared
+from linux_kit import ROOT, make
 from release_tree import copy, copy_listed, listed, read, write
 
 DAEMONS = ("vhost_user_balloon", "vhost_user_host")
@@ -19,15 +19,10 @@ INSTALLED = (
 DOCUMENTS = ("docs/HOST.md", "docs/CONTROL.md", "docs/LINUX.md", "docs/PLANNING.md")
 
 
-def build_daemons(library, room, flags=()):
-    """Builds the daemons, and returns their paths: all without symbols."""
-    return [build(room, library, it, flags=(f"-ffile-prefix-map={ROOT}=.", "-s", *flags)) for it in DAEMONS]
-
-
-def build_planned(library, room):
-    """Builds the library as the planner loads it, and returns its path. It names the C library, as Debian wants of each, though it may need
-    nothing of that."""
-    return build_shared(room, library, flags=(f"-ffile-prefix-map={ROOT}=.", "-s", "-Wl,--no-as-needed", "-lc"))
+def build_installed(library, room):
+    """Builds over a library what an operator runs: the daemons, and the library as the planner loads it; returns their paths. All are without
+    symbols."""
+    return make(room, *(f"plain/{it}" for it in DAEMONS), "libvb.so", O=room, VB_LIB=library, LIB="")
 
 
 def put_pages(tree, names, root):
@@ -43,8 +38,9 @@ def put_client(root, modules):
         copy(os.path.join(ROOT, "client", "bigvasta", name), f"{root}/{modules}/bigvasta/{name}")
 
 
-def stage_host(tree, daemons, planned, root):
+def stage_host(tree, installed, root):
     """Puts what bigvasta-host has under a root, but for PROVED."""
+    *daemons, planned = installed
     copy(planned, f"{root}/usr/lib/bigvasta/libvb.so")
     for daemon in daemons:
         copy(daemon, f"{root}/usr/bin/{os.path.basename(daemon)}", 0o755)

@@ -6,7 +6,7 @@ import os
 import re
 
 import rt_kit
-from linux_kit import Fault, last_line
+from linux_packages import Fault, last_line
 
 PROGRAM = "crates/vb_sim/out/vb_sim"
 

@@ -10,7 +10,7 @@ from collections.abc import Callable
 from typing import NamedTuple
 
 import release_marks
-from linux_kit import ROOT, Fault, last_line
+from linux_packages import ROOT, Fault, last_line
 
 # Seconds that a refusal may take; what isn't refused would go on, and prove.
 LIMIT = 200

@@ -126,7 +126,7 @@ exec unshare --mount sh -c 'mount --rbind /run {NEWER}/run && mount --rbind /dev
 """
 
 # Whether a QEMU is there that has the device.
-HAS_DEVICE = f"{QEMU} -device help 2> /dev/null | grep -q vhost-user-test-device-pci"
+HAS_DEVICE = f"{QEMU} -device vhost-user-test-device-pci,help 2> /dev/null | grep -q options"
 
 # Root is who types README's commands here, and agrees to what is installed.
 SUDO = """

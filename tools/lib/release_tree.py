@@ -5,7 +5,7 @@ import re
 import shutil
 import subprocess
 
-from linux_kit import ROOT, Fault, last_line
+from linux_packages import ROOT, Fault, last_line
 from release_marks import gate_of
 
 # What the Rust crate has for tests in C, which aren't installed.

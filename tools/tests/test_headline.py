@@ -37,15 +37,31 @@ pub fn run_threads(n: u32) -> u32
     1
 }
 """,
+    "crates/high/src/laws.rt": """ghost use Rattle.low.specs.Even.{Odd, Even};
+
+pub fn all_are_even()
+    ensures { (n : ℕ) → Even n }
+{}
+
+pub fn none_is_odd()
+    ensures { (n : ℕ) → Odd n }
+{}
+""",
+    "laws.md": "<!-- tools/headline: from here -->\n<!-- tools/headline: to here -->\n",
     "page.md": "<!-- tools/headline: from here -->\n<!-- tools/headline: to here -->\n",
 }
 
 # Even and IsTwice have 4 lines, MOST has one; Odd 2 more.
-TABLE = """| File | `World::run` | both |
+TABLE = """| File | `World::run` | and `run_threads` |
 |---|---|---|
 | `low/src/limits.rt` | 1 | 1 |
 | `low/specs/Even.antt` | 4 | 6 |
 | 2 files | 5 | 7 |"""
+LAWS = """| File | `all_are_even` |
+|---|---|
+| `low/src/limits.rt` | 1 |
+| `low/specs/Even.antt` | 4 |
+| 2 files | 5 |"""
 
 
 @pytest.fixture
@@ -56,10 +72,10 @@ def headline(tmp_path, monkeypatch):
         (tmp_path / path).parent.mkdir(parents=True, exist_ok=True)
         (tmp_path / path).write_text(text, encoding="utf-8")
     monkeypatch.setattr(its, "ROOT", str(tmp_path))
-    monkeypatch.setattr(its, "PAGE", "page.md")
-    monkeypatch.setattr(its, "CONTRACTS", [
-        ("World::run", "high/src/first.rt", "pub fn run("), ("run_threads", "high/src/second.rt", "pub fn run_threads"),
-    ])
+    monkeypatch.setattr(its, "PAGES", {
+        "page.md": [("World::run", "high/src/first.rt", "pub fn run("), ("run_threads", "high/src/second.rt", "pub fn run_threads")],
+        "laws.md": [("all_are_even", "high/src/laws.rt", "pub fn all_are_even")],
+    })
 
     def call(word):
         its.FILES.clear()
@@ -73,6 +89,7 @@ def headline(tmp_path, monkeypatch):
 def test_what_is_counted(headline):
     assert headline.call("--write") == 0
     assert TABLE in (headline.folder / "page.md").read_text(encoding="utf-8")
+    assert LAWS in (headline.folder / "laws.md").read_text(encoding="utf-8")
     assert headline.call("--check") == 0
 
 
@@ -81,7 +98,9 @@ def test_what_is_counted(headline):
     ("crates/low/specs/Even.antt", "Even n = IsTwice n ×", "Even n ="),
     ("crates/low/src/limits.rt", "pub const MOST: u32 = 256;", "pub const MOST: u32 =\n    256;"),
     ("crates/high/src/second.rt", "{ Odd result }", "{ result ≡ 1 }"),
+    ("crates/high/src/laws.rt", "(n : ℕ) → Even n", "(n : ℕ) → Odd n"),
     ("page.md", "| 4 | 6 |", "| 4 | 5 |"),
+    ("laws.md", "| 5 |", "| 6 |"),
 ))
 def test_another_table_is_refused(headline, path, old, new):
     assert headline.call("--write") == 0
@@ -99,6 +118,7 @@ def test_a_comment_counts_nothing(headline):
     assert headline.call("--check") == 0
 
 
-def test_a_page_without_a_place(headline):
-    (headline.folder / "page.md").write_text("no table\n", encoding="utf-8")
+@pytest.mark.parametrize("page", ("page.md", "laws.md"))
+def test_a_page_without_a_place(headline, page):
+    (headline.folder / page).write_text("no table\n", encoding="utf-8")
     assert headline.call("--check") == 2

@@ -28,11 +28,11 @@ RULES, CODES = "docs/RULES.md", "docs/INTEGRATION.md"
 
 # A file, its text, what is there in place of it, and what the tool then says differs.
 CHANGES = (
-    ("crates/vb_monitor/src/answers.rt", "NOT_READY: u32 = 3", "NOT_READY: u32 = 14", [HEADER, f"{CODES}: VB_NOT_READY is 3"]),
+    ("crates/vb_monitor/src/answers.rt", "NOT_READY: u32 = 3", "NOT_READY: u32 = 99", [HEADER, f"{CODES}: VB_NOT_READY is 3"]),
     ("crates/vb_monitor/src/answers.rt", "NOT_READY: u32 = 3", "NOT_READY: u32 = 2",
      ["answers: two codes of one number", HEADER, f"{CODES}: VB_NOT_READY is 3"]),
     ("crates/vb_c/src/kinds.rt", "REPORT: u32 = 3", "REPORT: u32 = 6", [HEADER]),
-    ("crates/vb_c/src/bits.rt", "READ: u32 = 128", "READ: u32 = 512", [HEADER]),
+    ("crates/vb_c/src/bits.rt", "READ: u32 = 128", "READ: u32 = 1048576", [HEADER]),
     ("crates/vb_c/src/places.rt", "EMPTY: u32 = 2", "EMPTY: u32 = 4", [HEADER]),
     ("crates/vb_chain/src/fault.rt", "BadPage = 9", "BadPage = 11", [HEADER, REFERENCE, BACKEND, f"{RULES}: BadPage is 9"]),
     ("crates/vb_chain/src/fault.rt", '"no such page"', '"no page"', [HEADER, BACKEND]),
@@ -114,10 +114,10 @@ def test_a_change_in_one_place_is_refused_by_name(copy, path, old, new, wanted):
 
 
 def test_a_change_of_the_owner_is_written_to_all_tables(copy):
-    copy.change("crates/vb_c/src/bits.rt", "COPY: u32 = 256", "COPY: u32 = 512")
+    copy.change("crates/vb_c/src/bits.rt", "COPY: u32 = 256", "COPY: u32 = 1048576")
     copy.change("crates/vb_chain/src/fault.rt", "BadPage = 9", "BadPage = 11")
     assert copy.call("--write") == (1, [f"{RULES}: BadPage is 9"])
-    assert "VB_COPY = 512, " in copy.text("crates/vb_c/vb.h")
+    assert "VB_COPY = 1048576, " in copy.text("crates/vb_c/vb.h")
     assert "10 a reserved page; 11 no such page. */" in " ".join(copy.text("crates/vb_c/vb.h").replace("\n *", "").split())
     assert "RESERVED_PAGE = 10, BAD_PAGE = 11 };" in copy.text("monitor/reference/reference.h")
     assert '[11] = "no such page",\n' in copy.text("monitor/backends/guest/backend.c")

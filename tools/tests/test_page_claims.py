@@ -1,6 +1,5 @@
 """Tests that tools/lib/page_claims.py refuses each kind of false claim: a page, or what it is about, is changed in one place."""
 
-import os
 import re
 
 import pytest
@@ -14,6 +13,9 @@ CHANGES = (
     ("counts", "docs/LINUX.md", r"`tools/test linux` \| \w+ runs", "`tools/test linux` | no runs", "'no' in place of"),
     ("packages", "README.md", r"make gcc g\+\+ clang", "make gcc clang", "README.md: packages"),
     ("packages", "tools/release", r"binutils", "binutils zip", "tools/release: packages"),
+    ("packages", "README.md", r"python3-pytest python3-pytest-timeout ", "python3-pytest ", "tools/lib/suites.py: packages"),
+    ("packages", "tools/lib/gate_steps.py", r"gcc g\+\+ clang", "gcc clang", "tools/lib/gate_steps.py: packages"),
+    ("wanted", "monitor/tests/control/test_watch.py", r"apt-get install tmux", "apt-get install screen", "control wants screen"),
     ("times", "README.md", r"\| 20 seconds \|", "| 30 seconds |", "takes"),
     ("times", "monitor/README.md", r"## Tests\n", "## Tests\n\nThey take two minutes.\n", "a time belongs into"),
     ("listings", "README.md", r"if \(result\.interrupts\)", "if (result.interrupt)", "README.md: a listing isn't in"),

@@ -37,7 +37,7 @@ OF_ALL = (
      ["crates/a/data/b.antt", "docs/a/src/lib.rt", "docs/examples/crates.txt"]),
     ("strays", {"crates.txt": "a: b\n", "crates/a/src/b/lib.rt": "", "crates/a/proofs/b/C.antt": "", "docs/a/src/lib.rt.in": ""}, []),
     ("lengths", {"tools/lib/a.py": "\n" * 351}, ["tools/lib/a.py: 351 lines"]),
-    ("lengths", {"tools/lib/a.py": "\n" * 350, "crates/a/src/tests.rt": "\n" * 351}, []),
+    ("lengths", {"tools/lib/a.py": "\n" * 350, "crates/a/src/tests.rt": "\n" * 351, "monitor/tests/a/test_b.py": "\n" * 351}, []),
     ("writes", {"monitor/backends/guest/a.c": WRITER % "device->status = 3"}, ["monitor/backends/guest/a.c:3: device->status = 3;"]),
     ("writes", {"monitor/backends/guest/a.c": WRITER % "*device = other"}, ["monitor/backends/guest/a.c:3: *device = other;"]),
     ("writes", {"monitor/backends/guest/a.c": WRITER % "memset(device, 0, 5)"}, ["monitor/backends/guest/a.c:3: memset(device, 0, 5);"]),

@@ -2,6 +2,7 @@
 `rt` there is a program that takes the crate for proved while a part of a definition is there."""
 
 import os
+import re
 import shutil
 import subprocess
 
@@ -11,6 +12,7 @@ from page_claims import ROOT
 TREE = {
     "crates.txt": "low:\n", "HANDLES": "",
     "crates/low/src/lib.rt": "#![tactic(auto)]\n\npub mod even;\n",
+    "crates/low/src/laws.rt": "pub fn few_are_small()\n    ensures { (n : ℕ) → IsSmall n → IsFew (n + n) n }\n{}\n",
     "crates/low/specs/Lib.antt": "pub mod Even\npub mod Small\n",
     "crates/low/specs/Even.antt": """use Rattle.std.specs.Prelude.{ℕ, ◌≡◌, ◌≤◌}
 
@@ -24,6 +26,18 @@ pub IsSmall : ℕ → Type 0
 IsSmall n = n ≤ 10
 """,
     "crates/low/proofs/EvenFacts.antt": "four : IsFew 4 2\n",
+    "crates/low/proofs/SmallFacts.antt": """four : IsSmall 4
+four = omega arith
+
+eleven : IsSmall 11 → ⊥
+eleven h = omega (arith, h)
+
+neither : (IsSmall 11 → ⊥) × (IsSmall 12 → ⊥)
+neither = ((λ h. omega (arith, h)), λ h. omega (arith, h))
+
+one_less : (n : ℕ) → IsSmall (suc n) → IsSmall n
+one_less n h = omega (arith, h)
+""",
 }
 
 # The most of the time that a run takes.
@@ -41,12 +55,14 @@ def weaken(tmp_path):
     programs = tmp_path / "programs"
     programs.mkdir()
 
-    def call(*words, demands=(), of_all=()):
+    def call(*words, demands=(), of_all=(), objects=()):
         facts = " && ".join(f"grep -qF '{it}' specs/*.antt" for it in demands) or "true"
         whole = " && ".join(f"grep -qF '{it}' specs/*.antt" for it in of_all) or "true"
+        errors = "".join(f"./proofs/SmallFacts.antt:1:1: error: `{it}`: no\\n" for it in objects)
         program = programs / "rt"
         program.write_text(
             "#!/bin/sh\ncase \"$*\" in *--only*) said='only=1 proved=1';; *) said='logic=proved';; esac\n"
+            f"case \"$*\" in *--allow-holes*) printf '{errors}'; exit 1;; esac\n"
             f"{{ {facts}; }} && {{ case \"$*\" in *--only*) true;; *) {whole};; esac; }} && echo $said && exit 0\necho 'Facts.antt:1:1: error: no'; exit 1\n",
             encoding="utf-8",
         )
@@ -54,7 +70,7 @@ def weaken(tmp_path):
         environment = {**os.environ, "PATH": f"{programs}:{os.environ['PATH']}"}
         words = [str(tmp_path / "tools/weaken-definitions"), "low", *words]
         ran = subprocess.run(words, env=environment, capture_output=True, text=True, timeout=LIMIT)
-        said = [it.partition(" (")[0] for it in ran.stdout.splitlines()]
+        said = [re.sub(r" \(\d+ s\).*", "", it) for it in ran.stdout.splitlines()]
         return ran.returncode, said or [ran.stderr.strip()]
 
     return call
@@ -96,3 +112,18 @@ def test_other_definitions(weaken):
     small = [f"Small.antt:4 IsSmall: `IsSmall n = n {it}`" for it in ("< 10", "≤ 11", "≤ 9")]
     status, said = weaken("--others", "--list")
     assert (status, sorted(said)) == (0, few + small)
+
+
+STRONGER = [f"Small.antt:4 IsSmall: `IsSmall n`: {it}" for it in ("it never holds", "not where n is (suc n)")]
+
+
+def test_stronger_definitions(weaken):
+    assert weaken("--stronger", "--list") == (0, STRONGER)
+    wanted = [f"refused {it}" for it in STRONGER]
+    assert weaken("--stronger", objects=("eleven", "four")) == (0, [*wanted, "weaken-definitions: 2 definitions, 2 tried, 0 got through"])
+
+
+@pytest.mark.parametrize("objects", ((), ("eleven",), ("neither",), ("one_less",)))
+def test_no_positive_fact_objects(weaken, objects):
+    last = "weaken-definitions: 2 definitions, 1 tried, 1 got through"
+    assert weaken("--stronger", objects=objects) == (1, [f"THROUGH {STRONGER[0]}", last])
