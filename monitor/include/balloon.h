@@ -32,17 +32,26 @@ struct balloon_region {
     uint64_t page_size;         /* bytes of the pages of the machine that back it: 4096 (or 0) to 1 GiB, a power of two */
 };
 
+/* A notice that pauses amid a chain, and the pieces of this chain. */
+struct balloon_pause {
+    VbNotice notice;
+    VbPiece pieces[VB_MAX_PIECES];
+};
+
 struct balloon {
     VbBalloon state;            /* all that a device is: plain data, which may be copied; balloon_save makes bytes of it */
     const struct balloon_region *regions;   /* the monitor's; they stay while the balloon uses them */
     size_t region_count;
     VbRegion places[BALLOON_MOST_REGIONS];  /* the same, as the library sees them */
-    /* What a monitor may set after balloon_init; each hook may be NULL. They get `context`. */
-    uint32_t most_chains, most_pages;   /* a notice begins no further chain after these: at first 256, and any number */
+    /* What a monitor may set after balloon_init; each hook may be NULL. They get `context`. A hook may call the balloon: where that resets
+     * the device, or moves the notice's queue, the notice makes no access any longer (VB_STALE); where it ends a round of hints, none of
+     * its pages is discarded any longer. In a hook no further notice begins (the result has `more`), and regions stay. */
+    uint32_t most_chains, most_pages;   /* a notice begins no further chain after these, and pauses amid one after this many numbers, at the
+                                         * end of a portion: at first 256, and any number */
     bool keeps_pages;           /* no page is discarded (counted: kept), as under a passed-through device; may be set at any time */
     void *context;
-    /* These pages are given up (VB_INFLATE) or free (VB_REPORT, and VB_HINT until its round ends), before any of them is discarded; or
-     * requested back (VB_DEFLATE).
+    /* These pages are given up (VB_INFLATE) or free (VB_REPORT, VB_HINT), before any of them is discarded; or requested back
+     * (VB_DEFLATE). A driver may take hinted pages back at any time, by writing to them.
      * It is called once for each portion of 256 numbers of a request, which is given back once, after the last portion. */
     void (*on_pages)(void *context, uint32_t kind, const VbRun *runs, uint32_t count);
     /* The guest told its statistics, any tags in any order. */
@@ -58,6 +67,7 @@ struct balloon {
     /* The set of the pages of the deflate that is held, beside `ballooned` where the settings say holds_deflates, in as many words: they
      * leave that set once the deflate is granted. Zeros at first. Save and restore it beside that set. */
     uint64_t *deflating;
+    struct balloon_pause paused[2];     /* of inflates and of deflates; `what` is 0 where none does */
     VbNotice notice;            /* what is to be done */
     VbRoom room;                /* the private copies, and what the library makes of them */
 };
@@ -68,7 +78,7 @@ struct balloon_result {
     uint32_t rule, chains;      /* of VB_BROKEN; how many were served */
     uint32_t interrupts;        /* bit 1 << kind: interrupt for a used buffer of this queue */
     bool configuration;         /* tell of a change of configuration: the device needs a reset */
-    bool more;                  /* as much was served as a notice may, and more is available: call again, later */
+    bool more;                  /* as much was served as a notice may, and more is available, of a chain or of the queue: call again, later */
     bool held;                  /* a deflate is held now, of `held_pages` pages: balloon_give_deflate grants it */
     uint32_t held_pages;
     uint64_t pages, discarded;  /* named by inflates, deflates, reports and hints; of these, discarded */
@@ -76,7 +86,8 @@ struct balloon_result {
     uint64_t skipped;           /* numbers past the end or of reserved pages */
     uint64_t late;              /* pages of hints that came while no round was open: they aren't named */
     uint64_t marked, unmarked;  /* pages put into the set of ballooned pages, or taken out; those that the sets haven't words for */
-    uint64_t in_holes, kept;    /* in no region; not discarded, by `error`, keeps_pages, or as reports stay (vb_keeps_reports), or hints */
+    uint64_t in_holes, kept;    /* in no region; not discarded, by `error`, keeps_pages, or as reports stay (vb_keeps_reports), or hints;
+                                   or as a hook called the balloon (vb_recheck) */
     int error;
 };
 
@@ -137,8 +148,18 @@ static inline void balloon_discard(const struct balloon *balloon, const VbCut *p
     result->error = error ? error : result->error;
 }
 
-/* Tells the pages that are named, and keeps the set of those in the balloon: those of a deflate that is held stay in it. */
-static inline void balloon_tell_pages(struct balloon *balloon, struct balloon_result *result)
+/* After a hook, which may have called the balloon: what is still to be done of `what`. What isn't discarded then is kept. */
+static inline uint32_t balloon_recheck(const struct balloon *balloon, uint32_t what, struct balloon_result *result)
+{
+    const uint32_t still = what & vb_recheck(&balloon->notice, &balloon->state);
+    if ((what ^ still) & VB_DISCARD)
+        result->kept = result->pages - result->discarded - result->waiting;
+    return still;
+}
+
+/* Tells the pages that are named, and keeps the set of those in the balloon: those of a deflate that is held stay in it. Whether a hook
+ * was called. */
+static inline bool balloon_tell_pages(struct balloon *balloon, struct balloon_result *result)
 {
     const VbNotice *notice = &balloon->notice;
     const uint32_t kind = notice->waits ? (uint32_t)VB_INFLATE : notice->kind;      /* what waits is put into its set */
@@ -151,8 +172,10 @@ static inline void balloon_tell_pages(struct balloon *balloon, struct balloon_re
         marked = vb_mark(kind, balloon->room.runs, notice->runs, set, set ? balloon->ballooned_words : 0);
     result->marked += notice->waits ? 0 : marked.pages;
     result->unmarked += marked.code == VB_BAD_ARGUMENT ? notice->pages : 0;
-    if (balloon->on_pages && (notice->runs > 0 || notice->kind != VB_HINT))
+    const bool told = balloon->on_pages && (notice->runs > 0 || notice->kind != VB_HINT);
+    if (told)
         balloon->on_pages(balloon->context, notice->kind, balloon->room.runs, notice->runs);
+    return told;
 }
 
 /* Publishes a used element: its two numbers, the fence, then the index. */
@@ -165,21 +188,29 @@ static inline void balloon_give_back(const struct balloon *balloon)
     *(volatile balloon_word16 *)balloon_at(balloon, notice->index_at) = htole16(notice->used_index);
 }
 
-/* Tells, discards and gives back. */
-static inline void balloon_serve(struct balloon *balloon, uint32_t what, struct balloon_result *result)
+/* Tells, discards and gives back; what is still to be done then. */
+static inline uint32_t balloon_serve(struct balloon *balloon, uint32_t what, struct balloon_result *result)
 {
-    if (what & VB_TELL_PAGES)
-        balloon_tell_pages(balloon, result);
-    if (what & VB_TELL_FIGURES && balloon->on_statistics)
+    result->chains += (what & VB_TELL_FIGURES) != 0;
+    if (what & VB_TELL_PAGES && balloon_tell_pages(balloon, result))
+        what = balloon_recheck(balloon, what, result);
+    if (what & VB_TELL_FIGURES && balloon->on_statistics) {
         balloon->on_statistics(balloon->context, balloon->room.figures, balloon->notice.figures);
-    if (what & VB_TELL_ID && balloon->on_hint_id)
+        what = balloon_recheck(balloon, what, result);
+    }
+    if (what & VB_TELL_ID && balloon->on_hint_id) {
         balloon->on_hint_id(balloon->context, balloon->notice.hint_id);
+        what = balloon_recheck(balloon, what, result);
+    }
     const VbCut *part = balloon->room.cuts;
-    for (uint32_t i = 0; what & VB_DISCARD && i < balloon->notice.cuts; i++, part++)
+    for (uint32_t i = 0; what & VB_DISCARD && i < balloon->notice.cuts; i++, part++) {
         balloon_discard(balloon, part, result);
+        what = balloon->discard ? balloon_recheck(balloon, what, result) : what;
+    }
     if (what & VB_GIVE_BACK)
         balloon_give_back(balloon);
-    result->chains += (what & (VB_TELL_FIGURES | VB_GIVE_BACK)) != 0;
+    result->chains += (what & VB_GIVE_BACK) != 0;
+    return what;
 }
 
 /* Does each thing that is to be done, in the order of the bits of `what`; answers the word that was read, if one was. */
@@ -189,7 +220,7 @@ static inline uint16_t balloon_perform(struct balloon *balloon, uint32_t what, s
     uint16_t answer = 0;
     if (what != VB_COPY) {
         if (what & (VB_TELL_PAGES | VB_TELL_FIGURES | VB_TELL_ID | VB_DISCARD | VB_GIVE_BACK))
-            balloon_serve(balloon, what, result);
+            what = balloon_serve(balloon, what, result);
         if (what & VB_ACQUIRE)
             __atomic_thread_fence(__ATOMIC_ACQUIRE);
         if (what & VB_FULL_FENCE)
@@ -202,12 +233,61 @@ static inline uint16_t balloon_perform(struct balloon *balloon, uint32_t what, s
     return answer;
 }
 
-/* Obeys until the notice has ended. */
+/* What is to be done next, where this was the answer. */
+static inline uint32_t balloon_go_on(struct balloon *balloon, uint16_t answer)
+{
+    return vb_go_on(&balloon->notice, &balloon->state, balloon->places, balloon->region_count, &balloon->room, answer);
+}
+
+/* Obeys until the notice has ended, or pauses. */
 static inline void balloon_obey(struct balloon *balloon, struct balloon_result *result)
 {
-    for (uint32_t what = balloon->notice.what; what;)
-        what = vb_go_on(&balloon->notice, &balloon->state, balloon->places, balloon->region_count, &balloon->room,
-                        balloon_perform(balloon, what, result));
+    for (uint32_t what = balloon->notice.what; what;) {
+        const uint16_t answer = balloon_perform(balloon, what, result);
+        if (what & VB_PAUSE && vb_recheck(&balloon->notice, &balloon->state) & VB_PAUSE)
+            return;
+        what = balloon_go_on(balloon, answer);
+    }
 }
+
+/* ---- pauses */
+
+/* Where the notice of a queue of this kind is kept that pauses: there is none for other kinds than those of requests. */
+static inline struct balloon_pause *balloon_pause_of(struct balloon *balloon, uint32_t kind)
+{
+    return kind <= VB_DEFLATE ? &balloon->paused[kind] : NULL;
+}
+
+/* Forgets a notice that pauses: its chain begins again from its first number. */
+static inline void balloon_forget_pause(struct balloon *balloon, uint32_t kind)
+{
+    struct balloon_pause *pause = balloon_pause_of(balloon, kind);
+    if (pause)
+        pause->notice.what = 0;
+}
+
+/* Keeps the notice, which pauses: other notices need its room. */
+static inline void balloon_keep_pause(struct balloon *balloon)
+{
+    struct balloon_pause *pause = balloon_pause_of(balloon, balloon->notice.kind);
+    if (pause) {
+        pause->notice = balloon->notice;
+        memcpy(pause->pieces, balloon->room.pieces, sizeof pause->pieces);
+    }
+    balloon->notice.what = 0;
+}
+
+/* Continues the notice of this queue that pauses; false where none does, or its device is another one by now (VB_STALE). */
+static inline bool balloon_continue(struct balloon *balloon, uint32_t kind)
+{
+    struct balloon_pause *pause = balloon_pause_of(balloon, kind);
+    if (!pause || !pause->notice.what)
+        return false;
+    balloon->notice = pause->notice;
+    memcpy(balloon->room.pieces, pause->pieces, sizeof pause->pieces);
+    pause->notice.what = 0;
+    return balloon_go_on(balloon, 0) || balloon->notice.code != VB_STALE;
+}
+
 #include "balloon_calls.h"
 #endif

@@ -1,4 +1,4 @@
-/* What a monitor calls, a part of balloon.h. Nothing here touches guest memory.
+/* What a monitor calls, a part of balloon.h, whose functions alone touch guest memory.
  *
  * A monitor calls balloon_init once, hands each of its driver's accesses to the function of that name, and does what a result
  * says. One call at a time on a balloon; guests may write to their memory during any call. */
@@ -27,29 +27,52 @@ static inline struct balloon_result balloon_result_of(uint32_t code)
 
 /* ---- notices */
 
-/* Obeys a notice that has begun; what it came to. */
+/* What a notice came to that has ended. */
+static inline void balloon_say_end(const VbNotice *notice, struct balloon_result *result)
+{
+    result->code = notice->code;
+    result->rule = notice->rule;
+    result->interrupts = notice->interrupt << (notice->kind & 7);
+    result->configuration = notice->configuration != 0;
+    result->more = notice->more != 0;
+    result->held = notice->taken && !notice->given && notice->code == VB_OK && notice->kind == VB_DEFLATE;
+    result->held_pages = result->held ? notice->taken_pages : 0;
+}
+
+/* Obeys a notice that has begun; what it came to, or has until it pauses. */
 static inline struct balloon_result balloon_finish(struct balloon *balloon)
 {
     const VbNotice *notice = &balloon->notice;
     struct balloon_result result = balloon_result_of(VB_NOTHING);
     balloon_obey(balloon, &result);
-    result.code = notice->code;
-    result.rule = notice->rule;
-    result.interrupts = notice->interrupt << (notice->kind & 7);
-    result.configuration = notice->configuration != 0;
-    result.more = notice->more != 0;
-    result.held = notice->taken && !notice->given && notice->code == VB_OK && notice->kind == VB_DEFLATE;
-    result.held_pages = result.held ? notice->taken_pages : 0;
+    if (notice->what & VB_PAUSE) {
+        balloon_keep_pause(balloon);
+        result.code = VB_OK;
+        result.more = true;
+    } else {
+        balloon_say_end(notice, &result);
+    }
     result.in_holes = notice->kind == VB_DEFLATE ? 0 : result.pages - result.discarded - result.kept - result.waiting;
     return result;
 }
 
-/* The driver kicked the queue of this kind: serves what is available, at most as much as a notice may. Take the kick before: what
- * the driver publishes meanwhile waits for its next one. */
+/* What a notice comes to that would begin in a hook: it is to begin later. */
+static inline struct balloon_result balloon_later(void)
+{
+    struct balloon_result result = balloon_result_of(VB_NOTHING);
+    result.more = true;
+    return result;
+}
+
+/* The driver kicked the queue of this kind: serves what is available, at most as much as a notice may, and continues the notice of this
+ * queue that pauses. Take the kick before: what the driver publishes meanwhile waits for its next one. */
 static inline struct balloon_result balloon_notify(struct balloon *balloon, uint32_t kind)
 {
-    vb_begin(&balloon->notice, &balloon->state, balloon->places, balloon->region_count, &balloon->room, kind,
-             balloon->most_chains, balloon->most_pages, balloon->keeps_pages);
+    if (balloon->notice.what)
+        return balloon_later();
+    if (!balloon_continue(balloon, kind))
+        vb_begin(&balloon->notice, &balloon->state, balloon->places, balloon->region_count, &balloon->room, kind,
+                 balloon->most_chains, balloon->most_pages, balloon->keeps_pages);
     return balloon_finish(balloon);
 }
 
@@ -63,6 +86,8 @@ static inline struct balloon_result balloon_notify_number(struct balloon *balloo
  * VB_NOTHING: the driver has the buffer. */
 static inline struct balloon_result balloon_ask_statistics(struct balloon *balloon)
 {
+    if (balloon->notice.what)
+        return balloon_later();
     vb_give_held(&balloon->notice, &balloon->state, balloon->places, balloon->region_count, &balloon->room, VB_STATISTICS);
     return balloon_finish(balloon);
 }
@@ -95,6 +120,8 @@ static inline struct balloon_result balloon_give_deflate(struct balloon *balloon
     const size_t words = balloon->ballooned_words;
     uint32_t named;
     uint64_t marked = 0;
+    if (balloon->notice.what)
+        return balloon_later();
     if (!balloon_held_deflate(balloon, &named))
         return balloon_result_of(VB_NOTHING);
     if (!balloon_may_unmark(balloon, named))
@@ -174,12 +201,12 @@ static inline uint32_t balloon_init(struct balloon *balloon, const struct balloo
 }
 
 /* These regions are guest memory from now on, and it ends where the last one does. VB_OK, or VB_BAD_ARGUMENT where
- * no device has such memory; then nothing is changed. A driver whose rings lay elsewhere has to reset the device. */
+ * no device has such memory, or in a hook; then nothing is changed. A driver whose rings lay elsewhere has to reset the device. */
 static inline uint32_t balloon_set_regions(struct balloon *balloon, const struct balloon_region *regions, size_t count)
 {
     VbRegion places[BALLOON_MOST_REGIONS];
     memset(places, 0, sizeof places);
-    if (!balloon_places(places, regions, count) || vb_set_regions(&balloon->state, places, count) != VB_OK)
+    if (balloon->notice.what || !balloon_places(places, regions, count) || vb_set_regions(&balloon->state, places, count) != VB_OK)
         return VB_BAD_ARGUMENT;
     memcpy(balloon->places, places, sizeof places);
     balloon->regions = regions;
@@ -203,9 +230,12 @@ static inline uint32_t balloon_place(struct balloon *balloon, uint32_t kind, uin
     return vb_place_over(&balloon->state, balloon->places, balloon->region_count, kind, at);
 }
 
-/* A call on a queue of this kind has answered this: where that is VB_OK, it has forgotten what is held of the queue. */
+/* A call on a queue of this kind has answered this: where that is VB_OK, it has forgotten what is held of the queue, and no notice of
+ * it continues. */
 static inline uint32_t balloon_no_longer(struct balloon *balloon, uint32_t kind, uint32_t code)
 {
+    if (code == VB_OK)
+        balloon_forget_pause(balloon, kind);
     if (kind == VB_DEFLATE && code == VB_OK)
         balloon_empty_deflating(balloon);
     return code;
@@ -235,8 +265,10 @@ static inline uint32_t balloon_write_status(struct balloon *balloon, uint8_t sta
     uint32_t then, answer = vb_set_status(&balloon->state, status, &then);
     if (then & VB_EMPTY && balloon->ballooned)
         memset(balloon->ballooned, 0, balloon->ballooned_words * sizeof *balloon->ballooned);
-    if (then & VB_EMPTY)
+    if (then & VB_EMPTY) {
         balloon_empty_deflating(balloon);
+        memset(balloon->paused, 0, sizeof balloon->paused);
+    }
     *result = then & VB_LOOK ? balloon_notify_all(balloon) : balloon_result_of(VB_NOTHING);
     return answer;
 }
@@ -281,7 +313,7 @@ static inline uint32_t balloon_begin_hints(struct balloon *balloon, uint32_t *id
     return vb_begin_hints(&balloon->state.device, id);
 }
 
-/* Stops a round, so that the driver hints no more, and keeps what it hinted free; or ends one, and the driver takes that back: send it
+/* Stops a round, so that the driver hints no more, and may keep what it hinted; or ends one, and the driver takes that back: send it
  * a configuration change notification then. */
 static inline void balloon_stop_hints(struct balloon *balloon)
 {
@@ -307,6 +339,9 @@ static inline uint32_t balloon_save(const struct balloon *balloon, uint8_t *out,
  * changed. */
 static inline uint32_t balloon_restore(struct balloon *balloon, const uint8_t *bytes, size_t length)
 {
-    return vb_restore_over(&balloon->state, balloon->places, balloon->region_count, bytes, length);
+    uint32_t code = vb_restore_over(&balloon->state, balloon->places, balloon->region_count, bytes, length);
+    if (code == VB_OK)
+        memset(balloon->paused, 0, sizeof balloon->paused);
+    return code;
 }
 #endif

@@ -27,6 +27,7 @@ REFERENCE(begin);
 REFERENCE(give_held);
 REFERENCE(held);
 REFERENCE(go_on);
+REFERENCE(recheck);
 REFERENCE(new_over);
 REFERENCE(set_regions);
 REFERENCE(place_over);

@@ -71,7 +71,7 @@ bool find_within(const VbRegion *regions, size_t count, uint64_t address, uint64
 
 /* notices.c and serving.c: what a notice waits for, in its field `phase`, and all that a call works on */
 enum phase { NO_PHASE, AT_INDEX, AT_ENTRY, AT_WORD, AT_DESCRIPTOR, AT_PART, AT_TOLD, AT_FIGURES, AT_CUT, AT_GIVEN, AT_FLAGS,
-             AT_FLAG_WORD, AT_ID };
+             AT_FLAG_WORD, AT_ID, AT_PAUSE };
 typedef struct {
     VbNotice *notice;
     VbBalloon *balloon;

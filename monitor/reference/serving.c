@@ -58,8 +58,19 @@ static bool is_kept(const Call *call)
 /* Whether bytes of the chain weren't copied yet. */
 static bool has_more(const VbNotice *notice) { return notice->piece < notice->count; }
 
-/* What comes once a portion is told and discarded. */
-static uint32_t after_portion(const Call *call) { return has_more(call->notice) ? next_portion(call) : give_back(call); }
+/* What comes once a portion is told and discarded, of whose chain there is more: a pause where no more pages may be named. */
+static uint32_t go_further(const Call *call)
+{
+    return call->notice->pages_left == 0 ? wait_for(call, AT_PAUSE, VB_PAUSE) : next_portion(call);
+}
+
+static uint32_t after_portion(const Call *call) { return has_more(call->notice) ? go_further(call) : give_back(call); }
+
+static uint32_t after_pause(const Call *call)
+{
+    call->notice->pages_left = call->notice->most_pages;
+    return next_portion(call);
+}
 
 /* Asks for the next part of a run, from run `number` and region `from` on. */
 static uint32_t ask_cut(const Call *call)
@@ -102,6 +113,7 @@ static void take(const Call *call)
 uint32_t tell_pages(const Call *call, const Named *named)
 {
     VbNotice *notice = call->notice;
+    const uint64_t numbers = (uint64_t)named->pages + named->skipped;
     if (named->code != VB_OK) {
         notice->rule = named->rule;
         return end(call, named->code);
@@ -110,7 +122,7 @@ uint32_t tell_pages(const Call *call, const Named *named)
     notice->pages = named->pages;
     notice->skipped = named->skipped;
     notice->kept = is_kept(call) ? named->pages : 0;
-    notice->pages_left = named->pages < notice->pages_left ? notice->pages_left - named->pages : 0;
+    notice->pages_left = numbers < notice->pages_left ? notice->pages_left - (uint32_t)numbers : 0;
     notice->told_pages += named->pages;
     notice->waits = holds_chains(&call->balloon->device, notice->kind);
     notice->number = 0, notice->from = 0;
@@ -123,7 +135,7 @@ static uint32_t after_told(const Call *call)
 {
     if (!call->notice->waits)
         return ask_cut(call);
-    return has_more(call->notice) ? next_portion(call) : end(call, VB_NOTHING);
+    return has_more(call->notice) ? go_further(call) : end(call, VB_NOTHING);
 }
 
 /* The figures of a statistics buffer, which is held. */
@@ -193,6 +205,7 @@ static uint32_t step(const Call *call, uint16_t answer)
     case AT_PART: return after_part(call);
     case AT_TOLD: return after_told(call);
     case AT_CUT: return ask_cut(call);
+    case AT_PAUSE: return after_pause(call);
     case AT_FIGURES: return end(call, VB_NOTHING);
     case AT_ID: return give_back(call);
     case AT_GIVEN: return after_given(call);
@@ -206,7 +219,7 @@ static uint32_t step(const Call *call, uint16_t answer)
 static uint32_t grouped(const Call *call)
 {
     VbNotice *notice = call->notice, before;
-    while (GROUPS && notice->what && !(notice->what & (VB_READ | VB_COPY))) {
+    while (GROUPS && notice->what && !(notice->what & (VB_READ | VB_COPY | VB_PAUSE))) {
         VbBalloon balloon = *call->balloon;
         VbCut cuts[VB_MAX_CUTS];
         size_t kept = notice->cuts <= VB_MAX_CUTS ? notice->cuts * sizeof cuts[0] : 0;
@@ -224,6 +237,39 @@ static uint32_t grouped(const Call *call)
     return notice->what;
 }
 
+/* All that is to be done at once, and the device as the notice leaves it. */
+static uint32_t hand_over(const Call *call)
+{
+    const VbDevice *device = &call->balloon->device;
+    grouped(call);
+    if (call->queue)
+        call->notice->ring = *call->queue;
+    call->notice->shown = device->round.shown;
+    call->notice->status = device->status;
+    return call->notice->what;
+}
+
+/* The device is as the notice left it: it wasn't reset, and the queue wasn't moved or used. */
+static bool is_current(const VbNotice *notice, const VbDevice *device, const VbQueue *queue)
+{
+    const VbQueue *left = &notice->ring;
+    return notice->status == device->status && left->table == queue->table && left->avail == queue->avail
+        && left->used == queue->used && left->size == queue->size && left->next_avail == queue->next_avail
+        && left->next_used == queue->next_used;
+}
+
+/* Hints are discarded only while their round is open. */
+static bool may_discard(const VbNotice *notice, const VbDevice *device)
+{
+    return notice->kind != VB_HINT || (vb_hints_open(device) && notice->shown == device->round.shown);
+}
+
+static uint32_t stop_stale(const Call *call)
+{
+    call->notice->rule = call->notice->interrupt = call->notice->more = 0;
+    return stop(call, VB_STALE);
+}
+
 uint32_t vb_begin(VbNotice *notice, VbBalloon *balloon, const VbRegion *regions, size_t count, VbRoom *room, uint32_t kind,
                   uint32_t chains, uint32_t pages, uint32_t keeps)
 {
@@ -231,12 +277,12 @@ uint32_t vb_begin(VbNotice *notice, VbBalloon *balloon, const VbRegion *regions,
     memset(notice, 0, sizeof *notice);
     notice->kind = kind;
     notice->chains_left = chains;
-    notice->pages_left = pages;
+    notice->pages_left = notice->most_pages = pages;
     notice->keeps = keeps != 0;
     if (!call.queue)
         return stop(&call, VB_NO_QUEUE);
     is_held(balloon, kind) ? stop(&call, VB_NOTHING) : look(&call);
-    return grouped(&call);
+    return hand_over(&call);
 }
 
 uint32_t vb_give_held(VbNotice *notice, VbBalloon *balloon, const VbRegion *regions, size_t count, VbRoom *room, uint32_t kind)
@@ -252,12 +298,26 @@ uint32_t vb_give_held(VbNotice *notice, VbBalloon *balloon, const VbRegion *regi
     notice->head = head > UINT16_MAX ? UINT16_MAX : (uint16_t)head;
     notice->taken = 1;
     give_back(&call);
-    return grouped(&call);
+    return hand_over(&call);
 }
 
 uint32_t vb_go_on(VbNotice *notice, VbBalloon *balloon, const VbRegion *regions, size_t count, VbRoom *room, uint16_t answer)
 {
     const Call call = { notice, balloon, queue_of(&balloon->device, notice->kind), regions, count, room };
-    step(&call, answer);
-    return grouped(&call);
+    if (call.queue && !is_current(notice, &balloon->device, call.queue))
+        return stop_stale(&call);
+    if (notice->phase == AT_CUT && !may_discard(notice, &balloon->device))
+        after_portion(&call);
+    else
+        step(&call, answer);
+    return hand_over(&call);
+}
+
+uint32_t vb_recheck(const VbNotice *notice, const VbBalloon *balloon)
+{
+    VbDevice device = balloon->device;
+    const VbQueue *queue = queue_of(&device, notice->kind);
+    if (!queue || !is_current(notice, &device, queue))
+        return 0;
+    return may_discard(notice, &device) ? notice->what : notice->what & ~(uint32_t)VB_DISCARD;
 }

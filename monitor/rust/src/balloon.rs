@@ -1,6 +1,7 @@
 //! The calls of a monitor.
 
 use crate::obey::{Hands, LiveMemory, Monitor};
+use crate::pause::Pause;
 use crate::settings::{features, refusal, Denied, Kind, Refusal, Settings};
 use crate::state::{state_error, State, StateError};
 use crate::{raw, QueueStart, Served, PAGE};
@@ -13,7 +14,8 @@ pub struct Balloon {
     pub(crate) room: Box<raw::Room>,
     /// A notice begins no further chain after this many: 256 at first.
     pub most_chains: u32,
-    /// A notice begins no further chain after this many pages: any number at first.
+    /// A notice begins no further chain after this many pages, and pauses amid one after this many numbers, at the end of a portion: any
+    /// number at first.
     pub most_pages: u32,
     /// No page is discarded, as under a passed-through device: what is named is told, and stays. Not so at first.
     pub keeps_pages: bool,
@@ -23,6 +25,8 @@ pub struct Balloon {
     /// The set of the pages of the deflate that is held, where the settings say `holds_deflates`: as many words as `ballooned`, zeros
     /// at first. They leave that set once the deflate is granted. Save it beside that set.
     pub deflating: Vec<u64>,
+    /// The notices that pause, of inflates and of deflates.
+    pub paused: Box<[Pause; 2]>,
 }
 
 impl Balloon {
@@ -61,6 +65,7 @@ impl Balloon {
             keeps_pages: false,
             ballooned: Vec::new(),
             deflating: Vec::new(),
+            paused: Box::default(),
         }
     }
 
@@ -162,6 +167,7 @@ impl Balloon {
         if then & raw::EMPTY != 0 {
             self.ballooned.fill(0);
             self.deflating.fill(0);
+            self.paused = Box::default();
         }
         let mut all = Served::default();
         if then & raw::LOOK != 0 {
@@ -220,7 +226,7 @@ impl Balloon {
         // SAFETY: the pointers are of a `&mut` and of a slice with its length.
         match unsafe { raw::vb_start_queue(state, regions.as_ptr(), regions.len(), kind as u32, at) } {
             raw::OK => {
-                self.empty_deflating(kind);
+                self.forget_chain(kind);
                 Ok(())
             }
             code => Err(refusal(code, 0)),
@@ -237,7 +243,7 @@ impl Balloon {
         // SAFETY: the pointers are of two `&mut`.
         match unsafe { raw::vb_stop_queue(&mut self.state.0, kind as u32, &mut next) } {
             raw::OK => {
-                self.empty_deflating(kind);
+                self.forget_chain(kind);
                 Ok(next)
             }
             code => Err(refusal(code, 0)),
@@ -269,16 +275,18 @@ impl Balloon {
         self.state.0.keeps_reports()
     }
 
-    /// The driver kicked this queue: serves what is available, at most as much as a notice may. Take the kick before: what
-    /// the driver publishes meanwhile waits for its next one.
+    /// The driver kicked this queue: serves what is available, at most as much as a notice may, and continues the notice of this
+    /// queue that pauses. Take the kick before: what the driver publishes meanwhile waits for its next one.
     pub fn notify(&mut self, memory: &dyn LiveMemory, kind: Kind, monitor: &mut dyn Monitor) -> Served {
         let budget = (self.most_chains, self.most_pages, self.keeps_pages);
         memory.regions(&mut self.regions);
-        raw::begin(&mut self.notice, &mut self.state.0, &self.regions, &mut self.room, kind as u32, budget);
+        if !self.continue_paused(kind) {
+            raw::begin(&mut self.notice, &mut self.state.0, &self.regions, &mut self.room, kind as u32, budget);
+        }
         self.finish(memory, monitor)
     }
 
-    /// Obeys a notice that has begun; what it came to.
+    /// Obeys a notice that has begun; what it came to, or has until it pauses.
     pub(crate) fn finish(&mut self, memory: &dyn LiveMemory, monitor: &mut dyn Monitor) -> Served {
         let Balloon { state, regions, notice, room, ballooned, deflating, .. } = self;
         let balloon = &mut state.0;
@@ -292,16 +300,27 @@ impl Balloon {
             served.stopped = Some(Refusal::Unreachable);
             return served;
         }
-        served.stopped = match notice.code {
-            raw::OK | raw::NOTHING => None,
-            code => Some(refusal(code, notice.rule)),
-        };
-        served.interrupts = notice.interrupt << (notice.kind & 7);
-        served.configuration = notice.configuration != 0;
-        served.more = notice.more != 0;
+        if self.keep_pause() {
+            return Served { more: true, ..served };
+        }
+        self.say_end(served)
+    }
+
+    /// What a notice came to that has ended.
+    fn say_end(&self, served: Served) -> Served {
+        let notice = &self.notice;
         let holds = notice.taken != 0 && notice.given == 0 && notice.code == raw::OK && notice.kind == raw::DEFLATE;
-        served.held = holds.then(|| notice.taken_pages);
-        served
+        Served {
+            stopped: match notice.code {
+                raw::OK | raw::NOTHING => None,
+                code => Some(refusal(code, notice.rule)),
+            },
+            interrupts: notice.interrupt << (notice.kind & 7),
+            configuration: notice.configuration != 0,
+            more: notice.more != 0,
+            held: holds.then(|| notice.taken_pages),
+            ..served
+        }
     }
 
     /// The state, and the regions of memory as it is now.

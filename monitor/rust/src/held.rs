@@ -29,7 +29,7 @@ impl Balloon {
         // SAFETY: the pointer is of a `&mut`.
         let forgot = unsafe { raw::vb_forget_held(&mut self.state.0, kind as u32) == raw::OK };
         if forgot {
-            self.empty_deflating(kind);
+            self.forget_chain(kind);
         }
         forgot
     }
@@ -50,13 +50,14 @@ impl Balloon {
         raw::give_held(&mut self.notice, &mut self.state.0, &self.regions, &mut self.room, raw::DEFLATE);
         let served = self.finish(memory, &mut ());
         if served.stopped.is_none() {
-            self.empty_deflating(Kind::Deflate);
+            self.forget_chain(Kind::Deflate);
         }
         Served { marked, ..served }
     }
 
-    /// What was held of this queue is held no longer.
-    pub(crate) fn empty_deflating(&mut self, kind: Kind) {
+    /// What was held of this queue is held no longer, and no notice of it continues.
+    pub(crate) fn forget_chain(&mut self, kind: Kind) {
+        self.forget_pause(kind);
         if kind == Kind::Deflate {
             self.deflating.fill(0);
         }

@@ -18,7 +18,7 @@ impl Balloon {
         }
     }
 
-    /// Stops a round, at any time: the driver hints no more, and keeps what it hinted free.
+    /// Stops a round, at any time: the driver hints no more, and may keep what it hinted.
     pub fn stop_hints(&mut self) {
         // SAFETY: the pointer is of a `&mut`.
         unsafe { raw::vb_stop_hints(&mut self.state.0.device) }

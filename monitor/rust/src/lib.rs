@@ -9,6 +9,7 @@ mod held;
 mod hints;
 pub mod lending;
 mod obey;
+mod pause;
 mod raw;
 mod served;
 mod settings;
@@ -16,6 +17,7 @@ mod state;
 
 pub use balloon::Balloon;
 pub use obey::{Cut, LiveMemory, Monitor, Run, Spot, Statistic, Unreachable};
+pub use pause::Pause;
 pub use raw::{QueueStart, Region};
 pub use served::Served;
 pub use settings::{features, Denied, Kind, Refusal, Settings};

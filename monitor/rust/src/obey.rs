@@ -126,9 +126,23 @@ impl<M: GuestMemory> LiveMemory for M {
 }
 
 /// What a monitor may want to know, or to do in its own way. `()` does nothing of its own.
+///
+/// A hook can't call the balloon, which is borrowed until the notice has ended: do so once it has.
+/// ```compile_fail
+/// # use vb_balloon::{Balloon, Kind, LiveMemory, Monitor, Run};
+/// struct Ending<'a>(&'a mut Balloon);
+/// impl Monitor for Ending<'_> {
+///     fn pages(&mut self, _kind: Kind, _runs: &[Run]) {
+///         self.0.end_hints();
+///     }
+/// }
+/// fn kicked(balloon: &mut Balloon, memory: &dyn LiveMemory) {
+///     balloon.notify(memory, Kind::Hint, &mut Ending(balloon));
+/// }
+/// ```
 pub trait Monitor {
-    /// These pages are given up (inflate) or free (report, and hint until its round ends), before any of them is discarded; or they
-    /// are requested back (deflate).
+    /// These pages are given up (inflate) or free (report, hint), before any of them is discarded; or they are requested back
+    /// (deflate). A driver may take hinted pages back at any time, by writing to them.
     /// It is called once for each portion of 256 numbers of a request, which is given back once, after the last portion.
     fn pages(&mut self, _kind: Kind, _runs: &[Run]) {}
 
@@ -252,10 +266,13 @@ impl Hands<'_> {
         Ok(answer)
     }
 
-    /// Obeys until the notice has ended.
+    /// Obeys until the notice has ended, or pauses.
     pub fn obey(&mut self, notice: &mut Notice, room: &mut Room) -> Result<(), Unreachable> {
         while notice.what != 0 {
             let answer = self.perform(notice, room)?;
+            if notice.what & raw::PAUSE != 0 {
+                break;
+            }
             raw::go_on(notice, self.balloon, self.regions, room, answer);
         }
         Ok(())

@@ -13,7 +13,7 @@ pub struct Served {
     pub stopped: Option<Refusal>,
     /// Tell the driver of a change of configuration: the device needs a reset.
     pub configuration: bool,
-    /// As much was served as a notice may, and more is available: call again, later.
+    /// As much was served as a notice may, and more is available, of a chain or of the queue: call again, later.
     pub more: bool,
     /// A deflate is held now, which names this many pages ([`Balloon::give_deflate`](crate::Balloon::give_deflate) grants it).
     pub held: Option<u32>,

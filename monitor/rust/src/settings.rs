@@ -67,6 +67,8 @@ pub enum Refusal {
     NoQueue,
     Misplaced,
     BadArgument,
+    /// Amid the notice its device was reset, or its queue moved: no hook can, as the balloon is borrowed.
+    Stale,
     /// A `GuestMemory` of the monitor's own failed. The notice wasn't carried out to its end: have the driver reset.
     Unreachable,
 }
@@ -82,6 +84,7 @@ pub(crate) fn refusal(code: u32, rule: u32) -> Refusal {
         raw::NEEDS_RESET => Refusal::NeedsReset,
         raw::NO_QUEUE => Refusal::NoQueue,
         raw::MISPLACED => Refusal::Misplaced,
+        raw::STALE => Refusal::Stale,
         _ => Refusal::BadArgument,
     }
 }

@@ -40,6 +40,7 @@ pub fn codes(why: Refusal) -> (u32, u32) {
         Refusal::NoQueue => (NO_QUEUE, 0),
         Refusal::Misplaced => (6, 0),
         Refusal::BadArgument => (7, 0),
+        Refusal::Stale => (14, 0),
         Refusal::Unreachable => (u32::MAX, 0),
     }
 }
@@ -61,7 +62,8 @@ pub fn state_code(why: StateError) -> u32 {
 
 impl Outcome {
     pub fn of(served: &Served) -> Outcome {
-        let served_code = if served.chains > 0 || served.held.is_some() { OK } else { NOTHING };
+        let pauses = served.more && served.pages + served.skipped > 0;
+        let served_code = if served.chains > 0 || served.held.is_some() || pauses { OK } else { NOTHING };
         let (code, rule) = served.stopped.map_or((served_code, 0), codes);
         Outcome {
             code,

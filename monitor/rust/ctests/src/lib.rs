@@ -12,7 +12,7 @@ use memory::Memory;
 use std::io;
 use std::os::raw::{c_int, c_void};
 use vb_balloon::{Balloon, Cut, Denied, Kind, LiveMemory, Monitor, QueueStart, Refusal, Run, Served, Settings};
-use vb_balloon::{State, Statistic};
+use vb_balloon::{Pause, State, Statistic};
 
 const MOST_REGIONS: usize = 64;
 
@@ -51,6 +51,7 @@ pub struct Struct {
     ballooned: *mut u64,
     ballooned_words: usize,
     deflating: *mut u64,
+    paused: [Pause; 2],
 }
 
 /// `VbSettings`.
@@ -114,6 +115,7 @@ impl Struct {
         balloon.most_chains = self.most_chains;
         balloon.most_pages = self.most_pages;
         balloon.keeps_pages = self.keeps_pages;
+        *balloon.paused = self.paused.clone();
         if !self.ballooned.is_null() {
             balloon.ballooned = std::slice::from_raw_parts(self.ballooned, self.ballooned_words).to_vec();
         }
@@ -123,8 +125,13 @@ impl Struct {
         balloon
     }
 
-    unsafe fn put_back(&mut self, balloon: &Balloon) {
+    fn put_state(&mut self, balloon: &Balloon) {
         self.state = balloon.state();
+        self.paused.clone_from(&balloon.paused);
+    }
+
+    unsafe fn put_back(&mut self, balloon: &Balloon) {
+        self.put_state(balloon);
         if !self.ballooned.is_null() {
             balloon.ballooned.as_ptr().copy_to(self.ballooned, self.ballooned_words);
         }
@@ -321,7 +328,7 @@ pub unsafe extern "C" fn balloon_restore(it: &mut Struct, bytes: *const u8, leng
     match Balloon::restore_bytes(&it.memory(), std::slice::from_raw_parts(bytes, length)) {
         Err(why) => state_code(why),
         Ok(balloon) => {
-            it.state = balloon.state();
+            it.put_state(&balloon);
             OK
         }
     }
