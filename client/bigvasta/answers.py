@@ -46,7 +46,9 @@ def is_text_or_null(value):
 
 def are_counts(value):
     """Whether this is an object whose fields are counts."""
-    return isinstance(value, dict) and all(is_text(name) and is_count(it) for name, it in value.items())
+    return isinstance(value, dict) and all(
+        is_text(name) and is_count(it) for name, it in value.items()
+    )
 
 
 def are_durations(value):
@@ -62,30 +64,60 @@ def fields(kind, names):
 
 SOCKET = fields(is_count, "clients accepted dropped turned_away requests refused")
 HOST = {
-    **fields(is_text, "version folder"), "strict": is_flag, "control": SOCKET, "status": SOCKET,
+    **fields(is_text, "version folder"),
+    "strict": is_flag,
+    "control": SOCKET,
+    "status": SOCKET,
     **fields(is_count, "guests budget floor held lent missing waiting silent uncooperative"),
-    "counters": fields(is_count, "looks above peak decisions changed shorts admitted refused dropped"),
-    "measures": {**fields(are_durations, "waits decisions turns"), "processor": Maybe(are_durations), "above": is_seconds, "gone": are_counts,
-                 "ungranted": Maybe(are_counts)},
+    "counters": fields(
+        is_count, "looks above peak decisions changed shorts admitted refused dropped"
+    ),
+    "measures": {
+        **fields(are_durations, "waits decisions turns"),
+        "processor": Maybe(are_durations),
+        "above": is_seconds,
+        "gone": are_counts,
+        "ungranted": Maybe(are_counts),
+    },
 }
 GUEST = {
-    **fields(is_text, "name socket version state waits_for"), **fields(is_seconds, "waits silent process_silent"), **fields(is_flag, "answers cooperates"),
-    **fields(is_count, "process memory held loan asked excess limit target ballooned free available spare"),
-    "terms": {**fields(is_count, "least priority overhead"), "most": is_limit, "strict": is_flag, "limit": is_text_or_null},
-    "counters": fields(is_count, "inflated deflated reported taken granted clients lost limit_failures"),
+    **fields(is_text, "name socket version state waits_for"),
+    **fields(is_seconds, "waits silent process_silent"),
+    **fields(is_flag, "answers cooperates"),
+    **fields(
+        is_count,
+        "process memory held loan asked excess limit target ballooned free available spare",
+    ),
+    "terms": {
+        **fields(is_count, "least priority overhead"),
+        "most": is_limit,
+        "strict": is_flag,
+        "limit": is_text_or_null,
+    },
+    "counters": fields(
+        is_count, "inflated deflated reported taken granted clients lost limit_failures"
+    ),
 }
 DECISION = {
-    **fields(is_count, "number budget missing"), **fields(is_text, "reason guest"),
+    **fields(is_count, "number budget missing"),
+    **fields(is_text, "reason guest"),
     "shares": [{"guest": is_text, **fields(is_count, "old target")}],
 }
 
 # The answer to each request, an event, and what refuses a request.
 ANSWERS = {
-    "status": {"host": HOST, "guests": [GUEST]}, **dict.fromkeys(("guest", "add", "renew"), {"guest": GUEST}), "budget": {"budget": is_count},
-    "floor": {"floor": is_count}, "log": {"decisions": [DECISION], **fields(is_count, "next lost")},
+    "status": {"host": HOST, "guests": [GUEST]},
+    **dict.fromkeys(("guest", "add", "renew"), {"guest": GUEST}),
+    "budget": {"budget": is_count},
+    "floor": {"floor": is_count},
+    "log": {"decisions": [DECISION], **fields(is_count, "next lost")},
 }
 EVENT = {
-    "event": is_text, "time": is_seconds, **fields(Maybe(is_text), "guest state waits_for reason"), "waits": Maybe(is_seconds), "budget": Maybe(is_count),
+    "event": is_text,
+    "time": is_seconds,
+    **fields(Maybe(is_text), "guest state waits_for reason"),
+    "waits": Maybe(is_seconds),
+    "budget": Maybe(is_count),
     "decision": Maybe(DECISION),
 }
 REFUSAL = {"error": {"code": is_text, "text": is_text, "field": Maybe(is_text)}}
@@ -110,4 +142,6 @@ def wrong_part(kind, value, place=""):
         return None if kind(value) else place
     if not isinstance(value, type(kind)):
         return place
-    return next((found for it in parts(kind, value, place) if (found := wrong_part(*it)) is not None), None)
+    return next(
+        (found for it in parts(kind, value, place) if (found := wrong_part(*it)) is not None), None
+    )

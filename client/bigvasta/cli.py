@@ -14,17 +14,23 @@ from bigvasta.words import plain
 def parser():
     """Returns the command line's parser."""
     words = argparse.ArgumentParser(
-        prog="bigvasta", description="Shows and changes what a host lends to its guests.", epilog=TABLE,
+        prog="bigvasta",
+        description="Shows and changes what a host lends to its guests.",
+        epilog=TABLE,
         formatter_class=argparse.RawDescriptionHelpFormatter,
     )
     words.add_argument("--version", action="version", version=f"bigvasta {__version__}")
     common = argparse.ArgumentParser(add_help=False)
     common.add_argument(
-        "--control", metavar="PATH", default=os.environ.get("BIGVASTA_CONTROL"),
+        "--control",
+        metavar="PATH",
+        default=os.environ.get("BIGVASTA_CONTROL"),
         help=f"the host's socket (what BIGVASTA_CONTROL says; else {CONTROL} for what changes the host, {STATUS} for what shows it)",
     )
     common.set_defaults(changes=lambda asked: False)
-    common.add_argument("--json", action="store_true", help="print the host's answer, an object a line")
+    common.add_argument(
+        "--json", action="store_true", help="print the host's answer, an object a line"
+    )
     commands = words.add_subparsers(metavar="COMMAND", required=True)
     for module in MODULES:
         module.add(commands, common)

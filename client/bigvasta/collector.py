@@ -1,6 +1,11 @@
 """The metrics of a host, made of its status: memory in bytes, time in seconds."""
 
-from prometheus_client.core import CounterMetricFamily, GaugeMetricFamily, HistogramMetricFamily, InfoMetricFamily
+from prometheus_client.core import (
+    CounterMetricFamily,
+    GaugeMetricFamily,
+    HistogramMetricFamily,
+    InfoMetricFamily,
+)
 
 from bigvasta.connection import Connection
 from bigvasta.statuses import Fault
@@ -24,15 +29,27 @@ HOST_TOTALS = (
     ("looks_above_budget", "above", "Looks at which the guests held more than the budget"),
     ("decisions", "decisions", "Decisions about targets"),
     ("targets_changed", "changed", "Targets that were changed"),
-    ("decisions_short", "shorts", "Decisions that found that the guests can't give what is missing"),
+    (
+        "decisions_short",
+        "shorts",
+        "Decisions that found that the guests can't give what is missing",
+    ),
     ("guests_admitted", "admitted", "Guests that found room"),
     ("guests_refused", "refused", "Guests that found no room"),
     ("lines_dropped", "dropped", "Lines of the log that nobody read in time"),
 )
 CONTROL_TOTALS = (
     ("control_clients_accepted", "accepted", "Clients of a control socket that came"),
-    ("control_clients_dropped", "dropped", "Clients of a control socket that were dropped as they left their answers unread"),
-    ("control_clients_turned_away", "turned_away", "Clients of a control socket that came as one too many"),
+    (
+        "control_clients_dropped",
+        "dropped",
+        "Clients of a control socket that were dropped as they left their answers unread",
+    ),
+    (
+        "control_clients_turned_away",
+        "turned_away",
+        "Clients of a control socket that came as one too many",
+    ),
     ("control_requests", "requests", "Requests of a control socket"),
     ("control_requests_refused", "refused", "Requests of a control socket that were refused"),
 )
@@ -68,7 +85,11 @@ GUEST_TOTALS = (
     ("taken_bytes", "taken", "Memory that the guest took out of its balloon unasked"),
     ("granted_bytes", "granted", "Memory that was granted to the guest as it asked for it"),
     ("clients", "clients", "Clients that came to the guest's socket"),
-    ("messages_lost", "lost", "Messages between the host and the guest's process that weren't read in time"),
+    (
+        "messages_lost",
+        "lost",
+        "Messages between the host and the guest's process that weren't read in time",
+    ),
     ("limit_failures", "limit_failures", "Times that the guest's limit couldn't be written"),
 )
 
@@ -105,12 +126,18 @@ def host_metrics(host):
     yield build
     for name, field, what in HOST_BYTES:
         yield gauge(f"{name}_bytes", what, [([], host[field])])
-    yield gauge("held_peak_bytes", "The most memory that all guests' files held at a look", [([], host["counters"]["peak"])])
+    yield gauge(
+        "held_peak_bytes",
+        "The most memory that all guests' files held at a look",
+        [([], host["counters"]["peak"])],
+    )
     for name, field, what in HOST_COUNTS:
         yield gauge(name, what, [([], host[field])])
     for name, field, what in HOST_TOTALS:
         yield counter(name, what, [([], host["counters"][field])])
-    yield gauge("control_clients", "Clients of a control socket", of_sockets(host, "clients"), "socket")
+    yield gauge(
+        "control_clients", "Clients of a control socket", of_sockets(host, "clients"), "socket"
+    )
     for name, field, what in CONTROL_TOTALS:
         yield counter(name, what, of_sockets(host, field), "socket")
 
@@ -118,7 +145,9 @@ def host_metrics(host):
 def guest_metrics(guests):
     """Yields the metrics of the guests."""
     here = [it for it in guests if it["state"] != "absent"]
-    versions = InfoMetricFamily(f"{PREFIX}_guest_process", "Version of the guest's process", labels=["guest"])
+    versions = InfoMetricFamily(
+        f"{PREFIX}_guest_process", "Version of the guest's process", labels=["guest"]
+    )
     for it in here:
         versions.add_metric([it["name"]], {"version": it["version"]})
     yield versions
@@ -129,7 +158,9 @@ def guest_metrics(guests):
     for name, read, what in GUEST_FLAGS:
         yield gauge(f"guest_{name}", what, [([it["name"]], float(read(it))) for it in here])
     for name, field, what in GUEST_TOTALS:
-        yield counter(f"guest_{name}", what, [([it["name"]], it["counters"][field]) for it in guests])
+        yield counter(
+            f"guest_{name}", what, [([it["name"]], it["counters"][field]) for it in guests]
+        )
 
 
 def histogram(name, what, durations):
@@ -155,10 +186,23 @@ def measured_metrics(measures):
     """Yields the metrics of what took time, and of guests that went."""
     for name, field, what in DURATIONS:
         yield histogram(name, what, measures[field])
-    yield counter("grants", "Grants of memory to guests that waited for it", [([], sum(measures["waits"]["counts"]))])
+    yield counter(
+        "grants",
+        "Grants of memory to guests that waited for it",
+        [([], sum(measures["waits"]["counts"]))],
+    )
     ungranted = [([end], count) for end, count in measures.get("ungranted", {}).items()]
-    yield counter("waits_ungranted", "Waits of guests for memory that ended without a grant, by how", ungranted, "end")
-    yield counter("above_budget_seconds", "Time for which the guests held more than the budget", [([], measures["above"])])
+    yield counter(
+        "waits_ungranted",
+        "Waits of guests for memory that ended without a grant, by how",
+        ungranted,
+        "end",
+    )
+    yield counter(
+        "above_budget_seconds",
+        "Time for which the guests held more than the budget",
+        [([], measures["above"])],
+    )
     gone = [([reason], count) for reason, count in measures["gone"].items()]
     yield counter("guest_gone", "Guests that went, by the reason", gone, "reason")
 

@@ -88,7 +88,9 @@ class Connection:
         until = time.monotonic() + self.limit
         try:
             self.socket.settimeout(self.limit)
-            self.socket.sendall(json.dumps({"version": VERSION, "request": request, **fields}).encode() + b"\n")
+            self.socket.sendall(
+                json.dumps({"version": VERSION, "request": request, **fields}).encode() + b"\n"
+            )
         except BrokenPipeError:
             pass  # what it said before it went is read yet
         except OSError as fault:

@@ -49,7 +49,11 @@ def guest_bar(guest, scale, width, blocks):
         return ""
     memory, held = guest["memory"], min(guest["held"], guest["memory"])
     spare = min(max(guest["spare"] - guest["ballooned"], 0), held)
-    parts = [(held - spare) / memory, spare / memory, max(min(guest["loan"], memory) - held, 0) / memory]
+    parts = [
+        (held - spare) / memory,
+        spare / memory,
+        max(min(guest["loan"], memory) - held, 0) / memory,
+    ]
     mark = (memory - guest["target"]) / memory if guest["target"] else None
     return bar(parts, mark, own, blocks) + "]"
 
@@ -72,19 +76,32 @@ def state_line(host, shown, fault):
     if fault:
         return Line(f"no host answers, and this was its last word: {fault}", "warning")
     names = [(host[it], it) for it in ("waiting", "silent", "uncooperative")]
-    parts = [f"{host['guests']} guests", *(f"{count} {name}" for count, name in names if count), f"by {shown.sort}"]
-    return Line(", ".join(parts) + (", paused" if shown.paused else ""), "warning" if host["waiting"] or host["uncooperative"] else "plain")
+    parts = [
+        f"{host['guests']} guests",
+        *(f"{count} {name}" for count, name in names if count),
+        f"by {shown.sort}",
+    ]
+    return Line(
+        ", ".join(parts) + (", paused" if shown.paused else ""),
+        "warning" if host["waiting"] or host["uncooperative"] else "plain",
+    )
 
 
 def ordered(guests, sort):
     """Returns the guests in the order that was chosen."""
-    keys = {"name": lambda it: it["name"], "held": lambda it: (-it["held"], it["name"]), "waits": lambda it: (-it["waits"], it["name"])}
+    keys = {
+        "name": lambda it: it["name"],
+        "held": lambda it: (-it["held"], it["name"]),
+        "waits": lambda it: (-it["waits"], it["name"]),
+    }
     return sorted(guests, key=keys[sort])
 
 
 def guest_line(guest, scale, width, shown):
     """Returns the line of a guest: its numbers, its bar, and what it waits for."""
-    numbers = "".join(f"{mebibytes(guest[it]):>{NUMBER_WIDTH}}" for it in ("held", "loan", "target", "spare"))
+    numbers = "".join(
+        f"{mebibytes(guest[it]):>{NUMBER_WIDTH}}" for it in ("held", "loan", "target", "spare")
+    )
     wait = wait_of(guest) if guest["state"] != "absent" else "absent"
     room = max(width - NAME_WIDTH - 4 * NUMBER_WIDTH - 18, 8)
     text = f"{guest['name'][:NAME_WIDTH]:<{NAME_WIDTH}}{numbers}  {guest_bar(guest, scale, room - 1, shown.blocks):<{room}} {wait}"
@@ -93,10 +110,17 @@ def guest_line(guest, scale, width, shown):
 
 def picture(status, width, height, shown, fault=""):
     """Returns the lines of a screen; `fault` is why there is no newer status."""
-    host, guests, room_across, width = status["host"], status["guests"], width, max(width, LEAST_WIDTH)
+    host, guests, room_across, width = (
+        status["host"],
+        status["guests"],
+        width,
+        max(width, LEAST_WIDTH),
+    )
     scale = max((it["memory"] for it in guests), default=0)
     lines = [*host_lines(host, guests, width, shown), state_line(host, shown, fault), Line("")]
-    head = f"{'guest':<{NAME_WIDTH}}" + "".join(f"{it:>{NUMBER_WIDTH}}" for it in ("held", "loan", "target", "spare"))
+    head = f"{'guest':<{NAME_WIDTH}}" + "".join(
+        f"{it:>{NUMBER_WIDTH}}" for it in ("held", "loan", "target", "spare")
+    )
     lines.append(Line(f"{head}  memory", "head"))
     room = max(height - len(lines) - 2, 0)
     chosen = ordered(guests, shown.sort)[shown.first : shown.first + room]
@@ -104,4 +128,7 @@ def picture(status, width, height, shown, fault=""):
     lines += [Line("")] * (height - len(lines) - 1)
     own, spare, lent, _, mark = shown.blocks
     keys = f"{own} held  {spare} of it spare  {lent} lent  {mark} left by the target   q quit  s sort  p pause"
-    return [Line(it.text[:room_across], it.kind) for it in [*lines[: max(height - 1, 0)], Line(keys, "head")]]
+    return [
+        Line(it.text[:room_across], it.kind)
+        for it in [*lines[: max(height - 1, 0)], Line(keys, "head")]
+    ]

@@ -13,7 +13,9 @@ def parse_size(text, name="size"):
     found = re.fullmatch(r"(\d{1,12})([KMGT])(?:iB)?", text, re.ASCII)
     size = int(found[1]) * UNITS[found[2]] if found else -1
     if not found or size % PAGE:
-        raise Usage(f"{name}: {text!r} is no size: a number with K, M, G or T, in pages of 4K, such as 480M")
+        raise Usage(
+            f"{name}: {text!r} is no size: a number with K, M, G or T, in pages of 4K, such as 480M"
+        )
     return size
 
 
@@ -25,4 +27,10 @@ def mebibytes(size):
 
 def seconds(value):
     """Returns seconds as a column shows them."""
-    return f"{value:.1f} s" if value < 100 else f"{value / 60:.0f} min" if value < 6000 else f"{value / 3600:.0f} h"
+    return (
+        f"{value:.1f} s"
+        if value < 100
+        else f"{value / 60:.0f} min"
+        if value < 6000
+        else f"{value / 3600:.0f} h"
+    )

@@ -24,7 +24,11 @@ class Refused(Fault):
     status = REFUSED
 
     def __init__(self, error):
-        self.code, self.field, self.text = error.get("code", "?"), error.get("field"), error.get("text", "")
+        self.code, self.field, self.text = (
+            error.get("code", "?"),
+            error.get("field"),
+            error.get("text", ""),
+        )
         super().__init__(": ".join(it for it in (self.field, self.text) if it))
 
 

@@ -34,7 +34,12 @@ def kernel_limit(text, name):
 
 
 TERMS = {
-    "least": parse_size, "most": limit, "priority": priority, "strict": boolean, "overhead": parse_size, "limit": kernel_limit,
+    "least": parse_size,
+    "most": limit,
+    "priority": priority,
+    "strict": boolean,
+    "overhead": parse_size,
+    "limit": kernel_limit,
 }
 TERMS_HELP = "least=SIZE most=SIZE|none priority=N strict=yes|no overhead=SIZE limit=cgroup:PATH|tmpfs:MOUNT|none"
 TARGET = {"target": parse_size}

@@ -78,7 +78,14 @@ def obey(key, shown, guests):
         return shown._replace(sort=SORTS[(SORTS.index(shown.sort) + 1) % len(SORTS)])
     if key == ord("p"):
         return shown._replace(paused=not shown.paused)
-    moves = {curses.KEY_DOWN: 1, ord("j"): 1, curses.KEY_UP: -1, ord("k"): -1, curses.KEY_NPAGE: 10, curses.KEY_PPAGE: -10}
+    moves = {
+        curses.KEY_DOWN: 1,
+        ord("j"): 1,
+        curses.KEY_UP: -1,
+        ord("k"): -1,
+        curses.KEY_NPAGE: 10,
+        curses.KEY_PPAGE: -10,
+    }
     if key in moves:
         return shown._replace(first=min(max(shown.first + moves[key], 0), max(guests - 1, 0)))
     return shown

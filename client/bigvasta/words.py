@@ -5,7 +5,9 @@ import sys
 
 def plain(text):
     """Returns a line without what a terminal would obey: each such character as Python escapes it."""
-    return "".join(it if it.isprintable() else it.encode("unicode_escape").decode("ascii") for it in text)
+    return "".join(
+        it if it.isprintable() else it.encode("unicode_escape").decode("ascii") for it in text
+    )
 
 
 def say(*lines):

@@ -1,21 +1,27 @@
-/* Bigvasta: a host that lends its frames to guests, and never more than it has. A part of the library of vb.h.
+/* Bigvasta: a host that lends its frames to guests, and never more than it has. A part of the
+ * library of vb.h.
  *
- * A frame is lent when it may be taken, and not when it is. A deflate request, a reset and a newcomer wait in line until there is
- * room; nobody within a line is overtaken. Where resets and newcomers wait in the second line, a deflate of a few pages passes them: its
- * guest can inflate only once it is granted, and so make room for them. What is lent to a guest is a number for the kernel to enforce.
- * The caller keeps a VbLoan for each guest, in an array, and the number of its frames; a guest is its place in the array. Zeros are a
- * place without a guest. The library keeps nothing. Any numbers may be passed, also in a VbLoan: each call answers, and a loan that
- * calls alone write stays sound, lent + ballooned >= pages >= lent + asked. All numbers but turns count pages.
+ * A frame is lent when it may be taken, and not when it is. A deflate request, a reset and a
+ * newcomer wait in line until there is room; nobody within a line is overtaken. Where resets and
+ * newcomers wait in the second line, a deflate of a few pages passes them: its guest can inflate
+ * only once it is granted, and so make room for them. What is lent to a guest is a number for the
+ * kernel to enforce. The caller keeps a VbLoan for each guest, in an array, and the number of its
+ * frames; a guest is its place in the array. Zeros are a place without a guest. The library keeps
+ * nothing. Any numbers may be passed, also in a VbLoan: each call answers, and a loan that calls
+ * alone write stays sound, lent + ballooned >= pages >= lent + asked. All numbers but turns count
+ * pages.
  *
- * The order of effects is the host's part. The kernel's limit is lowered once pages went, and raised before they may come:
+ * The order of effects is the host's part. The kernel's limit is lowered once pages went, and
+ * raised before they may come:
  *
- *     an inflate request          its pages are discarded, then vb_loan_give, the limit down, and vb_loan_grant until VB_NOTHING
- *     a deflate request, a reset  vb_loan_ask or vb_loan_reset; the request, or the status that isn't 0, waits
- *     a newcomer                  vb_loan_arrive; it starts once it is granted
- *     a grant to a guest          the limit up to `lent`, vb_loan_take of what was asked, and only then the answer to its driver
- *     memory is taken away        its pages are discarded, then vb_loan_shrink, the limit down, and vb_loan_grant until VB_NOTHING
- *     memory is to be added       vb_loan_grow; the guest gets it once it is granted
- *     a guest has ended           its memory is given up, then vb_loan_leave
+ *     an inflate request          its pages are discarded, then vb_loan_give, the limit down, and
+ * vb_loan_grant until VB_NOTHING a deflate request, a reset  vb_loan_ask or vb_loan_reset; the
+ * request, or the status that isn't 0, waits a newcomer                  vb_loan_arrive; it starts
+ * once it is granted a grant to a guest          the limit up to `lent`, vb_loan_take of what was
+ * asked, and only then the answer to its driver memory is taken away        its pages are
+ * discarded, then vb_loan_shrink, the limit down, and vb_loan_grant until VB_NOTHING memory is to
+ * be added       vb_loan_grow; the guest gets it once it is granted a guest has ended           its
+ * memory is given up, then vb_loan_leave
  */
 #ifndef VB_LENDING_H
 #define VB_LENDING_H
@@ -29,157 +35,204 @@ extern "C" {
 #endif
 
 typedef struct {
-    uint32_t pages;             /* its memory; 0 where no guest is */
-    uint32_t ballooned;         /* in its balloon, with no frames */
-    uint32_t lent;              /* how many frames it may hold: its limit */
-    uint32_t asked;             /* how many it waits for; 0 where it doesn't wait */
-    uint64_t turn;              /* of its ask, among all; 0 where it doesn't wait */
-    uint32_t spare;             /* how many it can spare, by vb_loan_figure */
-    uint16_t uncounted;         /* unless 0: its balloon doesn't count */
-    uint16_t line;              /* 0: it waits in the first line; else in the second, which comes after the first */
+    uint32_t pages;     /* its memory; 0 where no guest is */
+    uint32_t ballooned; /* in its balloon, with no frames */
+    uint32_t lent;      /* how many frames it may hold: its limit */
+    uint32_t asked;     /* how many it waits for; 0 where it doesn't wait */
+    uint64_t turn;      /* of its ask, among all; 0 where it doesn't wait */
+    uint32_t spare;     /* how many it can spare, by vb_loan_figure */
+    uint16_t uncounted; /* unless 0: its balloon doesn't count */
+    uint16_t
+        line; /* 0: it waits in the first line; else in the second, which comes after the first */
 } VbLoan;
-typedef struct { uint32_t pages, spare; } VbNeed;                 /* a guest's pages, and how many it can spare */
-typedef struct { uint32_t code; uint64_t missing; } VbTargets;
-typedef struct { uint32_t code; size_t guest; } VbGrant;
-/* What the host has agreed with a guest: how many pages always stay to it, and its priority (those of a lower one give first). */
-typedef struct { uint32_t least, priority; } VbTerms;
-typedef struct { uint32_t pages, spare, priority; } VbShare;      /* room that vb_loan_class_targets needs for a guest */
+typedef struct {
+    uint32_t pages, spare;
+} VbNeed; /* a guest's pages, and how many it can spare */
+typedef struct {
+    uint32_t code;
+    uint64_t missing;
+} VbTargets;
+typedef struct {
+    uint32_t code;
+    size_t guest;
+} VbGrant;
+/* What the host has agreed with a guest: how many pages always stay to it, and its priority (those
+ * of a lower one give first). */
+typedef struct {
+    uint32_t least, priority;
+} VbTerms;
+typedef struct {
+    uint32_t pages, spare, priority;
+} VbShare; /* room that vb_loan_class_targets needs for a guest */
 
 /* Whether a guest's word on its memory is at hand. Any other number is VB_GUEST_STARTS. */
 enum {
-    VB_GUEST_STARTS = 0,        /* its driver isn't ready: it counts for all its pages, and gives none */
-    VB_GUEST_SILENT = 1,        /* its statistics are too old: it counts for what it holds and has given, and gives what it has given */
-    VB_GUEST_HEARD = 2,         /* its statistics are recent */
-    VB_GUEST_AWAY = 3,          /* it has gone, and its memory isn't freed yet: it counts for what it holds */
+    VB_GUEST_STARTS = 0, /* its driver isn't ready: it counts for all its pages, and gives none */
+    VB_GUEST_SILENT = 1, /* its statistics are too old: it counts for what it holds and has given,
+                            and gives what it has given */
+    VB_GUEST_HEARD = 2,  /* its statistics are recent */
+    VB_GUEST_AWAY =
+        3, /* it has gone, and its memory isn't freed yet: it counts for what it holds */
 };
 
 /* What a host knows of a guest, in pages. */
 typedef struct {
-    VbLoan loan;                /* what is lent to it; zeros where the host keeps no loan for it */
-    uint32_t pages;             /* its memory */
-    uint32_t held;              /* the frames that it holds, by the host's own count */
-    uint32_t ballooned;         /* in its balloon now */
-    uint32_t ballooned_then;    /* in its balloon when its last statistics were made */
-    uint32_t available;         /* by these statistics; of a guest that doesn't tell that, what is free */
-    uint16_t contact;           /* VB_GUEST_STARTS .. */
-    uint16_t rests;             /* unless 0: it isn't asked for more than it has given, since it has just taken pages by itself */
-    uint32_t least;             /* how many pages always stay to it, as far as it has them */
-    uint32_t most;              /* what it has above these is asked of it, whatever the host lacks */
-    uint32_t priority;          /* those of a lower one give first */
+    VbLoan loan;             /* what is lent to it; zeros where the host keeps no loan for it */
+    uint32_t pages;          /* its memory */
+    uint32_t held;           /* the frames that it holds, by the host's own count */
+    uint32_t ballooned;      /* in its balloon now */
+    uint32_t ballooned_then; /* in its balloon when its last statistics were made */
+    uint32_t available; /* by these statistics; of a guest that doesn't tell that, what is free */
+    uint16_t contact;   /* VB_GUEST_STARTS .. */
+    uint16_t rests; /* unless 0: it isn't asked for more than it has given, since it has just taken
+                       pages by itself */
+    uint32_t least; /* how many pages always stay to it, as far as it has them */
+    uint32_t most;  /* what it has above these is asked of it, whatever the host lacks */
+    uint32_t priority; /* those of a lower one give first */
 } VbHostGuest;
 /* What a host has for its guests together, and what each of them is to keep free, in pages. */
 typedef struct {
-    uint32_t frames;            /* for all guests */
-    uint32_t floor;             /* to stay free in each guest */
-    uint32_t slack;             /* by how many fewer pages free than the floor old targets still serve */
+    uint32_t frames; /* for all guests */
+    uint32_t floor;  /* to stay free in each guest */
+    uint32_t slack;  /* by how many fewer pages free than the floor old targets still serve */
 } VbBudget;
 
-VB_ASSERT(sizeof(VbLoan) == 32 && offsetof(VbLoan, ballooned) == 4 && offsetof(VbLoan, lent) == 8 && offsetof(VbLoan, asked) == 12
-          && offsetof(VbLoan, turn) == 16 && offsetof(VbLoan, spare) == 24 && offsetof(VbLoan, uncounted) == 28
-          && offsetof(VbLoan, line) == 30);
-VB_ASSERT(sizeof(VbNeed) == 8 && offsetof(VbNeed, spare) == 4 && sizeof(VbTargets) == 16 && offsetof(VbTargets, missing) == 8);
+VB_ASSERT(sizeof(VbLoan) == 32 && offsetof(VbLoan, ballooned) == 4 && offsetof(VbLoan, lent) == 8 &&
+          offsetof(VbLoan, asked) == 12 && offsetof(VbLoan, turn) == 16 &&
+          offsetof(VbLoan, spare) == 24 && offsetof(VbLoan, uncounted) == 28 &&
+          offsetof(VbLoan, line) == 30);
+VB_ASSERT(sizeof(VbNeed) == 8 && offsetof(VbNeed, spare) == 4 && sizeof(VbTargets) == 16 &&
+          offsetof(VbTargets, missing) == 8);
 VB_ASSERT(sizeof(VbGrant) == 16 && offsetof(VbGrant, guest) == 8);
 VB_ASSERT(sizeof(VbTerms) == 8 && offsetof(VbTerms, priority) == 4);
-VB_ASSERT(sizeof(VbHostGuest) == 72 && offsetof(VbHostGuest, pages) == 32 && offsetof(VbHostGuest, held) == 36
-          && offsetof(VbHostGuest, ballooned) == 40 && offsetof(VbHostGuest, ballooned_then) == 44
-          && offsetof(VbHostGuest, available) == 48 && offsetof(VbHostGuest, contact) == 52 && offsetof(VbHostGuest, rests) == 54
-          && offsetof(VbHostGuest, least) == 56 && offsetof(VbHostGuest, most) == 60 && offsetof(VbHostGuest, priority) == 64);
-VB_ASSERT(sizeof(VbBudget) == 12 && offsetof(VbBudget, floor) == 4 && offsetof(VbBudget, slack) == 8);
-VB_ASSERT(sizeof(VbShare) == 12 && offsetof(VbShare, spare) == 4 && offsetof(VbShare, priority) == 8);
+VB_ASSERT(sizeof(VbHostGuest) == 72 && offsetof(VbHostGuest, pages) == 32 &&
+          offsetof(VbHostGuest, held) == 36 && offsetof(VbHostGuest, ballooned) == 40 &&
+          offsetof(VbHostGuest, ballooned_then) == 44 && offsetof(VbHostGuest, available) == 48 &&
+          offsetof(VbHostGuest, contact) == 52 && offsetof(VbHostGuest, rests) == 54 &&
+          offsetof(VbHostGuest, least) == 56 && offsetof(VbHostGuest, most) == 60 &&
+          offsetof(VbHostGuest, priority) == 64);
+VB_ASSERT(sizeof(VbBudget) == 12 && offsetof(VbBudget, floor) == 4 &&
+          offsetof(VbBudget, slack) == 8);
+VB_ASSERT(sizeof(VbShare) == 12 && offsetof(VbShare, spare) == 4 &&
+          offsetof(VbShare, priority) == 8);
 
-/* What to ask guests for that have more pages than there are frames, by the caller's own numbers of each. */
+/* What to ask guests for that have more pages than there are frames, by the caller's own numbers of
+ * each. */
 
-/* How many pages a guest can spare: those in the balloon, and the free ones above the floor (none where free_known is
- * 0: no statistics say so); at most its pages that aren't reserved. */
-uint32_t vb_spare(uint32_t pages, uint32_t ballooned, uint32_t free_pages, uint32_t free_known, uint32_t floor,
-                  uint32_t reserved);
-/* Puts a target for each guest into `targets`, in the order of the needs, so that this many frames suffice: what is missing is
- * given by the guests of most spare first, and of these by the first in order, by each at most its spare. However many guests
- * there are, it looks at each need at most 37 times. VB_OK; VB_BAD_ARGUMENT where room isn't count; VB_SHORT where all that they
- * can spare together is too little by `missing` pages (2^64 - 1 where it is more); then no target is changed. */
-VbTargets vb_targets(const VbNeed *needs, size_t count, uint32_t frames, uint32_t *targets, size_t room);
-/* 1 where targets that were set before no longer serve: there isn't one for each guest, or together they are less than
- * what is missing, or a guest is asked for more than it can spare. Else 0: they may stay, so that targets don't swing. */
-uint32_t vb_needs_targets(const uint32_t *old_targets, size_t old_count, const VbNeed *needs, size_t count,
-                          uint32_t frames);
+/* How many pages a guest can spare: those in the balloon, and the free ones above the floor (none
+ * where free_known is 0: no statistics say so); at most its pages that aren't reserved. */
+uint32_t vb_spare(uint32_t pages, uint32_t ballooned, uint32_t free_pages, uint32_t free_known,
+                  uint32_t floor, uint32_t reserved);
+/* Puts a target for each guest into `targets`, in the order of the needs, so that this many frames
+ * suffice: what is missing is given by the guests of most spare first, and of these by the first in
+ * order, by each at most its spare. However many guests there are, it looks at each need at most 37
+ * times. VB_OK; VB_BAD_ARGUMENT where room isn't count; VB_SHORT where all that they can spare
+ * together is too little by `missing` pages (2^64 - 1 where it is more); then no target is
+  * changed. */
+VbTargets vb_targets(const VbNeed *needs, size_t count, uint32_t frames, uint32_t *targets,
+                     size_t room);
+/* 1 where targets that were set before no longer serve: there isn't one for each guest, or together
+ * they are less than what is missing, or a guest is asked for more than it can spare. Else 0: they
+ * may stay, so that targets don't swing. */
+uint32_t vb_needs_targets(const uint32_t *old_targets, size_t old_count, const VbNeed *needs,
+                          size_t count, uint32_t frames);
 
-/* What happens to a guest: VB_OK where it has its effect; VB_BAD_ARGUMENT where guest isn't below count, or it doesn't fit, as is
- * said of each, and then nothing is changed. No other guest's loan is changed. What comes to a line doesn't fit either while a guest
- * has the last turn, 2^64 - 1; turns begin anew once nobody waits. */
+/* What happens to a guest: VB_OK where it has its effect; VB_BAD_ARGUMENT where guest isn't below
+ * count, or it doesn't fit, as is said of each, and then nothing is changed. No other guest's loan
+ * is changed. What comes to a line doesn't fit either while a guest has the last turn, 2^64 - 1;
+ * turns begin anew once nobody waits. */
 
-/* A guest of this many pages comes: none has a frame, as if all were in its balloon, and it asks for all, in the line of this number.
- * Doesn't fit: no pages, or a place that isn't vacant. */
+/* A guest of this many pages comes: none has a frame, as if all were in its balloon, and it asks
+ * for all, in the line of this number. Doesn't fit: no pages, or a place that isn't vacant. */
 uint32_t vb_loan_arrive(VbLoan *loans, size_t count, size_t guest, uint32_t pages, uint16_t line);
 /* A guest has gone, and its memory with it: nothing is lent to it, and its place is vacant. */
 uint32_t vb_loan_leave(VbLoan *loans, size_t count, size_t guest);
-/* Pages joined its balloon and lost their frames: ballooned + pages, lent - pages. Doesn't fit: its balloon doesn't count, fewer are
- * lent to it, or more would be in its balloon than it has. */
+/* Pages joined its balloon and lost their frames: ballooned + pages, lent - pages. Doesn't fit: its
+ * balloon doesn't count, fewer are lent to it, or more would be in its balloon than it has. */
 uint32_t vb_loan_give(VbLoan *loans, size_t count, size_t guest, uint32_t pages);
-/* A deflate request for this many pages is pending: it asks for them, after all that wait in its line. Doesn't fit: no pages, more
- * than aren't lent to it, or it waits already. */
+/* A deflate request for this many pages is pending: it asks for them, after all that wait in its
+ * line. Doesn't fit: no pages, more than aren't lent to it, or it waits already. */
 uint32_t vb_loan_ask(VbLoan *loans, size_t count, size_t guest, uint32_t pages);
-/* A reset is pending, in place of all requests: it asks for all pages that aren't lent to it, in the line of this number and after all
- * that wait there; what it asked for before is forgotten. Doesn't fit: all are lent to it, so that nothing has to wait. */
+/* A reset is pending, in place of all requests: it asks for all pages that aren't lent to it, in
+ * the line of this number and after all that wait there; what it asked for before is forgotten.
+ * Doesn't fit: all are lent to it, so that nothing has to wait. */
 uint32_t vb_loan_reset(VbLoan *loans, size_t count, size_t guest, uint16_t line);
-/* Pages are about to leave its balloon: ballooned - pages. Doesn't fit: fewer are in it, or not enough is lent to it: pages have to
- * be granted before they are taken. */
+/* Pages are about to leave its balloon: ballooned - pages. Doesn't fit: fewer are in it, or not
+ * enough is lent to it: pages have to be granted before they are taken. */
 uint32_t vb_loan_take(VbLoan *loans, size_t count, size_t guest, uint32_t pages);
-/* Its balloon counts no longer, since it uses pages without an ask, or never agreed to ask (MUST_TELL_HOST): all its pages are lent
- * to it, whether or not there is room, and its ask is gone. Doesn't fit: nothing is lent to it, since it wasn't let in yet. */
+/* Its balloon counts no longer, since it uses pages without an ask, or never agreed to ask
+ * (MUST_TELL_HOST): all its pages are lent to it, whether or not there is room, and its ask is
+ * gone. Doesn't fit: nothing is lent to it, since it wasn't let in yet. */
 uint32_t vb_loan_uncount(VbLoan *loans, size_t count, size_t guest);
 /* Its balloon counts again, as in a new life. */
 uint32_t vb_loan_recount(VbLoan *loans, size_t count, size_t guest);
 /* It can spare this many pages, those in its balloon included (vb_spare). */
 uint32_t vb_loan_figure(VbLoan *loans, size_t count, size_t guest, uint32_t pages);
-/* Pages joined its balloon, and stay lent to it, since its driver is to take them out again: ballooned + pages. Doesn't fit: its balloon
- * doesn't count, or more would be in its balloon than it has. */
+/* Pages joined its balloon, and stay lent to it, since its driver is to take them out again:
+ * ballooned + pages. Doesn't fit: its balloon doesn't count, or more would be in its balloon than
+ * it has. */
 uint32_t vb_loan_keep(VbLoan *loans, size_t count, size_t guest, uint32_t pages);
-/* What it asks for isn't waited for any longer, and of what is lent to it beyond its pages outside its balloon at most `ahead` pages stay
- * lent. */
+/* What it asks for isn't waited for any longer, and of what is lent to it beyond its pages outside
+ * its balloon at most `ahead` pages stay lent. */
 uint32_t vb_loan_withdraw(VbLoan *loans, size_t count, size_t guest, uint32_t ahead);
-/* Memory was taken away: it has this many pages from now on, `ballooned` of them in its balloon, and all others are lent to it; its ask is
- * gone. Doesn't fit: no pages, more than it has, more in its balloon than pages, or fewer are lent to it than would be. */
-uint32_t vb_loan_shrink(VbLoan *loans, size_t count, size_t guest, uint32_t pages, uint32_t ballooned);
-/* Memory was added to a guest that is there: these pages have no frame, as if they were in its balloon, and it asks for them, in the line
- * of this number and after all that wait there. Doesn't fit: no pages, more than 2^32 - 1 with its own, a vacant place, it waits already,
- * or more is lent to it, or in its balloon, than it has. */
+/* Memory was taken away: it has this many pages from now on, `ballooned` of them in its balloon,
+ * and all others are lent to it; its ask is gone. Doesn't fit: no pages, more than it has, more in
+ * its balloon than pages, or fewer are lent to it than would be. */
+uint32_t vb_loan_shrink(VbLoan *loans, size_t count, size_t guest, uint32_t pages,
+                        uint32_t ballooned);
+/* Memory was added to a guest that is there: these pages have no frame, as if they were in its
+ * balloon, and it asks for them, in the line of this number and after all that wait there. Doesn't
+ * fit: no pages, more than 2^32 - 1 with its own, a vacant place, it waits already, or more is lent
+ * to it, or in its balloon, than it has. */
 uint32_t vb_loan_grow(VbLoan *loans, size_t count, size_t guest, uint32_t pages, uint16_t line);
 
-/* Lends to the first guest that waits what it asks for, where that and what is lent to all are no more than these frames: VB_OK and
- * which guest. VB_NOTHING (and guest 0) where nobody waits, or there is no room for the first: then nothing is changed. */
+/* Lends to the first guest that waits what it asks for, where that and what is lent to all are no
+ * more than these frames: VB_OK and which guest. VB_NOTHING (and guest 0) where nobody waits, or
+ * there is no room for the first: then nothing is changed. */
 VbGrant vb_loan_grant(uint32_t frames, VbLoan *loans, size_t count);
-/* How many frames are lent to all guests together (2^64 - 1 where it is more). A lower budget takes none back. */
+/* How many frames are lent to all guests together (2^64 - 1 where it is more). A lower budget takes
+ * none back. */
 uint64_t vb_loan_owed(const VbLoan *loans, size_t count);
 
-/* Puts a target for each guest into `targets`, as vb_targets: once all that don't wait have as many pages in their balloons, there is
- * room for all that is waited for. One that waits spares what stays in its balloon when it has what it asks for, one whose balloon
- * doesn't count nothing. VB_OK; VB_SHORT where all that they can spare is too little by `missing`: then each is asked for all that it
- * can spare; VB_BAD_ARGUMENT where rooms aren't count: then nothing is changed. Of `needs` nothing is kept. */
-VbTargets vb_loan_targets(uint32_t frames, const VbLoan *loans, size_t count, VbNeed *needs, size_t needs_room,
-                          uint32_t *targets, size_t targets_room);
-/* The same by terms: its least pages stay to each guest, as far as it has them, and those of a lower priority are asked for all that
- * they can give before one of a higher priority is asked for any. Of `shares` and `needs` nothing is kept. */
-VbTargets vb_loan_class_targets(uint32_t frames, const VbLoan *loans, size_t count, const VbTerms *terms, size_t terms_count,
-                                VbShare *shares, size_t shares_room, VbNeed *needs, size_t needs_room,
+/* Puts a target for each guest into `targets`, as vb_targets: once all that don't wait have as many
+ * pages in their balloons, there is room for all that is waited for. One that waits spares what
+ * stays in its balloon when it has what it asks for, one whose balloon doesn't count nothing.
+ * VB_OK; VB_SHORT where all that they can spare is too little by `missing`: then each is asked for
+ * all that it can spare; VB_BAD_ARGUMENT where rooms aren't count: then nothing is changed. Of
+ * `needs` nothing is kept. */
+VbTargets vb_loan_targets(uint32_t frames, const VbLoan *loans, size_t count, VbNeed *needs,
+                          size_t needs_room, uint32_t *targets, size_t targets_room);
+/* The same by terms: its least pages stay to each guest, as far as it has them, and those of a
+ * lower priority are asked for all that they can give before one of a higher priority is asked for
+ * any. Of `shares` and `needs` nothing is kept. */
+VbTargets vb_loan_class_targets(uint32_t frames, const VbLoan *loans, size_t count,
+                                const VbTerms *terms, size_t terms_count, VbShare *shares,
+                                size_t shares_room, VbNeed *needs, size_t needs_room,
                                 uint32_t *targets, size_t targets_room);
 
-/* By what a host knows of its guests. A guest with a loan counts for the loan's pages; what it can spare is, while it waits, what stays in
- * its balloon when it has what it asks for, nothing where its balloon doesn't count, and else what it tells. A guest whose statistics are
- * recent tells that it can spare all but `floor` of the pages that it doesn't use (available now, or ballooned then); so one that has
- * fewer free than the floor gives less than it has given. Its least pages stay to each guest. */
+/* By what a host knows of its guests. A guest with a loan counts for the loan's pages; what it can
+ * spare is, while it waits, what stays in its balloon when it has what it asks for, nothing where
+ * its balloon doesn't count, and else what it tells. A guest whose statistics are recent tells that
+ * it can spare all but `floor` of the pages that it doesn't use (available now, or ballooned then);
+ * so one that has fewer free than the floor gives less than it has given. Its least pages stay to
+ * each guest. */
 
 /* The pages for which a guest counts, and how many of them it can give (`spare`). */
 VbNeed vb_guest_need(const VbHostGuest *guest, uint32_t floor);
-/* Puts a target for each guest into `targets`: what it has above its most, as far as it can give it and doesn't wait; and what is still
- * missing, by priority as vb_loan_class_targets does. VB_OK, and then what the guests count for without their targets is no more than
- * the frames; VB_SHORT and VB_BAD_ARGUMENT as of vb_loan_class_targets. */
-VbTargets vb_guest_targets(const VbBudget *budget, const VbHostGuest *guests, size_t count, VbShare *shares, size_t shares_room,
-                           VbNeed *needs, size_t needs_room, uint32_t *targets, size_t targets_room);
-/* 0 where old targets still serve, else 1: there is one for each guest, none is below what is forced by the guest's most, or above what
- * the guest could give with fewer pages free than the floor by the slack, and together they are enough. It is 1 where a room isn't count. Of
- * `needs` and `rests` nothing is kept. */
-uint32_t vb_needs_guest_targets(const VbBudget *budget, const VbHostGuest *guests, size_t count, const uint32_t *old, size_t old_count,
-                                VbNeed *needs, size_t needs_room, uint32_t *rests, size_t rests_room);
+/* Puts a target for each guest into `targets`: what it has above its most, as far as it can give it
+ * and doesn't wait; and what is still missing, by priority as vb_loan_class_targets does. VB_OK,
+ * and then what the guests count for without their targets is no more than the frames; VB_SHORT and
+ * VB_BAD_ARGUMENT as of vb_loan_class_targets. */
+VbTargets vb_guest_targets(const VbBudget *budget, const VbHostGuest *guests, size_t count,
+                           VbShare *shares, size_t shares_room, VbNeed *needs, size_t needs_room,
+                           uint32_t *targets, size_t targets_room);
+/* 0 where old targets still serve, else 1: there is one for each guest, none is below what is
+ * forced by the guest's most, or above what the guest could give with fewer pages free than the
+ * floor by the slack, and together they are enough. It is 1 where a room isn't count. Of `needs`
+ * and `rests` nothing is kept. */
+uint32_t vb_needs_guest_targets(const VbBudget *budget, const VbHostGuest *guests, size_t count,
+                                const uint32_t *old, size_t old_count, VbNeed *needs,
+                                size_t needs_room, uint32_t *rests, size_t rests_room);
 
 #undef VB_ASSERT
 #ifdef __cplusplus

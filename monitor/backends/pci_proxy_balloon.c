@@ -1,12 +1,14 @@
 /* The same balloon on PCI, for QEMU's x-pci-proxy-dev (tried with QEMU 7.2 of Debian 12).
  *
- *     pci_proxy_balloon FD [--features HEX] [--strict] [--keep] [--hints] [--discard-hints] [--lines N]
+ *     pci_proxy_balloon FD [--features HEX] [--strict] [--keep] [--hints] [--discard-hints]
+ * [--lines N]
  *
- * FD is one end of a pair of stream sockets, whose other end QEMU has. All else is as in vhost_user_balloon.c. The
- * driver's own writes of the status, of its features and of its queues' places arrive here.
+ * FD is one end of a pair of stream sockets, whose other end QEMU has. All else is as in
+ * vhost_user_balloon.c. The driver's own writes of the status, of its features and of its queues'
+ * places arrive here.
  *
- * QEMU hands interrupts of such a device over to KVM alone. Without KVM the guest has to look by itself: Linux does,
- * with `irqpoll` on its command line.
+ * QEMU hands interrupts of such a device over to KVM alone. Without KVM the guest has to look by
+ * itself: Linux does, with `irqpoll` on its command line.
  */
 #include "guest/options.h"
 #include "guest/virtio_pci.h"
@@ -17,7 +19,16 @@
 #include <sys/socket.h>
 
 /* Messages of QEMU (its docs/devel/multi-process.rst). */
-enum { SYNC_MEMORY, RETURN, CONFIGURATION_WRITE, CONFIGURATION_READ, BAR_WRITE, BAR_READ, SET_INTERRUPT, DEVICE_RESET };
+enum {
+    SYNC_MEMORY,
+    RETURN,
+    CONFIGURATION_WRITE,
+    CONFIGURATION_READ,
+    BAR_WRITE,
+    BAR_READ,
+    SET_INTERRUPT,
+    DEVICE_RESET
+};
 enum { MOST_BODY = 256, TABLE_ENTRIES = 8, QUEUE_BIT = 1, CONFIGURATION_BIT = 2 };
 
 struct head {
@@ -28,9 +39,17 @@ struct head {
 struct body {
     union {
         uint8_t bytes[MOST_BODY];
-        struct { uint32_t at, value, length; } configuration;
-        struct { uint64_t at, value; uint32_t length; uint8_t memory; } bar;
-        struct { uint64_t guest[TABLE_ENTRIES], size[TABLE_ENTRIES], offset[TABLE_ENTRIES]; } memory;
+        struct {
+            uint32_t at, value, length;
+        } configuration;
+        struct {
+            uint64_t at, value;
+            uint32_t length;
+            uint8_t memory;
+        } bar;
+        struct {
+            uint64_t guest[TABLE_ENTRIES], size[TABLE_ENTRIES], offset[TABLE_ENTRIES];
+        } memory;
     };
 };
 
@@ -80,13 +99,13 @@ static bool sync_memory(struct backend *backend, const struct body *body, struct
     struct region_place places[TABLE_ENTRIES] = {0};
     unsigned count = files->count;
     for (unsigned i = 0; i < count; i++)
-        places[i] = (struct region_place){
-            body->memory.guest[i], body->memory.size[i], body->memory.guest[i], body->memory.offset[i]};
+        places[i] = (struct region_place){body->memory.guest[i], body->memory.size[i],
+                                          body->memory.guest[i], body->memory.offset[i]};
     files->count = 0;
     if (!memory_map(&backend->memory, places, files->numbers, count))
         return refuse("the guest's memory can't be mapped");
-    return balloon_set_regions(&backend->balloon, backend->memory.regions, count) == VB_OK
-        || refuse("the guest's memory doesn't end");
+    return balloon_set_regions(&backend->balloon, backend->memory.regions, count) == VB_OK ||
+           refuse("the guest's memory doesn't end");
 }
 
 static bool set_interrupt(struct files *files)
@@ -108,27 +127,36 @@ static bool write_bar(struct backend *backend, const struct body *body)
     return pci_write(&pci, at, body->bar.value, body->bar.length) && (kick || answer(backend, 0));
 }
 
-static bool handle(struct backend *backend, int32_t command, const struct body *body, struct files *files)
+static bool handle(struct backend *backend, int32_t command, const struct body *body,
+                   struct files *files)
 {
     uint32_t at = body->configuration.at, length = body->configuration.length;
     switch (command) {
-    case SYNC_MEMORY: return sync_memory(backend, body, files);
-    case SET_INTERRUPT: return set_interrupt(files);
-    case CONFIGURATION_READ: return answer(backend, pci_read_configuration(&pci, at, length));
+    case SYNC_MEMORY:
+        return sync_memory(backend, body, files);
+    case SET_INTERRUPT:
+        return set_interrupt(files);
+    case CONFIGURATION_READ:
+        return answer(backend, pci_read_configuration(&pci, at, length));
     case CONFIGURATION_WRITE:
         pci_write_configuration(&pci, at, body->configuration.value, length);
         return answer(backend, 0);
-    case BAR_READ: return answer(backend, pci_read(&pci, body->bar.at % BAR_SIZE, body->bar.length));
-    case BAR_WRITE: return write_bar(backend, body);
-    case DEVICE_RESET: return pci_reset(&pci) && answer(backend, 0);
-    default: return refuse("message %d is unknown", command);
+    case BAR_READ:
+        return answer(backend, pci_read(&pci, body->bar.at % BAR_SIZE, body->bar.length));
+    case BAR_WRITE:
+        return write_bar(backend, body);
+    case DEVICE_RESET:
+        return pci_reset(&pci) && answer(backend, 0);
+    default:
+        return refuse("message %d is unknown", command);
     }
 }
 
 /* What has come of the next message. */
 static enum stream_state receive(int socket)
 {
-    enum stream_state state = stream_fill(socket, &inbox.head, sizeof inbox.head, &inbox.got, &inbox.files);
+    enum stream_state state =
+        stream_fill(socket, &inbox.head, sizeof inbox.head, &inbox.got, &inbox.files);
     if (state != STREAM_WHOLE)
         return state;
     if (inbox.head.size > sizeof inbox.body)
@@ -152,20 +180,24 @@ static int serve(struct backend *backend)
     return backend->gone ? 0 : -1;
 }
 
-static const char help[] = "pci_proxy_balloon FD [--features HEX] [--strict] [--keep] [--hints] [--discard-hints] [--lines N]";
+static const char help[] = "pci_proxy_balloon FD [--features HEX] [--strict] [--keep] [--hints] "
+                           "[--discard-hints] [--lines N]";
 
 int main(int count, char **words)
 {
     static struct backend backend;
     static struct options options = {.features = USUAL_FEATURES};
-    const struct option_row rows[] = {
-        BACKEND_OPTIONS(&options), {"help", .answer = help}, {"version", .answer = "pci_proxy_balloon " VB_VERSION}, {0}};
+    const struct option_row rows[] = {BACKEND_OPTIONS(&options),
+                                      {"help", .answer = help},
+                                      {"version", .answer = "pci_proxy_balloon " VB_VERSION},
+                                      {0}};
     uint64_t socket;
     process_begin();
     enum command_line said = options_read(count, words, rows, &options.client);
     if (said == LINE_ANSWERED)
         return 0;
-    if (said == LINE_WRONG || !options.client || !read_number(options.client, 10, INT_MAX, &socket)) {
+    if (said == LINE_WRONG || !options.client ||
+        !read_number(options.client, 10, INT_MAX, &socket)) {
         fprintf(stderr, "%s\n", help);
         return 2;
     }

@@ -1,28 +1,33 @@
-/* A memory balloon for one guest, as a vhost-user backend: for QEMU's generic device, for the virtio_uml driver of User
- * Mode Linux, and for any other client of that protocol.
+/* A memory balloon for one guest, as a vhost-user backend: for QEMU's generic device, for the
+ * virtio_uml driver of User Mode Linux, and for any other client of that protocol.
  *
- *     vhost_user_balloon SOCKET [--features HEX] [--strict] [--keep] [--hints] [--discard-hints] [--events] [--state FILE] [--lines N]
- *     vhost_user_balloon --socket-path SOCKET ..    the same; but the end of standard input doesn't end it
- *     vhost_user_balloon --fd FD ..                 of an open socket, of the client's or where it comes
+ *     vhost_user_balloon SOCKET [--features HEX] [--strict] [--keep] [--hints] [--discard-hints]
+ * [--events] [--state FILE] [--lines N] vhost_user_balloon --socket-path SOCKET ..    the same; but
+ * the end of standard input doesn't end it vhost_user_balloon --fd FD ..                 of an open
+ * socket, of the client's or where it comes
  *
- * It makes the socket, says `listening`, and serves the client that comes, until that one goes (status 0) or breaks a
- * rule (status 1, and one line on standard error that says which). Standard input is the control pipe, each line is
- * answered by one on standard output:
+ * It makes the socket, says `listening`, and serves the client that comes, until that one goes
+ * (status 0) or breaks a rule (status 1, and one line on standard error that says which). Standard
+ * input is the control pipe, each line is answered by one on standard output:
  *
  *     target PAGES    the balloon's target, in pages of 4096 bytes
- *     counters        names and numbers: target, actual, what the memory's files hold on the host, what was served
- *     ask             ask the guest for new statistics
- *     statistics      how often the guest told them, and what it said last
- *     hint start      begin a round of free page hints (VIRTIO 1.2, 5.5.6.6), in place of one that is on: its id is answered
- *     hint stop       the driver is to hint no more, and may keep what it hinted
- *     hint done       the driver may use again what it hinted
- *     quit            end; so do the end of the input, and the signals SIGTERM, SIGINT and SIGHUP
+ *     counters        names and numbers: target, actual, what the memory's files hold on the host,
+ * what was served ask             ask the guest for new statistics statistics      how often the
+ * guest told them, and what it said last hint start      begin a round of free page hints
+ * (VIRTIO 1.2, 5.5.6.6), in place of one that is on: its id is answered hint stop       the driver
+ * is to hint no more, and may keep what it hinted hint done       the driver may use again what it
+ * hinted quit            end; so do the end of the input, and the signals SIGTERM, SIGINT and
+ * SIGHUP
  *
- * --features: what the device offers (100000027: MUST_TELL_HOST, STATS_VQ, DEFLATE_ON_OOM, REPORTING, VERSION_1).
- * --strict: a page number past the end breaks a rule, in place of being skipped. --keep: the host keeps all memory.
- * --hints: and FREE_PAGE_HINT. --discard-hints: pages that are hinted are discarded, else they are counted alone.
- * --events: notifications as messages aren't offered, so a client uses events. --state: the device is kept in this file,
- * and a backend that finds one there goes on with its target and its `actual`. --lines: what is said in a second at most (20).
+ * --features: what the device offers (100000027: MUST_TELL_HOST, STATS_VQ, DEFLATE_ON_OOM,
+ * REPORTING, VERSION_1).
+ * --strict: a page number past the end breaks a rule, in place of being skipped. --keep: the host
+ * keeps all memory.
+ * --hints: and FREE_PAGE_HINT. --discard-hints: pages that are hinted are discarded, else they are
+ * counted alone.
+ * --events: notifications as messages aren't offered, so a client uses events. --state: the device
+ * is kept in this file, and a backend that finds one there goes on with its target and its
+ * `actual`. --lines: what is said in a second at most (20).
  * --help, --version and --print-capabilities are answered.
  */
 #include "guest/backend.h"
@@ -57,7 +62,8 @@ static int listener_of(const char *path)
     strcpy(address.sun_path, path);
     remove_socket(path);
     int listener = socket(AF_UNIX, SOCK_STREAM | SOCK_CLOEXEC | SOCK_NONBLOCK, 0);
-    if (listener >= 0 && (bind(listener, (struct sockaddr *)&address, sizeof address) || listen(listener, 1))) {
+    if (listener >= 0 &&
+        (bind(listener, (struct sockaddr *)&address, sizeof address) || listen(listener, 1))) {
         int why = errno;
         close(listener);
         return errno = why, -1;
@@ -74,7 +80,8 @@ static void stop_listening(struct backend *backend)
     backend->listener = -1;
 }
 
-/* A client may have gone again before it is taken; where there is no room for its file, it waits for a while. */
+/* A client may have gone again before it is taken; where there is no room for its file, it waits
+ * for a while. */
 static void accept_client(struct backend *backend)
 {
     backend->socket = accept4(backend->listener, NULL, NULL, SOCK_CLOEXEC | SOCK_NONBLOCK);
@@ -87,8 +94,8 @@ static void accept_client(struct backend *backend)
         complain("a client can't be taken: %s", strerror(errno));
 }
 
-/* Serves the client's next message, if it is there whole: 1; 0 where the client has gone; -1 where it can't be served any
- * longer. */
+/* Serves the client's next message, if it is there whole: 1; 0 where the client has gone; -1 where
+ * it can't be served any longer. */
 static int serve(struct backend *backend)
 {
     static struct inbox inbox;
@@ -107,21 +114,28 @@ static int serve(struct backend *backend)
 }
 
 static const char help[] =
-    "vhost_user_balloon SOCKET | --socket-path SOCKET | --fd FD [--features HEX] [--strict] [--keep] [--hints]\n"
+    "vhost_user_balloon SOCKET | --socket-path SOCKET | --fd FD [--features HEX] [--strict] "
+    "[--keep] [--hints]\n"
     "                   [--discard-hints] [--events] [--state FILE] [--lines N]\n"
     "vhost_user_balloon --print-capabilities | --help | --version";
 
-/* What the command line says of the client: one of its socket, the socket's path, and the socket's file. */
+/* What the command line says of the client: one of its socket, the socket's path, and the socket's
+ * file. */
 struct where {
     const char *socket, *path;
-    int file;                   /* -1: none */
+    int file; /* -1: none */
 };
 
-static enum command_line read_words(int count, char **words, struct options *options, struct where *where)
+static enum command_line read_words(int count, char **words, struct options *options,
+                                    struct where *where)
 {
-    const struct option_row rows[] = {
-        BACKEND_OPTIONS(options), {"socket-path", .read = read_word, .at = &where->path}, {"fd", .read = read_socket, .at = &where->file},
-        {"print-capabilities", .answer = CAPABILITIES}, {"help", .answer = help}, {"version", .answer = "vhost_user_balloon " VB_VERSION}, {0}};
+    const struct option_row rows[] = {BACKEND_OPTIONS(options),
+                                      {"socket-path", .read = read_word, .at = &where->path},
+                                      {"fd", .read = read_socket, .at = &where->file},
+                                      {"print-capabilities", .answer = CAPABILITIES},
+                                      {"help", .answer = help},
+                                      {"version", .answer = "vhost_user_balloon " VB_VERSION},
+                                      {0}};
     enum command_line line = options_read(count, words, rows, &where->socket);
     int said = (where->socket != NULL) + (where->path != NULL) + (where->file >= 0);
     options->client = where->path ? where->path : where->socket;
@@ -129,7 +143,8 @@ static enum command_line read_words(int count, char **words, struct options *opt
     return line == LINE_READ && said != 1 && !options->layout ? LINE_WRONG : line;
 }
 
-/* Takes the client's socket, or the one where it comes: by its number, or by making it. False where it can't. */
+/* Takes the client's socket, or the one where it comes: by its number, or by making it. False where
+ * it can't. */
 static bool take_socket(struct backend *backend, int given)
 {
     bool listens = given < 0 || socket_listens(given);
@@ -167,6 +182,7 @@ int main(int count, char **words)
             return status;
         errno = ECANCELED; /* the control pipe has ended */
     }
-    fprintf(stderr, "vhost_user_balloon: %s: %s\n", options.client ? options.client : "--fd", strerror(errno));
+    fprintf(stderr, "vhost_user_balloon: %s: %s\n", options.client ? options.client : "--fd",
+            strerror(errno));
     return 2;
 }

@@ -1,40 +1,51 @@
-/* The lender of a host of many guests: it lends them more memory than it has, and their balloons give back what is missing.
+/* The lender of a host of many guests: it lends them more memory than it has, and their balloons
+ * give back what is missing.
  *
- *     vhost_user_host FOLDER --budget MIB [--floor MIB] [--period MS] [--step N] [--strict] [--strict-pages] [--events]
- *                     [--features HEX] [--lines N] [--program PATH] [--no-sandbox] [--end-with-lender]
- *                     [--config FILE] [--control PATH] [--control-mode OCTAL] [--control-group NAME] [--status PATH]
+ *     vhost_user_host FOLDER --budget MIB [--floor MIB] [--period MS] [--step N] [--strict]
+ * [--strict-pages] [--events]
+ *                     [--features HEX] [--lines N] [--program PATH] [--no-sandbox]
+ * [--end-with-lender]
+ *                     [--config FILE] [--control PATH] [--control-mode OCTAL] [--control-group
+ * NAME] [--status PATH]
  *                     [--status-mode OCTAL] [--status-group NAME] [--log-level WORD]
  *
- * It says `ready`, and starts a process for each client that comes, which serves its balloon: vhost_user_balloon, beside this program or
- * at --program. It obeys lines of its standard input, whose end is no line. Each is answered by a line on standard output, or by one
- * that says how many follow:
+ * It says `ready`, and starts a process for each client that comes, which serves its balloon:
+ * vhost_user_balloon, beside this program or at --program. It obeys lines of its standard input,
+ * whose end is no line. Each is answered by a line on standard output, or by one that says how many
+ * follow:
  *
  *     add NAME [TERMS]    a guest may come to the socket FOLDER/NAME, and again once it has gone
- *     terms NAME TERMS    its terms are these from now on: least=MIB, most=MIB, priority=NUMBER, strict=0 or 1, overhead=MIB,
- *                         limit=cgroup:PATH or limit=tmpfs:MOUNT
- *     remove NAME         its service ends
- *     budget MIB          the host is to hold no more than this
- *     floor MIB           what each guest keeps free
- *     guests              each guest's names and numbers: pages, held_kib, ballooned, target, free, spare, ..
- *     counters            the same for all together: looks, looks above the budget, the peak, ..
- *     log                 the decisions since the last `log`: the needs, the targets and why
- *     NAME target PAGES   for one guest, as vhost_user_balloon takes them; the target stays while it serves
- *     NAME counters, NAME ask, NAME statistics
- *     leave               the lender ends alone: guests and their processes live on, and the next lender of the folder goes on with them
- *     quit                end, and all guests' service; so do the signals SIGTERM and SIGINT, and without --config SIGHUP
+ *     terms NAME TERMS    its terms are these from now on: least=MIB, most=MIB, priority=NUMBER,
+ * strict=0 or 1, overhead=MIB, limit=cgroup:PATH or limit=tmpfs:MOUNT remove NAME         its
+ * service ends budget MIB          the host is to hold no more than this floor MIB           what
+ * each guest keeps free guests              each guest's names and numbers: pages, held_kib,
+ * ballooned, target, free, spare, .. counters            the same for all together: looks, looks
+ * above the budget, the peak, .. log                 the decisions since the last `log`: the needs,
+ * the targets and why NAME target PAGES   for one guest, as vhost_user_balloon takes them; the
+ * target stays while it serves NAME counters, NAME ask, NAME statistics leave               the
+ * lender ends alone: guests and their processes live on, and the next lender of the folder goes on
+ * with them quit                end, and all guests' service; so do the signals SIGTERM and SIGINT,
+ * and without --config SIGHUP
  *
- * Each period (200 ms) it counts what the guests' files hold, and asks each for its statistics. Targets are decided anew where the old
- * ones don't serve any longer: by vb_guest_targets and vb_needs_guest_targets of the library. A guest that breaks a
- * rule or goes ends alone: a line on standard error says so. A guest whose memory has no room beside the others is refused.
+ * Each period (200 ms) it counts what the guests' files hold, and asks each for its statistics.
+ * Targets are decided anew where the old ones don't serve any longer: by vb_guest_targets and
+ * vb_needs_guest_targets of the library. A guest that breaks a rule or goes ends alone: a line on
+ * standard error says so. A guest whose memory has no room beside the others is refused.
  *
- * `bigvasta` speaks to it by its control socket, FOLDER/.control (--control), and by one that only shows the host, FOLDER/.status
+ * `bigvasta` speaks to it by its control socket, FOLDER/.control (--control), and by one that only
+ * shows the host, FOLDER/.status
  * (--status): docs/CONTROL.md. --config: a file that says the same, and
- * the guests; SIGHUP has it read anew. --log-level: error, warning, notice, info (as it is) or debug.
+ * the guests; SIGHUP has it read anew. --log-level: error, warning, notice, info (as it is) or
+ * debug.
  *
- * --floor: what each guest keeps free (12 MiB). --step: a target grows by one part in N of the guest in a second, while the host is
- * within its budget (8; 0: at once). --strict: guests' deflates and resets wait for their grant, and so do newcomers. --strict-pages: a
- * page number past the end breaks a rule. --features, --events, --lines: as for vhost_user_balloon. --no-sandbox: guests' processes may make any system call. --end-with-lender: the kernel ends them with the lender.
- * --leave: signals end the lender alone, as the line `leave` does: a service that starts anew goes on with its guests.
+ * --floor: what each guest keeps free (12 MiB). --step: a target grows by one part in N of the
+ * guest in a second, while the host is within its budget (8; 0: at once). --strict: guests'
+ * deflates and resets wait for their grant, and so do newcomers. --strict-pages: a page number past
+ * the end breaks a rule. --features, --events, --lines: as for vhost_user_balloon. --no-sandbox:
+ * guests' processes may make any system call. --end-with-lender: the kernel ends them with the
+ * lender.
+ * --leave: signals end the lender alone, as the line `leave` does: a service that starts anew goes
+ * on with its guests.
  */
 #include "guest/options.h"
 #include "host/host.h"
@@ -89,20 +100,33 @@ static void take_config(struct host *host, const struct config *config)
 }
 
 static const char help[] =
-    "vhost_user_host FOLDER --budget MIB [--floor MIB] [--period MS] [--step N] [--strict] [--strict-pages] [--events] "
+    "vhost_user_host FOLDER --budget MIB [--floor MIB] [--period MS] [--step N] [--strict] "
+    "[--strict-pages] [--events] "
     "[--features HEX] [--lines N] [--program PATH] [--no-sandbox] [--end-with-lender] [--leave]\n"
-    "                [--config FILE] [--control PATH] [--control-mode OCTAL] [--control-group NAME] [--status PATH] [--status-mode OCTAL] "
+    "                [--config FILE] [--control PATH] [--control-mode OCTAL] [--control-group "
+    "NAME] [--status PATH] [--status-mode OCTAL] "
     "[--status-group NAME] [--log-level WORD]";
 
-static enum command_line read_words(struct host *host, struct service *service, int count, char **words)
+static enum command_line read_words(struct host *host, struct service *service, int count,
+                                    char **words)
 {
-    const struct option_row rows[] = {
-        {"budget", .read = read_mebibytes, .at = &host->frames}, {"floor", .read = read_mebibytes, .at = &host->floor},
-        {"step", .read = read_step, .at = &host->step}, {"period", .read = read_period, .at = &host->period},
-        {"features", .read = read_features, .at = &host->features}, {"lines", .read = read_lines, .at = &most_lines},
-        {"program", .read = read_word, .at = &host->program}, {"strict", .flag = &host->strict}, {"strict-pages", .flag = &host->strict_pages},
-        {"events", .flag = &host->events}, {"no-sandbox", .flag = &host->no_sandbox}, {"end-with-lender", .flag = &host->end_with_lender},
-        {"leave", .flag = &host->leaves}, SERVICE_OPTIONS(service), {"help", .answer = help}, {"version", .answer = "vhost_user_host " VB_VERSION}, {0}};
+    const struct option_row rows[] = {{"budget", .read = read_mebibytes, .at = &host->frames},
+                                      {"floor", .read = read_mebibytes, .at = &host->floor},
+                                      {"step", .read = read_step, .at = &host->step},
+                                      {"period", .read = read_period, .at = &host->period},
+                                      {"features", .read = read_features, .at = &host->features},
+                                      {"lines", .read = read_lines, .at = &most_lines},
+                                      {"program", .read = read_word, .at = &host->program},
+                                      {"strict", .flag = &host->strict},
+                                      {"strict-pages", .flag = &host->strict_pages},
+                                      {"events", .flag = &host->events},
+                                      {"no-sandbox", .flag = &host->no_sandbox},
+                                      {"end-with-lender", .flag = &host->end_with_lender},
+                                      {"leave", .flag = &host->leaves},
+                                      SERVICE_OPTIONS(service),
+                                      {"help", .answer = help},
+                                      {"version", .answer = "vhost_user_host " VB_VERSION},
+                                      {0}};
     host->features = USUAL_FEATURES;
     host->step = STEP;
     host->floor = UINT32_MAX;
@@ -112,7 +136,8 @@ static enum command_line read_words(struct host *host, struct service *service, 
     return line == LINE_READ && !(host->folder && host->frames > 0) ? LINE_WRONG : line;
 }
 
-/* This program, and that of guests' processes: beside this one, where none is named. False where it isn't there, which is said. */
+/* This program, and that of guests' processes: beside this one, where none is named. False where it
+ * isn't there, which is said. */
 static bool find_program(struct host *host)
 {
     static char path[4096], itself[sizeof path];
@@ -140,7 +165,8 @@ static bool can_offer(uint64_t features)
 {
     VbDevice device;
     VbSettings settings = {.memory_end = 2 * BALLOON_PAGE, .offered = features};
-    return vb_new(&device, settings) == VB_OK || refuse("the device can't offer the features 0x%llx", (unsigned long long)features);
+    return vb_new(&device, settings) == VB_OK ||
+           refuse("the device can't offer the features 0x%llx", (unsigned long long)features);
 }
 
 /* Ends all guests' processes, which have a moment for it. */
@@ -151,7 +177,8 @@ static void end_all(struct host *host)
         continue;
     for (unsigned i = 0; i < host->leaving_count; i++) {
         struct seat *seat = host->leaving[i];
-        struct pollfd its = {seat->process_file >= 0 ? seat->process_file : seat->channel, POLLIN, 0};
+        struct pollfd its = {seat->process_file >= 0 ? seat->process_file : seat->channel, POLLIN,
+                             0};
         int64_t left = end - loop_now();
         if (seat->process_file < 0 || poll(&its, 1, left > 0 ? (int)left : 0) > 0)
             continue;
@@ -160,7 +187,8 @@ static void end_all(struct host *host)
     }
 }
 
-/* Becomes the program that is there now, which takes guests over as they are; comes back with a status where that can't run after all. */
+/* Becomes the program that is there now, which takes guests over as they are; comes back with a
+ * status where that can't run after all. */
 static int become(const struct host *host, const struct service *service, char **words)
 {
     service_hand_on(service);
@@ -181,8 +209,10 @@ int main(int count, char **words)
         fprintf(stderr, "%s\n", help);
     if (line != LINE_READ)
         return line == LINE_WRONG ? 2 : 0;
-    process_allow_files(FILES_OF_LENDER + MOST_GUESTS * FILES_OF_SEAT + CONTROL_SOCKETS * MOST_CONTROL_CLIENTS);
-    if (!can_be_shown(host.folder) || !can_offer(host.features) || !find_program(&host) || !folder_lock(&host) || !answers_begin(&host.answers))
+    process_allow_files(FILES_OF_LENDER + MOST_GUESTS * FILES_OF_SEAT +
+                        CONTROL_SOCKETS * MOST_CONTROL_CLIENTS);
+    if (!can_be_shown(host.folder) || !can_offer(host.features) || !find_program(&host) ||
+        !folder_lock(&host) || !answers_begin(&host.answers))
         return 2;
     folder_take_over(&host);
     if (!service_begin(&service, &host, host.folder))

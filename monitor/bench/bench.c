@@ -1,30 +1,40 @@
-/* What a notice takes through balloon.h and the library, beside a balloon in plain C by hand (bench_plain.c).
+/* What a notice takes through balloon.h and the library, beside a balloon in plain C by hand
+ * (bench_plain.c).
  *
  *     bench                          nanoseconds, as a table: without discarding, and with it
- *     bench count SIDE ROW NOTICES   makes n notices of a row, for who counts instructions: SIDE is shim, plain or none
+ *     bench count SIDE ROW NOTICES   makes n notices of a row, for who counts instructions: SIDE is
+ * shim, plain or none
  *
  * measure-notices does both, and compares with goals.
  */
 #include "bench.h"
 #include <time.h>
 
-enum { SIZE = 256, ROUNDS = 101, NOTICES = 200, WARM = 20, DISCARDING_ROUNDS = 15, DISCARDING_NOTICES = 20 };
+enum {
+    SIZE = 256,
+    ROUNDS = 101,
+    NOTICES = 200,
+    WARM = 20,
+    DISCARDING_ROUNDS = 15,
+    DISCARDING_NOTICES = 20
+};
 
 static const struct row {
     const char *what;
-    uint32_t kind, chains, count;       /* of each chain: pages that a request names, or pieces of a report */
+    uint32_t kind, chains,
+        count; /* of each chain: pages that a request names, or pieces of a report */
     bool scattered;
 } rows[] = {
-    { "1 page", VB_INFLATE, 1, 1, false },
-    { "256 pages in a row", VB_INFLATE, 1, 256, false },
-    { "256 scattered pages", VB_INFLATE, 1, 256, true },
-    { "report of 32 pieces", VB_REPORT, 1, 32, true },
-    { "256 chains of a page", VB_INFLATE, 256, 1, true },
+    {"1 page", VB_INFLATE, 1, 1, false},
+    {"256 pages in a row", VB_INFLATE, 1, 256, false},
+    {"256 scattered pages", VB_INFLATE, 1, 256, true},
+    {"report of 32 pieces", VB_REPORT, 1, 32, true},
+    {"256 chains of a page", VB_INFLATE, 256, 1, true},
 };
 enum { ROWS = sizeof rows / sizeof rows[0] };
 
 enum side { SHIM, PLAIN, NONE };
-static const char *const SIDES[] = { "shim", "plain", "none" };
+static const char *const SIDES[] = {"shim", "plain", "none"};
 
 uint64_t interrupts;
 static uint64_t told_first, told_runs;
@@ -44,7 +54,8 @@ static uint32_t page_of(const struct row *row, uint32_t place)
 static void write_report(struct guest *guest, const struct row *row)
 {
     for (uint16_t i = 0; i < row->count; i++)
-        describe(guest, VB_REPORT, i, page_of(row, i) * 4096ull, 4096, WRITE | (i + 1u < row->count ? NEXT : 0), i + 1);
+        describe(guest, VB_REPORT, i, page_of(row, i) * 4096ull, 4096,
+                 WRITE | (i + 1u < row->count ? NEXT : 0), i + 1);
 }
 
 static void write_requests(struct guest *guest, const struct row *row)
@@ -57,10 +68,11 @@ static void write_requests(struct guest *guest, const struct row *row)
     }
 }
 
-/* A guest whose rings have a row's chains at every place, so that the index alone publishes them again. */
+/* A guest whose rings have a row's chains at every place, so that the index alone publishes them
+ * again. */
 static void begin(struct guest *guest, const struct row *row)
 {
-    const VbSettings settings = { .offered = LINUX_FEATURES, .skips_bad_pages = 1 };
+    const VbSettings settings = {.offered = LINUX_FEATURES, .skips_bad_pages = 1};
     start(guest, BALLOON_PRIVATE, settings, LINUX_FEATURES, SIZE);
     if (row->kind == VB_REPORT)
         write_report(guest, row);
@@ -80,7 +92,8 @@ static void notice(struct guest *guest, enum side side, const struct row *row)
 {
     uint64_t pages = (uint64_t)row->chains * row->count;
     guest->published[row->kind] = (uint16_t)(guest->published[row->kind] + row->chains);
-    *(volatile uint16_t *)(void *)(guest->regions[0].host + avail_of(row->kind) + 2) = htole16(guest->published[row->kind]);
+    *(volatile uint16_t *)(void *)(guest->regions[0].host + avail_of(row->kind) + 2) =
+        htole16(guest->published[row->kind]);
     if (side == SHIM)
         EXPECT(shim_notify(guest, row->kind) == pages);
     if (side == PLAIN)
@@ -127,13 +140,14 @@ static int compare(const void *one, const void *other)
     return (first > second) - (first < second);
 }
 
-/* Many short rounds of each side in turn, so that other work of the machine meets both: the least time of each, and the
- * median of the rounds' ratios. */
-static void measure(const struct row *row, double time_side(struct guest *, enum side, const struct row *), int rounds,
+/* Many short rounds of each side in turn, so that other work of the machine meets both: the least
+ * time of each, and the median of the rounds' ratios. */
+static void measure(const struct row *row,
+                    double time_side(struct guest *, enum side, const struct row *), int rounds,
                     const char *how)
 {
     static _Alignas(4096) struct guest guests[2];
-    double least[2] = { 1e18, 1e18 }, ratios[ROUNDS];
+    double least[2] = {1e18, 1e18}, ratios[ROUNDS];
     for (int side = SHIM; side <= PLAIN; side++)
         begin(&guests[side], row);
     plain_start(&guests[PLAIN], row->kind);
@@ -146,7 +160,8 @@ static void measure(const struct row *row, double time_side(struct guest *, enum
         ratios[i] = times[SHIM] / times[PLAIN];
     }
     qsort(ratios, (size_t)rounds, sizeof ratios[0], compare);
-    printf("%-22s %-12s %9.0f %9.0f %6.2f\n", row->what, how, least[SHIM], least[PLAIN], ratios[rounds / 2]);
+    printf("%-22s %-12s %9.0f %9.0f %6.2f\n", row->what, how, least[SHIM], least[PLAIN],
+           ratios[rounds / 2]);
     for (int side = SHIM; side <= PLAIN; side++)
         free_memory(&guests[side]);
 }

@@ -1,5 +1,6 @@
-/* What a notice takes where nothing is proved: a balloon in plain C, by hand. It reads rings in place and only what is in use,
- * and tests what a guest may get wrong. The bench compares with it; nothing else uses it. */
+/* What a notice takes where nothing is proved: a balloon in plain C, by hand. It reads rings in
+ * place and only what is in use, and tests what a guest may get wrong. The bench compares with it;
+ * nothing else uses it. */
 #include "bench.h"
 
 enum { MOST = 256, MOST_BYTES = 1024, MOST_PIECES_OF_REPORT = 32, BROKEN = -1 };
@@ -8,8 +9,8 @@ static struct plain {
     const struct guest *guest;
     VbQueue queue;
     const uint8_t *avail, *table;
-    uint8_t *used;              /* where the queue's parts are here */
-    uint64_t pages;             /* of memory */
+    uint8_t *used;  /* where the queue's parts are here */
+    uint64_t pages; /* of memory */
     bool discards;
     VbRun runs[MOST];
 } plain;
@@ -17,7 +18,8 @@ static struct plain {
 /* The first address of these bytes, where all lie in one region. */
 static inline uint8_t *plain_host(uint64_t address, uint64_t length)
 {
-    for (const struct balloon_region *it = plain.guest->regions; it < plain.guest->regions + 2; it++)
+    for (const struct balloon_region *it = plain.guest->regions; it < plain.guest->regions + 2;
+         it++)
         if (address - it->guest < it->length && length <= it->length - (address - it->guest))
             return it->host + (address - it->guest);
     return NULL;
@@ -32,7 +34,8 @@ static inline uint16_t word_at(const uint8_t *host)
 static void plain_discard(const VbRun *run)
 {
     uint64_t from = run->first * 4096ull, to = from + run->count * 4096ull;
-    for (const struct balloon_region *it = plain.guest->regions; it < plain.guest->regions + 2; it++) {
+    for (const struct balloon_region *it = plain.guest->regions; it < plain.guest->regions + 2;
+         it++) {
         uint64_t first = from > it->guest ? from : it->guest;
         uint64_t end = to < it->guest + it->length ? to : it->guest + it->length;
         if (first < end && madvise(it->host + (first - it->guest), end - first, MADV_DONTNEED) != 0)
@@ -52,16 +55,16 @@ static inline uint32_t join(uint32_t count, VbRun *run, uint32_t page, uint64_t 
     } else {
         if (run->count > 0)
             plain.runs[count++] = *run;
-        *run = (VbRun){ page, 1 };
+        *run = (VbRun){page, 1};
     }
     return count;
 }
 
-/* The runs of a request's page numbers, each read once where it is; how many, or BROKEN. Numbers that two pieces share are left
- * to others. */
+/* The runs of a request's page numbers, each read once where it is; how many, or BROKEN. Numbers
+ * that two pieces share are left to others. */
 static inline int request(uint16_t head, const uint8_t *table, uint32_t size)
 {
-    VbRun run = { UINT32_MAX, 0 };
+    VbRun run = {UINT32_MAX, 0};
     const uint64_t pages = plain.pages;
     uint32_t length = 0, count = 0;
     for (uint32_t steps = 0;; steps++) {
@@ -92,10 +95,10 @@ static inline int report(uint16_t head, const uint8_t *table, uint32_t size)
         memcpy(words, table + 16 * head, 16);
         uint32_t length = (uint32_t)words[1], flags = words[1] >> 32 & 0xffff;
         uint64_t first = words[0] / 4096, pages = length / 4096;
-        if ((words[0] | length) % 4096 || pages == 0 || first >= plain.pages || pages > plain.pages - first
-            || !(flags & WRITE) || flags & INDIRECT)
+        if ((words[0] | length) % 4096 || pages == 0 || first >= plain.pages ||
+            pages > plain.pages - first || !(flags & WRITE) || flags & INDIRECT)
             return BROKEN;
-        plain.runs[count++] = (VbRun){ (uint32_t)first, (uint32_t)pages };
+        plain.runs[count++] = (VbRun){(uint32_t)first, (uint32_t)pages};
         if (!(flags & NEXT))
             return (int)count;
         head = (uint16_t)(words[1] >> 48);
@@ -120,7 +123,8 @@ void plain_discards(bool discards)
     plain.discards = discards;
 }
 
-/* The driver kicked the queue: serves what is available. How many pages were named; `told` gets them, run by run. */
+/* The driver kicked the queue: serves what is available. How many pages were named; `told` gets
+ * them, run by run. */
 uint64_t plain_notify(uint32_t kind, void (*told)(const VbRun *runs, uint32_t count))
 {
     const uint32_t size = plain.queue.size, mask = size - 1;
@@ -139,7 +143,7 @@ uint64_t plain_notify(uint32_t kind, void (*told)(const VbRun *runs, uint32_t co
         told(plain.runs, (uint32_t)count);
         for (int i = 0; plain.discards && i < count; i++)
             plain_discard(&plain.runs[i]);
-        uint32_t element[2] = { head, 0 };
+        uint32_t element[2] = {head, 0};
         memcpy(plain.used + 4 + 8 * (used & mask), element, 8);
         next++, used++;
         __atomic_thread_fence(__ATOMIC_RELEASE);

@@ -1,6 +1,8 @@
-/* A balloon device over guest memory that lies in regions with holes. The library of vb.h decides which access a notice makes, where,
- * in which order, and what it means. This file obeys it, and makes them all. It tests no bound, since numbers come from the library:
- * it adds an offset to where a region is mapped. A monitor calls balloon_calls.h. Include this file first, or define _GNU_SOURCE. */
+/* A balloon device over guest memory that lies in regions with holes. The library of vb.h decides
+ * which access a notice makes, where, in which order, and what it means. This file obeys it, and
+ * makes them all. It tests no bound, since numbers come from the library: it adds an offset to
+ * where a region is mapped. A monitor calls balloon_calls.h. Include this file first, or define
+ * _GNU_SOURCE. */
 #ifndef BALLOON_H
 #define BALLOON_H
 #ifndef _GNU_SOURCE
@@ -17,19 +19,22 @@
 #error "include balloon.h before other headers, or define _GNU_SOURCE"
 #endif
 #ifndef BALLOON_MOST_REGIONS
-#define BALLOON_MOST_REGIONS 64         /* regions that a balloon has at most */
+#define BALLOON_MOST_REGIONS 64 /* regions that a balloon has at most */
 #endif
 
-/* In place of a file: private anonymous memory; shared anonymous memory, or a file that the monitor has no descriptor of. */
+/* In place of a file: private anonymous memory; shared anonymous memory, or a file that the monitor
+ * has no descriptor of. */
 enum { BALLOON_PRIVATE = -1, BALLOON_SHARED = -2, BALLOON_PAGE = 4096, BALLOON_MOST_CHAINS = 256 };
 
-/* Guest memory from one address on, mapped at `host`: whole pages. No two overlap; their order is free. */
+/* Guest memory from one address on, mapped at `host`: whole pages. No two overlap; their order is
+ * free. */
 struct balloon_region {
     uint64_t guest, length;
     uint8_t *host;
-    int fd;                     /* the shared file that backs it, or BALLOON_PRIVATE or BALLOON_SHARED */
-    uint64_t offset;            /* where the region begins in that file */
-    uint64_t page_size;         /* bytes of the pages of the machine that back it: 4096 (or 0) to 1 GiB, a power of two */
+    int fd;             /* the shared file that backs it, or BALLOON_PRIVATE or BALLOON_SHARED */
+    uint64_t offset;    /* where the region begins in that file */
+    uint64_t page_size; /* bytes of the pages of the machine that back it: 4096 (or 0) to 1 GiB, a
+                           power of two */
 };
 
 /* A notice that pauses amid a chain, and the pieces of this chain. */
@@ -39,59 +44,77 @@ struct balloon_pause {
 };
 
 struct balloon {
-    VbBalloon state;            /* all that a device is: plain data, which may be copied; balloon_save makes bytes of it */
-    const struct balloon_region *regions;   /* the monitor's; they stay while the balloon uses them */
+    VbBalloon state; /* all that a device is: plain data, which may be copied; balloon_save makes
+                        bytes of it */
+    const struct balloon_region *regions; /* the monitor's; they stay while the balloon uses them */
     size_t region_count;
-    VbRegion places[BALLOON_MOST_REGIONS];  /* the same, as the library sees them */
-    /* What a monitor may set after balloon_init; each hook may be NULL. They get `context`. A hook may call the balloon: where that resets
-     * the device, or moves the notice's queue, the notice makes no access any longer (VB_STALE); where it ends a round of hints, none of
-     * its pages is discarded any longer. In a hook no further notice begins (the result has `more`), and regions stay. */
-    uint32_t most_chains, most_pages;   /* a notice begins no further chain after these, and pauses amid one after this many numbers, at the
-                                         * end of a portion: at first 256, and any number */
-    bool keeps_pages;           /* no page is discarded (counted: kept), as under a passed-through device; may be set at any time */
+    VbRegion places[BALLOON_MOST_REGIONS]; /* the same, as the library sees them */
+    /* What a monitor may set after balloon_init; each hook may be NULL. They get `context`. A hook
+     * may call the balloon: where that resets the device, or moves the notice's queue, the notice
+     * makes no access any longer (VB_STALE); where it ends a round of hints, none of its pages is
+     * discarded any longer. In a hook no further notice begins (the result has `more`), and regions
+     * stay. */
+    uint32_t most_chains,
+        most_pages; /* a notice begins no further chain after these, and pauses amid one after this
+                     * many numbers, at the end of a portion: at first 256, and any number */
+    bool keeps_pages; /* no page is discarded (counted: kept), as under a passed-through device; may
+                         be set at any time */
     void *context;
-    /* These pages are given up (VB_INFLATE) or free (VB_REPORT, VB_HINT), before any of them is discarded; or requested back
-     * (VB_DEFLATE). A driver may take hinted pages back at any time, by writing to them.
-     * It is called once for each portion of 256 numbers of a request, which is given back once, after the last portion. */
+    /* These pages are given up (VB_INFLATE) or free (VB_REPORT, VB_HINT), before any of them is
+     * discarded; or requested back (VB_DEFLATE). A driver may take hinted pages back at any time,
+     * by writing to them. It is called once for each portion of 256 numbers of a request, which is
+     * given back once, after the last portion. */
     void (*on_pages)(void *context, uint32_t kind, const VbRun *runs, uint32_t count);
     /* The guest told its statistics, any tags in any order. */
     void (*on_statistics)(void *context, const VbStatistic *figures, uint32_t count);
-    /* The driver sent this id of hints: a round of hints begins with its own, and ends with any other one. */
+    /* The driver sent this id of hints: a round of hints begins with its own, and ends with any
+     * other one. */
     void (*on_hint_id)(void *context, uint32_t id);
-    /* Discards bytes of a region, whole pages of its page_size, in place of balloon_discard_bytes; 0 or an errno. */
-    int (*discard)(void *context, const struct balloon_region *region, uint64_t at, uint64_t length);
-    /* The set of the pages in the balloon, or NULL: words of the monitor's, zeros at first (vb_mark). A page is put in before
-     * it is discarded, and taken out before its chain is given back. A reset empties it. Save and restore it beside `state`. */
+    /* Discards bytes of a region, whole pages of its page_size, in place of balloon_discard_bytes;
+     * 0 or an errno. */
+    int (*discard)(void *context, const struct balloon_region *region, uint64_t at,
+                   uint64_t length);
+    /* The set of the pages in the balloon, or NULL: words of the monitor's, zeros at first
+     * (vb_mark). A page is put in before it is discarded, and taken out before its chain is given
+     * back. A reset empties it. Save and restore it beside `state`. */
     uint64_t *ballooned;
-    size_t ballooned_words;     /* for all pages: memory_end / 4096 / 64, rounded up */
-    /* The set of the pages of the deflate that is held, beside `ballooned` where the settings say holds_deflates, in as many words: they
-     * leave that set once the deflate is granted. Zeros at first. Save and restore it beside that set. */
+    size_t ballooned_words; /* for all pages: memory_end / 4096 / 64, rounded up */
+    /* The set of the pages of the deflate that is held, beside `ballooned` where the settings say
+     * holds_deflates, in as many words: they leave that set once the deflate is granted. Zeros at
+     * first. Save and restore it beside that set. */
     uint64_t *deflating;
-    struct balloon_pause paused[2];     /* of inflates and of deflates; `what` is 0 where none does */
-    VbNotice notice;            /* what is to be done */
-    VbRoom room;                /* the private copies, and what the library makes of them */
+    struct balloon_pause paused[2]; /* of inflates and of deflates; `what` is 0 where none does */
+    VbNotice notice;                /* what is to be done */
+    VbRoom room;                    /* the private copies, and what the library makes of them */
 };
 
 /* What happened, and what the monitor has to do. */
 struct balloon_result {
-    uint32_t code;              /* VB_OK: something was served; VB_NOTHING; or why the last chain wasn't served */
-    uint32_t rule, chains;      /* of VB_BROKEN; how many were served */
-    uint32_t interrupts;        /* bit 1 << kind: interrupt for a used buffer of this queue */
-    bool configuration;         /* tell of a change of configuration: the device needs a reset */
-    bool more;                  /* as much was served as a notice may, and more is available, of a chain or of the queue: call again, later */
-    bool held;                  /* a deflate is held now, of `held_pages` pages: balloon_give_deflate grants it */
+    uint32_t
+        code; /* VB_OK: something was served; VB_NOTHING; or why the last chain wasn't served */
+    uint32_t rule, chains; /* of VB_BROKEN; how many were served */
+    uint32_t interrupts;   /* bit 1 << kind: interrupt for a used buffer of this queue */
+    bool configuration;    /* tell of a change of configuration: the device needs a reset */
+    bool more; /* as much was served as a notice may, and more is available, of a chain or of the
+                  queue: call again, later */
+    bool held; /* a deflate is held now, of `held_pages` pages: balloon_give_deflate grants it */
     uint32_t held_pages;
-    uint64_t pages, discarded;  /* named by inflates, deflates, reports and hints; of these, discarded */
-    uint64_t waiting;           /* of these, pages whose large page wasn't given up whole yet (vb_large_pages) */
-    uint64_t skipped;           /* numbers past the end or of reserved pages */
-    uint64_t late;              /* pages of hints that came while no round was open: they aren't named */
-    uint64_t marked, unmarked;  /* pages put into the set of ballooned pages, or taken out; those that the sets haven't words for */
-    uint64_t in_holes, kept;    /* in no region; not discarded, by `error`, keeps_pages, or as reports stay (vb_keeps_reports), or hints;
-                                   or as a hook called the balloon (vb_recheck) */
+    uint64_t pages,
+        discarded; /* named by inflates, deflates, reports and hints; of these, discarded */
+    uint64_t
+        waiting; /* of these, pages whose large page wasn't given up whole yet (vb_large_pages) */
+    uint64_t skipped; /* numbers past the end or of reserved pages */
+    uint64_t late;    /* pages of hints that came while no round was open: they aren't named */
+    uint64_t marked, unmarked; /* pages put into the set of ballooned pages, or taken out; those
+                                  that the sets haven't words for */
+    uint64_t in_holes,
+        kept; /* in no region; not discarded, by `error`, keeps_pages, or as reports stay
+                 (vb_keeps_reports), or hints; or as a hook called the balloon (vb_recheck) */
     int error;
 };
 
-typedef uint64_t __attribute__((may_alias, aligned(1))) balloon_word64;     /* anywhere, as the next one */
+typedef uint64_t __attribute__((may_alias, aligned(1)))
+balloon_word64; /* anywhere, as the next one */
 typedef uint32_t __attribute__((may_alias, aligned(1))) balloon_word32;
 typedef uint16_t __attribute__((may_alias)) balloon_word16;
 
@@ -104,7 +127,7 @@ static inline uint8_t *balloon_at(const struct balloon *balloon, VbSpot spot)
 /* Copies bytes that others may write meanwhile: each is read once. */
 static inline void balloon_read_once(uint8_t *to, const uint8_t *from, size_t length)
 {
-    for (; length >= 16; length -= 16, from += 16, to += 16) {       /* a descriptor */
+    for (; length >= 16; length -= 16, from += 16, to += 16) { /* a descriptor */
         ((balloon_word64 *)to)[0] = ((const volatile balloon_word64 *)from)[0];
         ((balloon_word64 *)to)[1] = ((const volatile balloon_word64 *)from)[1];
     }
@@ -116,40 +139,49 @@ static inline void balloon_read_once(uint8_t *to, const uint8_t *from, size_t le
         *to++ = *(const volatile uint8_t *)from++;
 }
 
-/* Gives bytes back to the machine: they read as zeros then (as the file's where a private mapping has one). 0 or an errno. */
+/* Gives bytes back to the machine: they read as zeros then (as the file's where a private mapping
+ * has one). 0 or an errno. */
 static inline int balloon_drop(const struct balloon_region *region, const VbCut *cut)
 {
     int status, advice = region->fd == BALLOON_SHARED ? MADV_REMOVE : MADV_DONTNEED;
     if (region->fd < 0)
         return madvise(region->host + cut->offset, cut->length, advice) ? errno : 0;
     do
-        status = fallocate(region->fd, FALLOC_FL_PUNCH_HOLE | FALLOC_FL_KEEP_SIZE, (off_t)cut->in_file, (off_t)cut->length);
+        status = fallocate(region->fd, FALLOC_FL_PUNCH_HOLE | FALLOC_FL_KEEP_SIZE,
+                           (off_t)cut->in_file, (off_t)cut->length);
     while (status != 0 && errno == EINTR);
     return status ? errno : 0;
 }
 
-/* Discards a part; where the machine's pages are large, those that are given up whole, and the others wait. */
-static inline void balloon_discard(const struct balloon *balloon, const VbCut *part, struct balloon_result *result)
+/* Discards a part; where the machine's pages are large, those that are given up whole, and the
+ * others wait. */
+static inline void balloon_discard(const struct balloon *balloon, const VbCut *part,
+                                   struct balloon_result *result)
 {
     const struct balloon_region *region = &balloon->regions[part->region];
     uint64_t pages = part->length / BALLOON_PAGE;
     VbLarge large;
     if (region->page_size) {
-        large = vb_large_pages(&balloon->state.device, &balloon->places[part->region], region->page_size, part,
-                               balloon->ballooned, balloon->ballooned ? balloon->ballooned_words : 0);
+        large = vb_large_pages(&balloon->state.device, &balloon->places[part->region],
+                               region->page_size, part, balloon->ballooned,
+                               balloon->ballooned ? balloon->ballooned_words : 0);
         result->waiting += large.waiting;
         if (large.cut.length == 0)
             return;
         pages -= large.waiting;
         part = &large.cut;
     }
-    int error = balloon->discard ? balloon->discard(balloon->context, region, part->offset, part->length) : balloon_drop(region, part);
+    int error = balloon->discard
+                    ? balloon->discard(balloon->context, region, part->offset, part->length)
+                    : balloon_drop(region, part);
     *(error ? &result->kept : &result->discarded) += pages;
     result->error = error ? error : result->error;
 }
 
-/* After a hook, which may have called the balloon: what is still to be done of `what`. What isn't discarded then is kept. */
-static inline uint32_t balloon_recheck(const struct balloon *balloon, uint32_t what, struct balloon_result *result)
+/* After a hook, which may have called the balloon: what is still to be done of `what`. What isn't
+ * discarded then is kept. */
+static inline uint32_t balloon_recheck(const struct balloon *balloon, uint32_t what,
+                                       struct balloon_result *result)
 {
     const uint32_t still = what & vb_recheck(&balloon->notice, &balloon->state);
     if ((what ^ still) & VB_DISCARD)
@@ -157,19 +189,21 @@ static inline uint32_t balloon_recheck(const struct balloon *balloon, uint32_t w
     return still;
 }
 
-/* Tells the pages that are named, and keeps the set of those in the balloon: those of a deflate that is held stay in it. Whether a hook
- * was called. */
+/* Tells the pages that are named, and keeps the set of those in the balloon: those of a deflate
+ * that is held stay in it. Whether a hook was called. */
 static inline bool balloon_tell_pages(struct balloon *balloon, struct balloon_result *result)
 {
     const VbNotice *notice = &balloon->notice;
-    const uint32_t kind = notice->waits ? (uint32_t)VB_INFLATE : notice->kind;      /* what waits is put into its set */
+    const uint32_t kind =
+        notice->waits ? (uint32_t)VB_INFLATE : notice->kind; /* what waits is put into its set */
     uint64_t *set = notice->waits ? balloon->deflating : balloon->ballooned;
-    VbMarked marked = { VB_OK, 0 };
+    VbMarked marked = {VB_OK, 0};
     result->pages += notice->pages;
     *(notice->kind == VB_HINT ? &result->late : &result->skipped) += notice->skipped;
     result->kept += notice->kept;
     if (balloon->ballooned)
-        marked = vb_mark(kind, balloon->room.runs, notice->runs, set, set ? balloon->ballooned_words : 0);
+        marked = vb_mark(kind, balloon->room.runs, notice->runs, set,
+                         set ? balloon->ballooned_words : 0);
     result->marked += notice->waits ? 0 : marked.pages;
     result->unmarked += marked.code == VB_BAD_ARGUMENT ? notice->pages : 0;
     const bool told = balloon->on_pages && (notice->runs > 0 || notice->kind != VB_HINT);
@@ -183,13 +217,15 @@ static inline void balloon_give_back(const struct balloon *balloon)
 {
     const VbNotice *notice = &balloon->notice;
     *(volatile balloon_word32 *)balloon_at(balloon, notice->id_at) = htole32(notice->id);
-    *(volatile balloon_word32 *)balloon_at(balloon, notice->length_at) = htole32(notice->used_length);
+    *(volatile balloon_word32 *)balloon_at(balloon, notice->length_at) =
+        htole32(notice->used_length);
     __atomic_thread_fence(__ATOMIC_RELEASE);
     *(volatile balloon_word16 *)balloon_at(balloon, notice->index_at) = htole16(notice->used_index);
 }
 
 /* Tells, discards and gives back; what is still to be done then. */
-static inline uint32_t balloon_serve(struct balloon *balloon, uint32_t what, struct balloon_result *result)
+static inline uint32_t balloon_serve(struct balloon *balloon, uint32_t what,
+                                     struct balloon_result *result)
 {
     result->chains += (what & VB_TELL_FIGURES) != 0;
     if (what & VB_TELL_PAGES && balloon_tell_pages(balloon, result))
@@ -213,8 +249,10 @@ static inline uint32_t balloon_serve(struct balloon *balloon, uint32_t what, str
     return what;
 }
 
-/* Does each thing that is to be done, in the order of the bits of `what`; answers the word that was read, if one was. */
-static inline uint16_t balloon_perform(struct balloon *balloon, uint32_t what, struct balloon_result *result)
+/* Does each thing that is to be done, in the order of the bits of `what`; answers the word that was
+ * read, if one was. */
+static inline uint16_t balloon_perform(struct balloon *balloon, uint32_t what,
+                                       struct balloon_result *result)
 {
     const VbNotice *notice = &balloon->notice;
     uint16_t answer = 0;
@@ -229,14 +267,16 @@ static inline uint16_t balloon_perform(struct balloon *balloon, uint32_t what, s
             answer = le16toh(*(const volatile balloon_word16 *)balloon_at(balloon, notice->at));
     }
     if (what & VB_COPY)
-        balloon_read_once(balloon->room.bytes + notice->into, balloon_at(balloon, notice->at), notice->length);
+        balloon_read_once(balloon->room.bytes + notice->into, balloon_at(balloon, notice->at),
+                          notice->length);
     return answer;
 }
 
 /* What is to be done next, where this was the answer. */
 static inline uint32_t balloon_go_on(struct balloon *balloon, uint16_t answer)
 {
-    return vb_go_on(&balloon->notice, &balloon->state, balloon->places, balloon->region_count, &balloon->room, answer);
+    return vb_go_on(&balloon->notice, &balloon->state, balloon->places, balloon->region_count,
+                    &balloon->room, answer);
 }
 
 /* Obeys until the notice has ended, or pauses. */
@@ -252,7 +292,8 @@ static inline void balloon_obey(struct balloon *balloon, struct balloon_result *
 
 /* ---- pauses */
 
-/* Where the notice of a queue of this kind is kept that pauses: there is none for other kinds than those of requests. */
+/* Where the notice of a queue of this kind is kept that pauses: there is none for other kinds than
+ * those of requests. */
 static inline struct balloon_pause *balloon_pause_of(struct balloon *balloon, uint32_t kind)
 {
     return kind <= VB_DEFLATE ? &balloon->paused[kind] : NULL;
@@ -277,7 +318,8 @@ static inline void balloon_keep_pause(struct balloon *balloon)
     balloon->notice.what = 0;
 }
 
-/* Continues the notice of this queue that pauses; false where none does, or its device is another one by now (VB_STALE). */
+/* Continues the notice of this queue that pauses; false where none does, or its device is another
+ * one by now (VB_STALE). */
 static inline bool balloon_continue(struct balloon *balloon, uint32_t kind)
 {
     struct balloon_pause *pause = balloon_pause_of(balloon, kind);

@@ -1,4 +1,5 @@
-/* The calls of the plain implementation, where it is linked beside the library: each is declared as that of vb.h is. */
+/* The calls of the plain implementation, where it is linked beside the library: each is declared as
+ * that of vb.h is. */
 #ifndef REFERENCE_CALLS_H
 #define REFERENCE_CALLS_H
 #include "vb.h"

@@ -11,7 +11,10 @@ uint64_t little(const uint8_t *bytes, int count)
     return value;
 }
 
-uint64_t page_count(const VbDevice *device) { return device->settings.memory_end / PAGE; }
+uint64_t page_count(const VbDevice *device)
+{
+    return device->settings.memory_end / PAGE;
+}
 
 /* How many page numbers a request has at most. */
 uint64_t longest_request(const VbDevice *device)
@@ -21,7 +24,8 @@ uint64_t longest_request(const VbDevice *device)
 
 bool are_impossible(const VbSettings *settings)
 {
-    return settings->memory_end >= MOST_MEMORY || (settings->offered & ~KNOWN) || !(settings->offered & VERSION_1);
+    return settings->memory_end >= MOST_MEMORY || (settings->offered & ~KNOWN) ||
+           !(settings->offered & VERSION_1);
 }
 
 uint32_t vb_new(VbDevice *device, VbSettings settings)
@@ -33,11 +37,16 @@ uint32_t vb_new(VbDevice *device, VbSettings settings)
     return VB_OK;
 }
 
-void vb_set_target(VbDevice *device, uint32_t pages) { device->target = pages; }
+void vb_set_target(VbDevice *device, uint32_t pages)
+{
+    device->target = pages;
+}
 
 static void reset(VbDevice *device)
 {
-    VbDevice fresh = { .settings = device->settings, .target = device->target, .round = { .last = device->round.last } };
+    VbDevice fresh = {.settings = device->settings,
+                      .target = device->target,
+                      .round = {.last = device->round.last}};
     *device = fresh;
 }
 
@@ -45,13 +54,10 @@ static void reset(VbDevice *device)
 static bool out_of_order(uint8_t status, uint8_t added)
 {
     uint8_t steps = added & (ACKNOWLEDGE | DRIVER | FEATURES_OK | DRIVER_OK);
-    return (steps & (steps - 1)) != 0
-        || (steps == DRIVER && !(status & ACKNOWLEDGE))
-        || (steps == FEATURES_OK && !(status & DRIVER))
-        || (steps == DRIVER_OK && !(status & FEATURES_OK))
-        || (added & (16 | 32 | NEEDS_RESET))
-        || (steps && (added & FAILED))
-        || (steps && (status & (NEEDS_RESET | FAILED)));
+    return (steps & (steps - 1)) != 0 || (steps == DRIVER && !(status & ACKNOWLEDGE)) ||
+           (steps == FEATURES_OK && !(status & DRIVER)) ||
+           (steps == DRIVER_OK && !(status & FEATURES_OK)) || (added & (16 | 32 | NEEDS_RESET)) ||
+           (steps && (added & FAILED)) || (steps && (status & (NEEDS_RESET | FAILED)));
 }
 
 uint32_t vb_write_status(VbDevice *device, uint8_t status)
@@ -67,7 +73,8 @@ uint32_t vb_write_status(VbDevice *device, uint8_t status)
         return 2;
     if ((added & FEATURES_OK) && !(device->features & VERSION_1))
         return 5;
-    if ((added & FEATURES_OK) && device->settings.needs_must_tell && !(device->features & MUST_TELL_HOST))
+    if ((added & FEATURES_OK) && device->settings.needs_must_tell &&
+        !(device->features & MUST_TELL_HOST))
         return 4;
     device->status = status;
     return 0;
@@ -87,7 +94,7 @@ void vb_read_config(const VbDevice *device, uint32_t offset, uint8_t *out, size_
 {
     uint32_t poison = device->settings.offered & VB_F_PAGE_POISON ? device->poison : 0;
     uint32_t id = device->settings.offered & VB_F_FREE_PAGE_HINT ? device->round.shown : 0;
-    const uint32_t words[4] = { device->target, device->actual, id, poison };
+    const uint32_t words[4] = {device->target, device->actual, id, poison};
     for (size_t i = 0; i < length; i++) {
         uint64_t at = (uint64_t)offset + i;
         out[i] = at < sizeof words ? (uint8_t)(words[at / 4] >> 8 * (at % 4)) : 0;
@@ -95,7 +102,8 @@ void vb_read_config(const VbDevice *device, uint32_t offset, uint8_t *out, size_
 }
 
 /* Writes a field of 4 bytes where these bytes cover it whole. */
-static bool write_field(uint32_t *field, uint32_t at, uint32_t offset, const uint8_t *bytes, size_t length)
+static bool write_field(uint32_t *field, uint32_t at, uint32_t offset, const uint8_t *bytes,
+                        size_t length)
 {
     if (at < offset || length < 4 || length - 4 < at - offset)
         return false;
@@ -106,7 +114,8 @@ static bool write_field(uint32_t *field, uint32_t at, uint32_t offset, const uin
 uint32_t vb_write_config(VbDevice *device, uint32_t offset, const uint8_t *bytes, size_t length)
 {
     bool actual = write_field(&device->actual, 4, offset, bytes, length);
-    bool poison = (device->settings.offered & VB_F_PAGE_POISON) && write_field(&device->poison, 12, offset, bytes, length);
+    bool poison = (device->settings.offered & VB_F_PAGE_POISON) &&
+                  write_field(&device->poison, 12, offset, bytes, length);
     return actual || poison ? VB_OK : VB_BAD_ARGUMENT;
 }
 

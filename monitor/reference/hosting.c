@@ -1,4 +1,5 @@
-/* What a host asks of its guests, in plain C: the rules as vb_lending.h says them, one guest at a time. */
+/* What a host asks of its guests, in plain C: the rules as vb_lending.h says them, one guest at a
+ * time. */
 #include "reference.h"
 #include "vb_lending.h"
 
@@ -42,7 +43,7 @@ VbNeed vb_guest_need(const VbHostGuest *guest, uint32_t floor)
         spare = beyond(pages, (Sum)loan->lent + loan->asked);
     else if (loan->pages && loan->uncounted)
         spare = 0;
-    return (VbNeed){ (uint32_t)pages, (uint32_t)less(spare, beyond(pages, guest->least)) };
+    return (VbNeed){(uint32_t)pages, (uint32_t)less(spare, beyond(pages, guest->least))};
 }
 
 /* What a guest has above its most, as far as it can give it. */
@@ -59,33 +60,39 @@ static Sum given_before(const VbHostGuest *guests, const VbNeed *needs, size_t c
 {
     Sum pages = 0;
     for (size_t i = 0; i < count; i++) {
-        bool lower = guests[i].priority < guests[guest].priority, same = guests[i].priority == guests[guest].priority;
+        bool lower = guests[i].priority < guests[guest].priority,
+             same = guests[i].priority == guests[guest].priority;
         pages += lower || (same && gives_before(needs, i, guest)) ? needs[i].spare : 0;
     }
     return pages;
 }
 
-VbTargets vb_guest_targets(const VbBudget *budget, const VbHostGuest *guests, size_t count, VbShare *shares, size_t shares_room,
-                           VbNeed *needs, size_t needs_room, uint32_t *targets, size_t targets_room)
+VbTargets vb_guest_targets(const VbBudget *budget, const VbHostGuest *guests, size_t count,
+                           VbShare *shares, size_t shares_room, VbNeed *needs, size_t needs_room,
+                           uint32_t *targets, size_t targets_room)
 {
     (void)shares;
     if (shares_room != count || needs_room != count || targets_room != count)
-        return (VbTargets){ .code = VB_BAD_ARGUMENT };
+        return (VbTargets){.code = VB_BAD_ARGUMENT};
     for (size_t i = 0; i < count; i++) {
         VbNeed need = vb_guest_need(&guests[i], budget->floor);
         uint32_t first = forced(&guests[i], budget->floor);
-        needs[i] = (VbNeed){ need.pages - first, need.spare - first };
+        needs[i] = (VbNeed){need.pages - first, need.spare - first};
     }
-    Sum lack = missing_pages(needs, count, budget->frames), spare = spared_before(needs, count, count);
+    Sum lack = missing_pages(needs, count, budget->frames),
+        spare = spared_before(needs, count, count);
     for (size_t i = 0; i < count; i++)
-        targets[i] = forced(&guests[i], budget->floor) + (uint32_t)less(beyond(lack, given_before(guests, needs, count, i)), needs[i].spare);
+        targets[i] =
+            forced(&guests[i], budget->floor) +
+            (uint32_t)less(beyond(lack, given_before(guests, needs, count, i)), needs[i].spare);
     if (lack > spare)
-        return (VbTargets){ .code = VB_SHORT, .missing = (uint64_t)less(lack - spare, UINT64_MAX) };
-    return (VbTargets){ .code = VB_OK };
+        return (VbTargets){.code = VB_SHORT, .missing = (uint64_t)less(lack - spare, UINT64_MAX)};
+    return (VbTargets){.code = VB_OK};
 }
 
-uint32_t vb_needs_guest_targets(const VbBudget *budget, const VbHostGuest *guests, size_t count, const uint32_t *old, size_t old_count,
-                                VbNeed *needs, size_t needs_room, uint32_t *rests, size_t rests_room)
+uint32_t vb_needs_guest_targets(const VbBudget *budget, const VbHostGuest *guests, size_t count,
+                                const uint32_t *old, size_t old_count, VbNeed *needs,
+                                size_t needs_room, uint32_t *rests, size_t rests_room)
 {
     Sum pages = 0, asked = 0;
     uint32_t floor = budget->floor;
@@ -93,7 +100,8 @@ uint32_t vb_needs_guest_targets(const VbBudget *budget, const VbHostGuest *guest
     if (needs_room != count || rests_room != count || old_count != count)
         return 1;
     for (size_t i = 0; i < count; i++) {
-        uint32_t first = forced(&guests[i], floor), most = vb_guest_need(&guests[i], (uint32_t)beyond(floor, budget->slack)).spare;
+        uint32_t first = forced(&guests[i], floor),
+                 most = vb_guest_need(&guests[i], (uint32_t)beyond(floor, budget->slack)).spare;
         if (old[i] < first || old[i] > (most > first ? most : first))
             return 1;
         pages += vb_guest_need(&guests[i], floor).pages - first;

@@ -3,7 +3,8 @@
 
 uint32_t vb_kind_of(uint64_t features, uint32_t number)
 {
-    bool statistics = features & STATS_VQ, hint = features & VB_F_FREE_PAGE_HINT, report = features & REPORTING;
+    bool statistics = features & STATS_VQ, hint = features & VB_F_FREE_PAGE_HINT,
+         report = features & REPORTING;
     if (number < 2)
         return number;
     if (number == 2 && statistics)
@@ -13,19 +14,23 @@ uint32_t vb_kind_of(uint64_t features, uint32_t number)
     return report && number == 2u + statistics + hint ? VB_REPORT : VB_NO_KIND;
 }
 
-uint32_t vb_kind(const VbDevice *device, uint32_t number) { return vb_kind_of(device->features, number); }
+uint32_t vb_kind(const VbDevice *device, uint32_t number)
+{
+    return vb_kind_of(device->features, number);
+}
 
 VbQueue *queue_of(VbDevice *device, uint32_t kind)
 {
-    VbQueue *queues[] = { &device->inflate, &device->deflate, &device->statistics, &device->report, &device->hint };
+    VbQueue *queues[] = {&device->inflate, &device->deflate, &device->statistics, &device->report,
+                         &device->hint};
     return kind < VB_NO_KIND ? queues[kind] : NULL;
 }
 
 bool lacks_feature(const VbDevice *device, uint32_t kind)
 {
-    return (kind == VB_STATISTICS && !(device->features & STATS_VQ))
-        || (kind == VB_REPORT && !(device->features & REPORTING))
-        || (kind == VB_HINT && !(device->features & VB_F_FREE_PAGE_HINT));
+    return (kind == VB_STATISTICS && !(device->features & STATS_VQ)) ||
+           (kind == VB_REPORT && !(device->features & REPORTING)) ||
+           (kind == VB_HINT && !(device->features & VB_F_FREE_PAGE_HINT));
 }
 
 /* Whether a part of a ring may not be there. */
@@ -39,13 +44,16 @@ static bool misplaced(const VbDevice *device, uint64_t address, uint64_t alignme
 static bool has_no_place(const VbDevice *device, const VbQueue *queue)
 {
     uint16_t size = queue->size;
-    return size == 0 || size > VB_MAX_QUEUE_SIZE || (size & (size - 1))
-        || misplaced(device, queue->table, TABLE_ALIGNMENT, (uint64_t)DESCRIPTOR_SIZE * size)
-        || misplaced(device, queue->avail, AVAIL_ALIGNMENT, RING_META_SIZE + (uint64_t)AVAIL_ENTRY_SIZE * size)
-        || misplaced(device, queue->used, USED_ALIGNMENT, RING_META_SIZE + (uint64_t)USED_ELEMENT_SIZE * size);
+    return size == 0 || size > VB_MAX_QUEUE_SIZE || (size & (size - 1)) ||
+           misplaced(device, queue->table, TABLE_ALIGNMENT, (uint64_t)DESCRIPTOR_SIZE * size) ||
+           misplaced(device, queue->avail, AVAIL_ALIGNMENT,
+                     RING_META_SIZE + (uint64_t)AVAIL_ENTRY_SIZE * size) ||
+           misplaced(device, queue->used, USED_ALIGNMENT,
+                     RING_META_SIZE + (uint64_t)USED_ELEMENT_SIZE * size);
 }
 
-uint32_t vb_place(VbDevice *device, uint32_t kind, uint64_t table, uint64_t avail, uint64_t used, uint16_t size)
+uint32_t vb_place(VbDevice *device, uint32_t kind, uint64_t table, uint64_t avail, uint64_t used,
+                  uint16_t size)
 {
     VbQueue *queue = queue_of(device, kind);
     if (!queue)
@@ -54,14 +62,15 @@ uint32_t vb_place(VbDevice *device, uint32_t kind, uint64_t table, uint64_t avai
         return VB_BAD_ARGUMENT;
     if (lacks_feature(device, kind))
         return VB_NO_QUEUE;
-    const VbQueue placed = { .table = table, .avail = avail, .used = used, .size = size };
+    const VbQueue placed = {.table = table, .avail = avail, .used = used, .size = size};
     if (has_no_place(device, &placed))
         return VB_MISPLACED;
     *queue = placed;
     return VB_OK;
 }
 
-/* What a call is refused for by the status, in which a bit has to be set, the features and the queue's place. */
+/* What a call is refused for by the status, in which a bit has to be set, the features and the
+ * queue's place. */
 uint32_t refusal_at(const VbDevice *device, uint8_t bit, uint32_t kind, const VbQueue *queue)
 {
     if (are_impossible(&device->settings))

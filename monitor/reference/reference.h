@@ -1,5 +1,6 @@
-/* What the parts of the plain implementation of vb.h have in common. Nothing is proved of it: it explains answers in tests, and
- * replaces the library where that isn't built yet. `build` makes one object of it. */
+/* What the parts of the plain implementation of vb.h have in common. Nothing is proved of it: it
+ * explains answers in tests, and replaces the library where that isn't built yet. `build` makes one
+ * object of it. */
 #ifndef REFERENCE_H
 #define REFERENCE_H
 
@@ -9,14 +10,30 @@
 #include <stdbool.h>
 #include <string.h>
 
-enum { ACKNOWLEDGE = 1, DRIVER = 2, DRIVER_OK = 4, FEATURES_OK = 8, NEEDS_RESET = 64, FAILED = 128 };
-enum { MUST_TELL_HOST = 1, STATS_VQ = 2, REPORTING = 32, PAGE = 4096, REPORT_PIECES = 32, STATISTICS_BYTES = 1020,
-       ID_BYTES = 4 };
+enum {
+    ACKNOWLEDGE = 1,
+    DRIVER = 2,
+    DRIVER_OK = 4,
+    FEATURES_OK = 8,
+    NEEDS_RESET = 64,
+    FAILED = 128
+};
+enum {
+    MUST_TELL_HOST = 1,
+    STATS_VQ = 2,
+    REPORTING = 32,
+    PAGE = 4096,
+    REPORT_PIECES = 32,
+    STATISTICS_BYTES = 1020,
+    ID_BYTES = 4
+};
 enum { NEXT = 1, WRITE = 2, INDIRECT_TABLE = 4, NO_INTERRUPT = 1, FIGURE_BYTES = 10 };
+/* clang-format off */
 /* tools/list-codes: rules, from here */
-enum { BAD_HEAD = 1, BAD_NEXT = 2, TOO_LONG = 3, INDIRECT = 4, WRONG_DIRECTION = 5, OUT_OF_RAM = 6, INDEX_JUMP = 7,
-       BAD_LENGTH = 8, BAD_PAGE = 9, RESERVED_PAGE = 10 };
+enum { BAD_HEAD = 1, BAD_NEXT = 2, TOO_LONG = 3, INDIRECT = 4, WRONG_DIRECTION = 5, OUT_OF_RAM = 6,
+       INDEX_JUMP = 7, BAD_LENGTH = 8, BAD_PAGE = 9, RESERVED_PAGE = 10 };
 /* tools/list-codes: rules, to here */
+/* clang-format on */
 static const uint64_t VERSION_1 = 1ull << 32;
 static const uint64_t KNOWN = 1ull << 32 | 0x3f;
 static const uint64_t MOST_MEMORY = 1ull << 44;
@@ -43,19 +60,33 @@ void hear_id(VbDevice *device, uint32_t id);
 bool is_round(const VbDevice *device);
 
 /* chains.c: descriptors, and the rules of chains */
-typedef struct { uint64_t address; uint32_t length; uint16_t flags, next; } Descriptor;
+typedef struct {
+    uint64_t address;
+    uint32_t length;
+    uint16_t flags, next;
+} Descriptor;
 Descriptor descriptor_at(const uint8_t *table, uint32_t number);
 uint32_t longest(uint16_t size);
-uint32_t broken_rule(const VbDevice *device, uint16_t size, const Descriptor *it, uint32_t before, bool writing);
+uint32_t broken_rule(const VbDevice *device, uint16_t size, const Descriptor *it, uint32_t before,
+                     bool writing);
 bool any_of_direction(const VbPiece *pieces, uint32_t count, uint8_t writable);
-uint32_t buffer_rule(const VbDevice *device, uint32_t kind, const VbPiece *pieces, uint32_t count, uint64_t total);
+uint32_t buffer_rule(const VbDevice *device, uint32_t kind, const VbPiece *pieces, uint32_t count,
+                     uint64_t total);
 
-/* requests.c: what numbers of a request or a report name, their pages as runs, or why it is refused; what is written for a used chain, and where */
-typedef struct { uint32_t code, rule, runs, pages, skipped; } Named;
-typedef struct { uint32_t code; uint64_t element_at, index_at; uint16_t index; } Used;
+/* requests.c: what numbers of a request or a report name, their pages as runs, or why it is
+ * refused; what is written for a used chain, and where */
+typedef struct {
+    uint32_t code, rule, runs, pages, skipped;
+} Named;
+typedef struct {
+    uint32_t code;
+    uint64_t element_at, index_at;
+    uint16_t index;
+} Used;
 Named name(VbDevice *device, uint32_t kind, const uint8_t *bytes, size_t length, VbRun *runs);
 uint32_t report_rule(const VbDevice *device, const VbPiece *pieces, uint32_t count);
-uint32_t tell_figures(VbDevice *device, const uint8_t *bytes, size_t length, VbStatistic *figures, uint32_t *count);
+uint32_t tell_figures(VbDevice *device, const uint8_t *bytes, size_t length, VbStatistic *figures,
+                      uint32_t *count);
 Used use(VbDevice *device, uint32_t kind, VbQueue *queue, uint32_t head);
 
 /* targets.c: sums of any number of pages, and which guest gives before another */
@@ -67,11 +98,27 @@ Sum spared_before(const VbNeed *needs, size_t count, size_t guest);
 /* regions.c: regions of guest memory */
 enum { REGION_PAGE = 4096 };
 bool is_region(const VbRegion *region);
-bool find_within(const VbRegion *regions, size_t count, uint64_t address, uint64_t length, VbSpot *spot);
+bool find_within(const VbRegion *regions, size_t count, uint64_t address, uint64_t length,
+                 VbSpot *spot);
 
-/* notices.c and serving.c: what a notice waits for, in its field `phase`, and all that a call works on */
-enum phase { NO_PHASE, AT_INDEX, AT_ENTRY, AT_WORD, AT_DESCRIPTOR, AT_PART, AT_TOLD, AT_FIGURES, AT_CUT, AT_GIVEN, AT_FLAGS,
-             AT_FLAG_WORD, AT_ID, AT_PAUSE };
+/* notices.c and serving.c: what a notice waits for, in its field `phase`, and all that a call works
+ * on */
+enum phase {
+    NO_PHASE,
+    AT_INDEX,
+    AT_ENTRY,
+    AT_WORD,
+    AT_DESCRIPTOR,
+    AT_PART,
+    AT_TOLD,
+    AT_FIGURES,
+    AT_CUT,
+    AT_GIVEN,
+    AT_FLAGS,
+    AT_FLAG_WORD,
+    AT_ID,
+    AT_PAUSE
+};
 typedef struct {
     VbNotice *notice;
     VbBalloon *balloon;

@@ -5,18 +5,21 @@ static const uint64_t MOST_IN_FILE = 1ull << 62;
 
 bool is_region(const VbRegion *region)
 {
-    return region->guest % REGION_PAGE == 0 && region->length % REGION_PAGE == 0 && region->guest <= MOST_MEMORY
-        && region->length <= MOST_MEMORY - region->guest && region->in_file <= MOST_IN_FILE;
+    return region->guest % REGION_PAGE == 0 && region->length % REGION_PAGE == 0 &&
+           region->guest <= MOST_MEMORY && region->length <= MOST_MEMORY - region->guest &&
+           region->in_file <= MOST_IN_FILE;
 }
 
 /* The region in which all of these bytes lie, and where. */
-bool find_within(const VbRegion *regions, size_t count, uint64_t address, uint64_t length, VbSpot *spot)
+bool find_within(const VbRegion *regions, size_t count, uint64_t address, uint64_t length,
+                 VbSpot *spot)
 {
     for (size_t i = 0; i < count; i++) {
         const VbRegion *it = &regions[i];
-        if (!is_region(it) || address < it->guest || length > it->length || address - it->guest > it->length - length)
+        if (!is_region(it) || address < it->guest || length > it->length ||
+            address - it->guest > it->length - length)
             continue;
-        *spot = (VbSpot){ i, address - it->guest };
+        *spot = (VbSpot){i, address - it->guest};
         return true;
     }
     return false;
@@ -38,7 +41,7 @@ static bool end_of(const VbRegion *regions, size_t count, uint64_t *end)
 uint32_t vb_new_over(VbBalloon *balloon, VbSettings settings, const VbRegion *regions, size_t count)
 {
     uint64_t end;
-    VbBalloon made = { .held = { 0, 0, 0 } };
+    VbBalloon made = {.held = {0, 0, 0}};
     if (!end_of(regions, count, &end))
         return VB_BAD_ARGUMENT;
     if (settings.memory_end == 0)
@@ -53,7 +56,8 @@ uint32_t vb_set_regions(VbBalloon *balloon, const VbRegion *regions, size_t coun
 {
     VbBalloon possible;
     VbSettings settings = balloon->device.settings;
-    if (!end_of(regions, count, &settings.memory_end) || vb_new_over(&possible, settings, regions, count) != VB_OK)
+    if (!end_of(regions, count, &settings.memory_end) ||
+        vb_new_over(&possible, settings, regions, count) != VB_OK)
         return VB_BAD_ARGUMENT;
     balloon->device.settings = settings;
     return VB_OK;
@@ -73,12 +77,14 @@ static bool holds_bytes(const VbRegion *regions, size_t count, uint64_t address,
 static bool holds_queue(const VbRegion *regions, size_t count, const VbQueue *queue)
 {
     uint64_t size = queue->size;
-    return size == 0 || (holds_bytes(regions, count, queue->table, DESCRIPTOR_SIZE * size)
-                         && holds_bytes(regions, count, queue->avail, RING_META_SIZE + AVAIL_ENTRY_SIZE * size)
-                         && holds_bytes(regions, count, queue->used, RING_META_SIZE + USED_ELEMENT_SIZE * size));
+    return size == 0 ||
+           (holds_bytes(regions, count, queue->table, DESCRIPTOR_SIZE * size) &&
+            holds_bytes(regions, count, queue->avail, RING_META_SIZE + AVAIL_ENTRY_SIZE * size) &&
+            holds_bytes(regions, count, queue->used, RING_META_SIZE + USED_ELEMENT_SIZE * size));
 }
 
-uint32_t vb_place_over(VbBalloon *balloon, const VbRegion *regions, size_t count, uint32_t kind, VbQueuePlace at)
+uint32_t vb_place_over(VbBalloon *balloon, const VbRegion *regions, size_t count, uint32_t kind,
+                       VbQueuePlace at)
 {
     VbDevice device = balloon->device;
     uint32_t code = vb_place(&device, kind, at.table, at.avail, at.used, at.size);
@@ -89,10 +95,11 @@ uint32_t vb_place_over(VbBalloon *balloon, const VbRegion *regions, size_t count
     return code;
 }
 
-uint32_t vb_start_queue(VbBalloon *balloon, const VbRegion *regions, size_t count, uint32_t kind, VbQueueStart at)
+uint32_t vb_start_queue(VbBalloon *balloon, const VbRegion *regions, size_t count, uint32_t kind,
+                        VbQueueStart at)
 {
     VbQueue *queue = queue_of(&balloon->device, kind);
-    const VbQueue started = { at.table, at.avail, at.used, at.size, at.next, at.next };
+    const VbQueue started = {at.table, at.avail, at.used, at.size, at.next, at.next};
     if (!queue)
         return VB_NO_QUEUE;
     uint32_t code = refusal_at(&balloon->device, FEATURES_OK, kind, &started);
@@ -133,19 +140,24 @@ uint32_t vb_set_status(VbBalloon *balloon, uint8_t status, uint32_t *then)
     return code;
 }
 
-uint32_t vb_restore_over(VbBalloon *balloon, const VbRegion *regions, size_t count, const uint8_t *bytes, size_t length)
+uint32_t vb_restore_over(VbBalloon *balloon, const VbRegion *regions, size_t count,
+                         const uint8_t *bytes, size_t length)
 {
     VbBalloon made;
     uint32_t code = vb_restore(&made.device, &made.held, bytes, length);
     if (code != VB_OK)
         return code;
     VbDevice *it = &made.device;
-    if (it->settings.memory_end != balloon->device.settings.memory_end || !holds_queue(regions, count, &it->inflate)
-        || !holds_queue(regions, count, &it->deflate) || !holds_queue(regions, count, &it->statistics)
-        || !holds_queue(regions, count, &it->report) || !holds_queue(regions, count, &it->hint))
+    if (it->settings.memory_end != balloon->device.settings.memory_end ||
+        !holds_queue(regions, count, &it->inflate) || !holds_queue(regions, count, &it->deflate) ||
+        !holds_queue(regions, count, &it->statistics) ||
+        !holds_queue(regions, count, &it->report) || !holds_queue(regions, count, &it->hint))
         return VB_MISPLACED;
     *balloon = made;
     return VB_OK;
 }
 
-uint32_t vb_may_tell(const VbDevice *device) { return (device->status & DRIVER_OK) != 0; }
+uint32_t vb_may_tell(const VbDevice *device)
+{
+    return (device->status & DRIVER_OK) != 0;
+}

@@ -8,9 +8,9 @@ static void add_page(Named *named, VbRun *runs, uint32_t page)
     if (last && page == (uint64_t)last->first + last->count)
         last->count++;
     else if (last && page + 1ull == last->first)
-        *last = (VbRun){ page, last->count + 1 };
+        *last = (VbRun){page, last->count + 1};
     else
-        runs[named->runs++] = (VbRun){ page, 1 };
+        runs[named->runs++] = (VbRun){page, 1};
     named->pages++;
 }
 
@@ -24,13 +24,13 @@ static uint32_t page_rule(const VbDevice *device, uint64_t page)
 static Named broken(VbDevice *device, uint32_t rule)
 {
     device->status |= NEEDS_RESET;
-    return (Named){ .code = VB_BROKEN, .rule = rule };
+    return (Named){.code = VB_BROKEN, .rule = rule};
 }
 
 Named name(VbDevice *device, uint32_t kind, const uint8_t *bytes, size_t length, VbRun *runs)
 {
     VbQueue *queue = queue_of(device, kind);
-    Named named = { .code = VB_NO_QUEUE };
+    Named named = {.code = VB_NO_QUEUE};
     if (!queue || kind > VB_DEFLATE)
         return named;
     bool fits = length <= VB_MAX_BYTES && length % 4 == 0;
@@ -60,7 +60,8 @@ uint32_t report_rule(const VbDevice *device, const VbPiece *pieces, uint32_t cou
         if (pieces[i].length == 0 || pieces[i].length % PAGE)
             return BAD_LENGTH;
     for (uint32_t i = 0; i < count; i++) {
-        uint32_t rule = pieces[i].address % PAGE ? BAD_PAGE : page_rule(device, pieces[i].address / PAGE);
+        uint32_t rule =
+            pieces[i].address % PAGE ? BAD_PAGE : page_rule(device, pieces[i].address / PAGE);
         if (rule)
             return rule;
     }
@@ -68,24 +69,27 @@ uint32_t report_rule(const VbDevice *device, const VbPiece *pieces, uint32_t cou
 }
 
 /* Takes a statistics buffer: `count` gets how many figures it has. */
-uint32_t tell_figures(VbDevice *device, const uint8_t *bytes, size_t length, VbStatistic *figures, uint32_t *count)
+uint32_t tell_figures(VbDevice *device, const uint8_t *bytes, size_t length, VbStatistic *figures,
+                      uint32_t *count)
 {
     bool fits = length <= STATISTICS_BYTES && length % FIGURE_BYTES == 0;
     uint32_t code = !fits ? VB_BAD_ARGUMENT : refusal(device, VB_STATISTICS, &device->statistics);
     if (code != VB_OK)
         return code;
     for (size_t i = 0; i + FIGURE_BYTES <= length; i += FIGURE_BYTES)
-        figures[(*count)++] = (VbStatistic){ (uint16_t)little(bytes + i, 2), little(bytes + i + 2, 8) };
+        figures[(*count)++] =
+            (VbStatistic){(uint16_t)little(bytes + i, 2), little(bytes + i + 2, 8)};
     device->statistics.next_avail++;
     return VB_OK;
 }
 
 Used use(VbDevice *device, uint32_t kind, VbQueue *queue, uint32_t head)
 {
-    Used used = { .code = head >= queue->size ? VB_BAD_ARGUMENT : refusal(device, kind, queue) };
+    Used used = {.code = head >= queue->size ? VB_BAD_ARGUMENT : refusal(device, kind, queue)};
     if (used.code != VB_OK)
         return used;
-    used.element_at = queue->used + RING_HEADER_SIZE + USED_ELEMENT_SIZE * (uint64_t)(queue->next_used % queue->size);
+    used.element_at = queue->used + RING_HEADER_SIZE +
+                      USED_ELEMENT_SIZE * (uint64_t)(queue->next_used % queue->size);
     used.index_at = queue->used + RING_INDEX_AT;
     used.index = ++queue->next_used;
     return used;

@@ -1,16 +1,23 @@
 /* The version and saved states in plain C. */
 #include "reference.h"
 
-uint32_t vb_version(void) { return VB_VERSION_NUMBER; }
+uint32_t vb_version(void)
+{
+    return VB_VERSION_NUMBER;
+}
 
-/* The newest version, the one before it, which says nothing of hints, and the one before that, which doesn't say what is held of
- * deflates either. */
+/* The newest version, the one before it, which says nothing of hints, and the one before that,
+ * which doesn't say what is held of deflates either. */
 enum { STATE_VERSION = 4, OLDER_VERSION = 3, OLDEST_VERSION = 2, SUM_BYTES = 8 };
 enum { OLDER_BYTES = VB_STATE_BYTES - 40, OLDEST_BYTES = OLDER_BYTES - 9 };
-static const uint8_t STATE_BEGINS[16] = { 'V', 'B', 'S', 'T', 'A', 'T', 'E', 0, STATE_VERSION, 0, 0, 0, VB_STATE_BYTES, 0, 0, 0 };
+static const uint8_t STATE_BEGINS[16] = {
+    'V', 'B', 'S', 'T', 'A', 'T', 'E', 0, STATE_VERSION, 0, 0, 0, VB_STATE_BYTES, 0, 0, 0};
 
 /* Where a number is in a saved state, or is read from it. */
-typedef struct { uint8_t *at; bool writes; } Cursor;
+typedef struct {
+    uint8_t *at;
+    bool writes;
+} Cursor;
 
 static void number(Cursor *cursor, void *field, size_t bytes)
 {
@@ -82,50 +89,54 @@ static bool is_status(uint8_t status)
 
 static bool are_agreed(const VbDevice *device)
 {
-    bool needed = (device->features & VERSION_1)
-        && (!device->settings.needs_must_tell || (device->features & MUST_TELL_HOST));
-    return !(device->features & ~device->settings.offered) && ((device->status & DRIVER) || !device->features)
-        && (!(device->status & FEATURES_OK) || needed);
+    bool needed = (device->features & VERSION_1) &&
+                  (!device->settings.needs_must_tell || (device->features & MUST_TELL_HOST));
+    return !(device->features & ~device->settings.offered) &&
+           ((device->status & DRIVER) || !device->features) &&
+           (!(device->status & FEATURES_OK) || needed);
 }
 
 static bool is_ring(const VbDevice *device, uint32_t kind)
 {
     VbDevice early = *device, placing = *device;
-    const VbQueue blank = { .size = 0 }, queue = *queue_of(&early, kind);
+    const VbQueue blank = {.size = 0}, queue = *queue_of(&early, kind);
     bool moved = queue.next_avail || queue.next_used;
     if (memcmp(&queue.table, &blank.table, 24) == 0 && !queue.size && !moved)
         return true;
     placing.status = 0;
     placing.features = device->status & DRIVER ? device->settings.offered : 0;
-    return vb_place(&placing, kind, queue.table, queue.avail, queue.used, queue.size) == VB_OK
-        && (!moved || ((device->status & FEATURES_OK) && !lacks_feature(device, kind)));
+    return vb_place(&placing, kind, queue.table, queue.avail, queue.used, queue.size) == VB_OK &&
+           (!moved || ((device->status & FEATURES_OK) && !lacks_feature(device, kind)));
 }
 
-/* Whether what is held of a queue is nothing, or one of its chains, which the device holds, and which names `pages` pages. */
+/* Whether what is held of a queue is nothing, or one of its chains, which the device holds, and
+ * which names `pages` pages. */
 static bool may_be_held(const VbDevice *device, uint32_t kind, uint32_t held, uint32_t pages)
 {
     VbDevice copy = *device;
     if (!held)
         return pages == 0;
-    return holds_chains(device, kind) && (device->status & DRIVER_OK) && !lacks_feature(device, kind)
-        && held <= queue_of(&copy, kind)->size && pages <= longest_request(device);
+    return holds_chains(device, kind) && (device->status & DRIVER_OK) &&
+           !lacks_feature(device, kind) && held <= queue_of(&copy, kind)->size &&
+           pages <= longest_request(device);
 }
 
 /* Whether calls lead to this device, which holds this. */
 static bool is_possible(const VbDevice *device, const VbHeld *held)
 {
-    return !are_impossible(&device->settings) && is_status(device->status) && are_agreed(device)
-        && is_ring(device, VB_INFLATE) && is_ring(device, VB_DEFLATE) && is_ring(device, VB_STATISTICS)
-        && is_ring(device, VB_HINT) && is_ring(device, VB_REPORT) && is_round(device)
-        && (!device->poison || (device->settings.offered & VB_F_PAGE_POISON))
-        && may_be_held(device, VB_STATISTICS, held->statistics, 0)
-        && may_be_held(device, VB_DEFLATE, held->deflate, held->pages);
+    return !are_impossible(&device->settings) && is_status(device->status) && are_agreed(device) &&
+           is_ring(device, VB_INFLATE) && is_ring(device, VB_DEFLATE) &&
+           is_ring(device, VB_STATISTICS) && is_ring(device, VB_HINT) &&
+           is_ring(device, VB_REPORT) && is_round(device) &&
+           (!device->poison || (device->settings.offered & VB_F_PAGE_POISON)) &&
+           may_be_held(device, VB_STATISTICS, held->statistics, 0) &&
+           may_be_held(device, VB_DEFLATE, held->deflate, held->pages);
 }
 
 uint32_t vb_save(const VbDevice *device, VbHeld held, uint8_t *out, size_t room)
 {
     VbDevice copy = *device;
-    Cursor cursor = { out + sizeof STATE_BEGINS, true };
+    Cursor cursor = {out + sizeof STATE_BEGINS, true};
     if (room < VB_STATE_BYTES)
         return VB_BAD_LENGTH;
     if (!is_possible(device, &held))
@@ -140,7 +151,7 @@ uint32_t vb_save(const VbDevice *device, VbHeld held, uint8_t *out, size_t room)
 uint32_t vb_restore(VbDevice *device, VbHeld *held, const uint8_t *bytes, size_t length)
 {
     VbDevice restored;
-    VbHeld chains = { 0, 0, 0 };
+    VbHeld chains = {0, 0, 0};
     uint8_t copy[VB_STATE_BYTES];
     memset(&restored, 0, sizeof restored);
     if (length < sizeof STATE_BEGINS)
@@ -150,13 +161,15 @@ uint32_t vb_restore(VbDevice *device, VbHeld *held, const uint8_t *bytes, size_t
     uint64_t version = little(bytes + 8, 4);
     if (version < OLDEST_VERSION || version > STATE_VERSION)
         return VB_OTHER_VERSION;
-    size_t whole = version == STATE_VERSION ? VB_STATE_BYTES : version == OLDER_VERSION ? OLDER_BYTES : OLDEST_BYTES;
+    size_t whole = version == STATE_VERSION   ? VB_STATE_BYTES
+                   : version == OLDER_VERSION ? OLDER_BYTES
+                                              : OLDEST_BYTES;
     if (little(bytes + 12, 4) != whole || length != whole)
         return VB_BAD_LENGTH;
     if (little(bytes + whole - SUM_BYTES, SUM_BYTES) != state_sum(bytes, whole - SUM_BYTES))
         return VB_BAD_SUM;
     memcpy(copy, bytes, whole);
-    Cursor cursor = { copy + sizeof STATE_BEGINS, false };
+    Cursor cursor = {copy + sizeof STATE_BEGINS, false};
     state_numbers(&cursor, &restored, &chains, version);
     if (!is_possible(&restored, &chains))
         return VB_IMPOSSIBLE;

@@ -1,7 +1,8 @@
 /* What a notice serves once its chain is read, and the calls of a notice, in plain C. */
 #include "reference.h"
 
-/* As much at once as the order of the bits allows, as the library has it; one thing at a time where that explains what it says. */
+/* As much at once as the order of the bits allows, as the library has it; one thing at a time where
+ * that explains what it says. */
 #ifdef ONE_AT_A_TIME
 enum { GROUPS = false, MOST_AT_ONCE = 1 };
 #else
@@ -16,9 +17,9 @@ static uint32_t give_back(const Call *call)
     Used used = use(&call->balloon->device, notice->kind, call->queue, notice->head);
     if (used.code != VB_OK)
         return end(call, used.code);
-    if (!find_spot(call, used.element_at, USED_FIELD_SIZE, &notice->id_at)
-        || !find_spot(call, used.element_at + USED_LENGTH_AT, USED_FIELD_SIZE, &notice->length_at)
-        || !find_spot(call, used.index_at, RING_WORD_SIZE, &notice->index_at))
+    if (!find_spot(call, used.element_at, USED_FIELD_SIZE, &notice->id_at) ||
+        !find_spot(call, used.element_at + USED_LENGTH_AT, USED_FIELD_SIZE, &notice->length_at) ||
+        !find_spot(call, used.index_at, RING_WORD_SIZE, &notice->index_at))
         return fail(call, OUT_OF_RAM);
     notice->id = notice->head;
     notice->used_length = 0;
@@ -30,7 +31,8 @@ static uint32_t give_back(const Call *call)
 static bool cut_of(const Call *call, size_t number, VbRun run, VbCut *cut)
 {
     const VbRegion *region = &call->regions[number];
-    uint64_t first = region->guest / REGION_PAGE, last = (region->guest + region->length) / REGION_PAGE;
+    uint64_t first = region->guest / REGION_PAGE,
+             last = (region->guest + region->length) / REGION_PAGE;
     uint64_t past = (uint64_t)run.first + run.count;
     if (!is_region(region))
         return false;
@@ -39,7 +41,7 @@ static bool cut_of(const Call *call, size_t number, VbRun run, VbCut *cut)
     if (first >= last)
         return false;
     uint64_t offset = first * REGION_PAGE - region->guest;
-    *cut = (VbCut){ number, offset, region->in_file + offset, (last - first) * REGION_PAGE };
+    *cut = (VbCut){number, offset, region->in_file + offset, (last - first) * REGION_PAGE};
     return true;
 }
 
@@ -48,23 +50,34 @@ static bool is_kept(const Call *call)
 {
     const VbDevice *device = &call->balloon->device;
     switch (call->notice->kind) {
-    case VB_INFLATE: return call->notice->keeps;
-    case VB_REPORT: return call->notice->keeps || vb_keeps_reports(device);
-    case VB_HINT: return call->notice->keeps || vb_keeps_reports(device) || !device->settings.discards_hints;
-    default: return false;
+    case VB_INFLATE:
+        return call->notice->keeps;
+    case VB_REPORT:
+        return call->notice->keeps || vb_keeps_reports(device);
+    case VB_HINT:
+        return call->notice->keeps || vb_keeps_reports(device) || !device->settings.discards_hints;
+    default:
+        return false;
     }
 }
 
 /* Whether bytes of the chain weren't copied yet. */
-static bool has_more(const VbNotice *notice) { return notice->piece < notice->count; }
+static bool has_more(const VbNotice *notice)
+{
+    return notice->piece < notice->count;
+}
 
-/* What comes once a portion is told and discarded, of whose chain there is more: a pause where no more pages may be named. */
+/* What comes once a portion is told and discarded, of whose chain there is more: a pause where no
+ * more pages may be named. */
 static uint32_t go_further(const Call *call)
 {
     return call->notice->pages_left == 0 ? wait_for(call, AT_PAUSE, VB_PAUSE) : next_portion(call);
 }
 
-static uint32_t after_portion(const Call *call) { return has_more(call->notice) ? go_further(call) : give_back(call); }
+static uint32_t after_portion(const Call *call)
+{
+    return has_more(call->notice) ? go_further(call) : give_back(call);
+}
 
 static uint32_t after_pause(const Call *call)
 {
@@ -82,7 +95,8 @@ static uint32_t ask_cut(const Call *call)
     for (; notice->number < notice->runs && notice->number < VB_MAX_RUNS && cuts < MOST_AT_ONCE;
          notice->number += notice->from == 0) {
         for (; notice->from < call->count && cuts < MOST_AT_ONCE; notice->from++)
-            cuts += cut_of(call, notice->from, call->room->runs[notice->number], &call->room->cuts[cuts]);
+            cuts += cut_of(call, notice->from, call->room->runs[notice->number],
+                           &call->room->cuts[cuts]);
         notice->from = notice->from < call->count ? notice->from : 0;
     }
     if (cuts == 0)
@@ -142,7 +156,8 @@ static uint32_t after_told(const Call *call)
 static uint32_t keep_figures(const Call *call, size_t length)
 {
     VbNotice *notice = call->notice;
-    uint32_t count = 0, code = tell_figures(&call->balloon->device, call->room->bytes, length, call->room->figures, &count);
+    uint32_t count = 0, code = tell_figures(&call->balloon->device, call->room->bytes, length,
+                                            call->room->figures, &count);
     if (code != VB_OK)
         return end(call, code);
     notice->figures = count;
@@ -168,7 +183,8 @@ uint32_t serve_bytes(const Call *call)
         return keep_figures(call, notice->from);
     if (notice->kind == VB_HINT)
         return tell_id(call, notice->from);
-    Named named = name(&call->balloon->device, notice->kind, call->room->bytes, notice->from, call->room->runs);
+    Named named = name(&call->balloon->device, notice->kind, call->room->bytes, notice->from,
+                       call->room->runs);
     return tell_pages(call, &named);
 }
 
@@ -193,29 +209,46 @@ static uint32_t after_flags(const Call *call, uint16_t flags)
 static uint32_t step(const Call *call, uint16_t answer)
 {
     VbNotice *notice = call->notice;
-    bool holds = notice->count <= VB_MAX_PIECES && notice->runs <= VB_MAX_RUNS && notice->length <= VB_MAX_BYTES
-        && notice->cuts <= VB_MAX_CUTS;
-    if (!call->queue || !holds || call->queue->size > VB_MAX_QUEUE_SIZE || (call->queue->size == 0 && notice->phase != NO_PHASE))
+    bool holds = notice->count <= VB_MAX_PIECES && notice->runs <= VB_MAX_RUNS &&
+                 notice->length <= VB_MAX_BYTES && notice->cuts <= VB_MAX_CUTS;
+    if (!call->queue || !holds || call->queue->size > VB_MAX_QUEUE_SIZE ||
+        (call->queue->size == 0 && notice->phase != NO_PHASE))
         return stop(call, VB_BAD_ARGUMENT);
     switch (notice->phase) {
-    case AT_INDEX: return after_index(call, answer);
-    case AT_ENTRY: return wait_for(call, AT_WORD, VB_READ);
-    case AT_WORD: return after_entry(call, answer);
-    case AT_DESCRIPTOR: return notice->from <= VB_MAX_BYTES / DESCRIPTOR_SIZE ? after_row(call) : stop(call, VB_BAD_ARGUMENT);
-    case AT_PART: return after_part(call);
-    case AT_TOLD: return after_told(call);
-    case AT_CUT: return ask_cut(call);
-    case AT_PAUSE: return after_pause(call);
-    case AT_FIGURES: return end(call, VB_NOTHING);
-    case AT_ID: return give_back(call);
-    case AT_GIVEN: return after_given(call);
-    case AT_FLAGS: return wait_for(call, AT_FLAG_WORD, VB_READ);
-    case AT_FLAG_WORD: return after_flags(call, answer);
-    default: return notice->what ? stop(call, VB_BAD_ARGUMENT) : 0;
+    case AT_INDEX:
+        return after_index(call, answer);
+    case AT_ENTRY:
+        return wait_for(call, AT_WORD, VB_READ);
+    case AT_WORD:
+        return after_entry(call, answer);
+    case AT_DESCRIPTOR:
+        return notice->from <= VB_MAX_BYTES / DESCRIPTOR_SIZE ? after_row(call)
+                                                              : stop(call, VB_BAD_ARGUMENT);
+    case AT_PART:
+        return after_part(call);
+    case AT_TOLD:
+        return after_told(call);
+    case AT_CUT:
+        return ask_cut(call);
+    case AT_PAUSE:
+        return after_pause(call);
+    case AT_FIGURES:
+        return end(call, VB_NOTHING);
+    case AT_ID:
+        return give_back(call);
+    case AT_GIVEN:
+        return after_given(call);
+    case AT_FLAGS:
+        return wait_for(call, AT_FLAG_WORD, VB_READ);
+    case AT_FLAG_WORD:
+        return after_flags(call, answer);
+    default:
+        return notice->what ? stop(call, VB_BAD_ARGUMENT) : 0;
     }
 }
 
-/* Adds what needs no answer of what is to be done now, as long as its bit comes after the others. */
+/* Adds what needs no answer of what is to be done now, as long as its bit comes after the
+  * others. */
 static uint32_t grouped(const Call *call)
 {
     VbNotice *notice = call->notice, before;
@@ -253,15 +286,16 @@ static uint32_t hand_over(const Call *call)
 static bool is_current(const VbNotice *notice, const VbDevice *device, const VbQueue *queue)
 {
     const VbQueue *left = &notice->ring;
-    return notice->status == device->status && left->table == queue->table && left->avail == queue->avail
-        && left->used == queue->used && left->size == queue->size && left->next_avail == queue->next_avail
-        && left->next_used == queue->next_used;
+    return notice->status == device->status && left->table == queue->table &&
+           left->avail == queue->avail && left->used == queue->used && left->size == queue->size &&
+           left->next_avail == queue->next_avail && left->next_used == queue->next_used;
 }
 
 /* Hints are discarded only while their round is open. */
 static bool may_discard(const VbNotice *notice, const VbDevice *device)
 {
-    return notice->kind != VB_HINT || (vb_hints_open(device) && notice->shown == device->round.shown);
+    return notice->kind != VB_HINT ||
+           (vb_hints_open(device) && notice->shown == device->round.shown);
 }
 
 static uint32_t stop_stale(const Call *call)
@@ -270,10 +304,10 @@ static uint32_t stop_stale(const Call *call)
     return stop(call, VB_STALE);
 }
 
-uint32_t vb_begin(VbNotice *notice, VbBalloon *balloon, const VbRegion *regions, size_t count, VbRoom *room, uint32_t kind,
-                  uint32_t chains, uint32_t pages, uint32_t keeps)
+uint32_t vb_begin(VbNotice *notice, VbBalloon *balloon, const VbRegion *regions, size_t count,
+                  VbRoom *room, uint32_t kind, uint32_t chains, uint32_t pages, uint32_t keeps)
 {
-    const Call call = { notice, balloon, queue_of(&balloon->device, kind), regions, count, room };
+    const Call call = {notice, balloon, queue_of(&balloon->device, kind), regions, count, room};
     memset(notice, 0, sizeof *notice);
     notice->kind = kind;
     notice->chains_left = chains;
@@ -285,9 +319,10 @@ uint32_t vb_begin(VbNotice *notice, VbBalloon *balloon, const VbRegion *regions,
     return hand_over(&call);
 }
 
-uint32_t vb_give_held(VbNotice *notice, VbBalloon *balloon, const VbRegion *regions, size_t count, VbRoom *room, uint32_t kind)
+uint32_t vb_give_held(VbNotice *notice, VbBalloon *balloon, const VbRegion *regions, size_t count,
+                      VbRoom *room, uint32_t kind)
 {
-    const Call call = { notice, balloon, queue_of(&balloon->device, kind), regions, count, room };
+    const Call call = {notice, balloon, queue_of(&balloon->device, kind), regions, count, room};
     memset(notice, 0, sizeof *notice);
     notice->kind = kind;
     if (!call.queue)
@@ -301,9 +336,11 @@ uint32_t vb_give_held(VbNotice *notice, VbBalloon *balloon, const VbRegion *regi
     return hand_over(&call);
 }
 
-uint32_t vb_go_on(VbNotice *notice, VbBalloon *balloon, const VbRegion *regions, size_t count, VbRoom *room, uint16_t answer)
+uint32_t vb_go_on(VbNotice *notice, VbBalloon *balloon, const VbRegion *regions, size_t count,
+                  VbRoom *room, uint16_t answer)
 {
-    const Call call = { notice, balloon, queue_of(&balloon->device, notice->kind), regions, count, room };
+    const Call call = {notice,  balloon, queue_of(&balloon->device, notice->kind),
+                       regions, count,   room};
     if (call.queue && !is_current(notice, &balloon->device, call.queue))
         return stop_stale(&call);
     if (notice->phase == AT_CUT && !may_discard(notice, &balloon->device))

@@ -3,7 +3,7 @@
 
 VbMarked vb_mark(uint32_t kind, const VbRun *runs, size_t count, uint64_t *set, size_t words)
 {
-    VbMarked marked = { .code = kind > VB_DEFLATE ? VB_NO_QUEUE : VB_OK };
+    VbMarked marked = {.code = kind > VB_DEFLATE ? VB_NO_QUEUE : VB_OK};
     for (size_t i = 0; i < count && marked.code == VB_OK; i++)
         if (runs[i].count > 0 && ((uint64_t)runs[i].first + runs[i].count - 1) / 64 >= words)
             marked.code = VB_BAD_ARGUMENT;
@@ -40,10 +40,12 @@ uint64_t vb_count_ballooned(const uint64_t *set, size_t words)
 }
 
 /* Whether each page of a large page is one of the part's, or in the set. */
-static bool is_all_given(uint64_t page, uint64_t past, uint64_t first, uint64_t end, const uint64_t *set, size_t words)
+static bool is_all_given(uint64_t page, uint64_t past, uint64_t first, uint64_t end,
+                         const uint64_t *set, size_t words)
 {
     for (; page < past; page++)
-        if ((page < first || page >= end) && (page / 64 >= words || !(set[page / 64] >> page % 64 & 1)))
+        if ((page < first || page >= end) &&
+            (page / 64 >= words || !(set[page / 64] >> page % 64 & 1)))
             return false;
     return true;
 }
@@ -51,15 +53,16 @@ static bool is_all_given(uint64_t page, uint64_t past, uint64_t first, uint64_t 
 static bool may_go(const VbRegion *region, uint64_t size, const VbCut *part)
 {
     bool known = size >= REGION_PAGE && size <= 1u << 30 && (size & (size - 1)) == 0;
-    return known && is_region(region) && region->guest % size == 0 && region->length % size == 0 && region->in_file % size == 0
-        && part->offset % REGION_PAGE == 0 && part->length % REGION_PAGE == 0 && part->offset <= region->length
-        && part->length <= region->length - part->offset;
+    return known && is_region(region) && region->guest % size == 0 && region->length % size == 0 &&
+           region->in_file % size == 0 && part->offset % REGION_PAGE == 0 &&
+           part->length % REGION_PAGE == 0 && part->offset <= region->length &&
+           part->length <= region->length - part->offset;
 }
 
-VbLarge vb_large_pages(const VbDevice *device, const VbRegion *region, uint64_t page_size, const VbCut *part,
-                       const uint64_t *set, size_t words)
+VbLarge vb_large_pages(const VbDevice *device, const VbRegion *region, uint64_t page_size,
+                       const VbCut *part, const uint64_t *set, size_t words)
 {
-    VbLarge large = { { part->region, 0, 0, 0 }, part->length / REGION_PAGE };
+    VbLarge large = {{part->region, 0, 0, 0}, part->length / REGION_PAGE};
     if (!may_go(region, page_size, part))
         return large;
     uint64_t small = page_size / REGION_PAGE, first = (region->guest + part->offset) / REGION_PAGE;

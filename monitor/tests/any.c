@@ -1,6 +1,6 @@
-/* Any argument gets an answer: devices, lists and lengths at random, each list at the end of a page after which
- * nothing is mapped. A refusal changes nothing, a broken rule the status alone, and where vb.h says what the answer
- * is, it is the plain implementation's.
+/* Any argument gets an answer: devices, lists and lengths at random, each list at the end of a page
+ * after which nothing is mapped. A refusal changes nothing, a broken rule the status alone, and
+ * where vb.h says what the answer is, it is the plain implementation's.
  *
  *     any [CALLS]
  */
@@ -10,7 +10,8 @@ enum { CALLS = 1000000 };
 
 int main(int count, char **words)
 {
-    void (*const calls[])(void) = { call_driver, call_config, call_hints, call_mark, call_over, call_notice, call_large };
+    void (*const calls[])(void) = {call_driver, call_config, call_hints, call_mark,
+                                   call_over,   call_notice, call_large};
     enum { KINDS = sizeof calls / sizeof *calls };
     unsigned long long most = count > 1 ? strtoull(words[1], NULL, 10) : CALLS;
     make_arenas();

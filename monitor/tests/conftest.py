@@ -18,8 +18,14 @@ def count(word):
 
 def pytest_addoption(parser):
     """The options of all suites."""
-    parser.addoption("--wrong", metavar="NAME", help="a program that is wrong on purpose, or all: what is for it has to refuse it")
-    parser.addoption("--times", type=count, default=1, metavar="K", help="each run of a Linux k times")
+    parser.addoption(
+        "--wrong",
+        metavar="NAME",
+        help="a program that is wrong on purpose, or all: what is for it has to refuse it",
+    )
+    parser.addoption(
+        "--times", type=count, default=1, metavar="K", help="each run of a Linux k times"
+    )
     parser.addoption("--hours", type=float, metavar="H", help="the run of a host for H hours alone")
     parser.addoption("--vmm", default="uml", choices=VMMS, help="what runs a Linux")
 
@@ -46,7 +52,11 @@ def pytest_sessionstart(session):
     environment names a program."""
     plugins = session.config.pluginmanager.get_plugins()
     wanted = sorted({name for it in plugins for name in getattr(it, "PROGRAMS", ())})
-    if wanted and not hasattr(session.config, "workerinput") and not {"HOST_PROGRAM", "BACKEND_PROGRAM"} & set(os.environ):
+    if (
+        wanted
+        and not hasattr(session.config, "workerinput")
+        and not {"HOST_PROGRAM", "BACKEND_PROGRAM"} & set(os.environ)
+    ):
         try:
             linux_kit.build(*wanted)
         except linux_kit.Fault as fault:

@@ -1,11 +1,13 @@
-/* Fences of balloon.h: a driver that asks for interrupts while the device gives a chain back loses none (VIRTIO 1.1, 2.6.7).
+/* Fences of balloon.h: a driver that asks for interrupts while the device gives a chain back loses
+ * none (VIRTIO 1.1, 2.6.7).
  *
  *     fences [ROUNDS]
  *
- * In each round a processor of its own kicks one chain, clears the flag that says it wants no interrupt, and after a full fence
- * looks whether the chain was used. Either it sees that, or the device has seen the flag cleared and interrupts. A device that
- * reads the flag before its index is written loses some of a million. Where the two wait for a processor between rounds, SECONDS
- * end what is left: there are fewer rounds, and none fails. */
+ * In each round a processor of its own kicks one chain, clears the flag that says it wants no
+ * interrupt, and after a full fence looks whether the chain was used. Either it sees that, or the
+ * device has seen the flag cleared and interrupts. A device that reads the flag before its index is
+ * written loses some of a million. Where the two wait for a processor between rounds, SECONDS end
+ * what is left: there are fewer rounds, and none fails. */
 #include "shim.h"
 #include <pthread.h>
 #include <stdio.h>
@@ -13,7 +15,15 @@
 #include <time.h>
 
 enum { SECONDS = 60 };
-enum { MEMORY = 1 << 20, TABLE = 0x10000, AVAIL = 0x11000, USED = 0x12000, BUFFER = 0x13000, SIZE = 2, NO_INTERRUPT = 1 };
+enum {
+    MEMORY = 1 << 20,
+    TABLE = 0x10000,
+    AVAIL = 0x11000,
+    USED = 0x12000,
+    BUFFER = 0x13000,
+    SIZE = 2,
+    NO_INTERRUPT = 1
+};
 
 static struct balloon balloon;
 static uint8_t *memory;
@@ -21,7 +31,8 @@ static volatile uint64_t rounds = 1000000;
 static uint64_t lost, told;
 static volatile int interrupted;
 
-/* How far each side has come: the driver begins a round, the device has served it, the driver has looked. */
+/* How far each side has come: the driver begins a round, the device has served it, the driver has
+ * looked. */
 static volatile uint64_t begun, served, looked;
 
 static volatile uint16_t *word_at(uint64_t address)
@@ -88,7 +99,9 @@ static int serve(void)
         await(&begun, round);
         struct balloon_result result = balloon_notify(&balloon, VB_DEFLATE);
         if (result.chains != 1)
-            return fprintf(stderr, "round %llu: %u chains, code %u\n", (unsigned long long)round, result.chains, result.code), 1;
+            return fprintf(stderr, "round %llu: %u chains, code %u\n", (unsigned long long)round,
+                           result.chains, result.code),
+                   1;
         interrupted = result.interrupts != 0;
         __atomic_store_n(&served, round, __ATOMIC_RELEASE);
         await(&looked, round);
@@ -105,13 +118,16 @@ static int start(void)
     memset(&settings, 0, sizeof settings);
     settings.offered = feature;
     settings.skips_bad_pages = 1;
-    memory = (uint8_t *)mmap(NULL, MEMORY, PROT_READ | PROT_WRITE, MAP_PRIVATE | MAP_ANONYMOUS, -1, 0);
+    memory =
+        (uint8_t *)mmap(NULL, MEMORY, PROT_READ | PROT_WRITE, MAP_PRIVATE | MAP_ANONYMOUS, -1, 0);
     region.length = MEMORY, region.host = memory, region.fd = BALLOON_PRIVATE;
-    uint32_t refused = balloon_init(&balloon, &region, 1, settings) | balloon_write_status(&balloon, 1, &result)
-        | balloon_write_status(&balloon, 3, &result) | balloon_negotiate(&balloon, feature)
-        | balloon_write_status(&balloon, 11, &result) | balloon_place(&balloon, VB_DEFLATE, TABLE, AVAIL, USED, SIZE)
-        | balloon_write_status(&balloon, 15, &result);
-    const uint64_t descriptor[] = { BUFFER, 4 };
+    uint32_t refused =
+        balloon_init(&balloon, &region, 1, settings) | balloon_write_status(&balloon, 1, &result) |
+        balloon_write_status(&balloon, 3, &result) | balloon_negotiate(&balloon, feature) |
+        balloon_write_status(&balloon, 11, &result) |
+        balloon_place(&balloon, VB_DEFLATE, TABLE, AVAIL, USED, SIZE) |
+        balloon_write_status(&balloon, 15, &result);
+    const uint64_t descriptor[] = {BUFFER, 4};
     memcpy(memory + TABLE, descriptor, sizeof descriptor);
     memory[BUFFER] = 64;
     return refused != 0;
@@ -127,7 +143,8 @@ int main(int count, char **words)
     if (serve())
         return 1;
     pthread_join(driver, NULL);
-    printf("fences: %llu rounds, %llu in which the driver waits for an interrupt, %llu interrupts lost\n",
+    printf("fences: %llu rounds, %llu in which the driver waits for an interrupt, %llu interrupts "
+           "lost\n",
            (unsigned long long)rounds, (unsigned long long)told, (unsigned long long)lost);
     return lost != 0;
 }

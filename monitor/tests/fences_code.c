@@ -1,11 +1,13 @@
-/* The things of balloon.h that have a fence, each as a function of its own: tools/check-fences looks at their code. */
+/* The things of balloon.h that have a fence, each as a function of its own: tools/check-fences
+ * looks at their code. */
 #include "balloon.h"
 
 /* The available index, and after the acquire fence the entry. */
 uint32_t takes(struct balloon *balloon, struct balloon_result *result);
 uint32_t takes(struct balloon *balloon, struct balloon_result *result)
 {
-    return (uint32_t)balloon_perform(balloon, VB_READ, result) + balloon_perform(balloon, VB_ACQUIRE | VB_READ, result);
+    return (uint32_t)balloon_perform(balloon, VB_READ, result) +
+           balloon_perform(balloon, VB_ACQUIRE | VB_READ, result);
 }
 
 /* A used element's numbers, and after the release fence its index. */

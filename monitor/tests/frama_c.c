@@ -1,10 +1,13 @@
-/* What ../tools/check-shim has Frama-C look at: balloon.h with any bytes of a guest, and with whatever the library may answer.
+/* What ../tools/check-shim has Frama-C look at: balloon.h with any bytes of a guest, and with
+ * whatever the library may answer.
  *
- * The library is in frama_c/library.h as what its contracts leave open: each answer is any that they allow, and what they
- * promise is named where it is used. What is copied, written, told and discarded is looked at by the analysis itself, and by the
- * assertions of the monitor's hooks and of the machine's calls below. There are four analyses, each from a function of its own:
- * `main`, all but the copies, by the contract of balloon_discard; `discards`, that contract; `copies`, each copy that a notice
- * may ask for, by the contract of balloon_read_once; `lengths`, that contract. */
+ * The library is in frama_c/library.h as what its contracts leave open: each answer is any that
+ * they allow, and what they promise is named where it is used. What is copied, written, told and
+ * discarded is looked at by the analysis itself, and by the assertions of the monitor's hooks and
+ * of the machine's calls below. There are four analyses, each from a function of its own: `main`,
+ * all but the copies, by the contract of balloon_discard; `discards`, that contract; `copies`, each
+ * copy that a notice may ask for, by the contract of balloon_read_once; `lengths`, that
+  * contract. */
 #include <__fc_builtin.h>
 #include <stdint.h>
 #include <sys/types.h>
@@ -29,10 +32,12 @@ static const uint64_t IN_FILE = 1ull << 20;
 static uint8_t shared[LENGTH], private[LENGTH], of_file[LENGTH];
 static struct balloon_region regions[REGIONS];
 static struct balloon balloon;
-static uint64_t words[WORDS], waiting[WORDS];      /* the set of ballooned pages, and that of a held deflate's pages */
+static uint64_t words[WORDS],
+    waiting[WORDS]; /* the set of ballooned pages, and that of a held deflate's pages */
 static bool has_set;
 
-/* Of what is discarded: its region, the size of the machine's pages there, its pages, and the large pages that go with it. */
+/* Of what is discarded: its region, the size of the machine's pages there, its pages, and the large
+ * pages that go with it. */
 static uint64_t cut_region, cut_size, cut_pages, cut_large;
 
 /* The regions as the library sees them. */
@@ -41,19 +46,29 @@ static uint64_t cut_region, cut_size, cut_pages, cut_large;
         && places[0].length == LENGTH && places[1].length == LENGTH && places[2].length == LENGTH
         && places[0].in_file == 0 && places[1].in_file == 0 && places[2].in_file == IN_FILE; */
 
-/* Discarding is asked for by a notice's cuts alone. Of what it gets, the result alone isn't const: that it may write. */
-/*@ requires the_balloon: the_one == &balloon && the_one->regions == (struct balloon_region *)regions;
-    requires the_regions: as_they_are((VbRegion *)balloon.places);
-    requires the_set: balloon.ballooned_words == WORDS && (balloon.ballooned == \null || balloon.ballooned == (uint64_t *)words);
-    requires a_part: (VbCut *)balloon.room.cuts <= part < balloon.room.cuts + balloon.notice.cuts;
-    requires counts: \valid(result);
-    assigns *result, errno \from *part; */
-static inline void balloon_discard(const struct balloon *the_one, const VbCut *part, struct balloon_result *result);
+/* Discarding is asked for by a notice's cuts alone. Of what it gets, the result alone isn't const:
+ * that it may write. */
+/*@ requires the_balloon: the_one == &balloon && the_one->regions == (struct balloon_region
+   *)regions; requires the_regions: as_they_are((VbRegion *)balloon.places); requires the_set:
+   balloon.ballooned_words == WORDS && (balloon.ballooned == \null || balloon.ballooned == (uint64_t
+   *)words); requires a_part: (VbCut *)balloon.room.cuts <= part < balloon.room.cuts +
+   balloon.notice.cuts; requires counts: \valid(result); assigns *result, errno \from *part; */
+static inline void balloon_discard(const struct balloon *the_one, const VbCut *part,
+                                   struct balloon_result *result);
 
 #define ANY_UP_TO(most) Frama_C_unsigned_long_long_interval(0, most)
-static uint32_t any_u32(void) { return Frama_C_unsigned_int_interval(0, UINT32_MAX); }
-static uint64_t any_u64(void) { return ANY_UP_TO(UINT64_MAX); }
-static bool maybe(void) { return Frama_C_nondet(0, 1); }
+static uint32_t any_u32(void)
+{
+    return Frama_C_unsigned_int_interval(0, UINT32_MAX);
+}
+static uint64_t any_u64(void)
+{
+    return ANY_UP_TO(UINT64_MAX);
+}
+static bool maybe(void)
+{
+    return Frama_C_nondet(0, 1);
+}
 
 #include "frama_c/library.h"
 
@@ -65,7 +80,8 @@ static int any_errno(void)
     return maybe() ? 0 : -1;
 }
 
-/* What is given up are whole pages of the region, of the size that they have there: of its memory, or of its file. */
+/* What is given up are whole pages of the region, of the size that they have there: of its memory,
+ * or of its file. */
 int madvise(void *from, size_t length, int advice)
 {
     //@ assert not_a_file: cut_region < 2;
@@ -85,7 +101,9 @@ int fallocate(int fd, int how, off_t from, off_t length)
 }
 
 /* The fences are ../tools/check-fences' and order.c's. */
-void __atomic_thread_fence(int order) { }
+void __atomic_thread_fence(int order)
+{
+}
 
 static void be_told(void *context, uint32_t kind, const VbRun *runs, uint32_t count)
 {
@@ -97,7 +115,9 @@ static void hear(void *context, const VbStatistic *figures, uint32_t count)
     //@ assert told_figures: \valid_read(figures + (0 .. (int)count - 1));
 }
 
-static void hear_id(void *context, uint32_t id) { }
+static void hear_id(void *context, uint32_t id)
+{
+}
 
 static int discard(void *context, const struct balloon_region *region, uint64_t at, uint64_t length)
 {
@@ -114,39 +134,75 @@ static void any_call(void)
 {
     struct balloon_result result;
     uint8_t bytes[VB_STATE_BYTES];
-    VbQueueStart start = { any_u64(), any_u64(), any_u64(), ANY_UP_TO(UINT16_MAX), ANY_UP_TO(UINT16_MAX) };
+    VbQueueStart start = {any_u64(), any_u64(), any_u64(), ANY_UP_TO(UINT16_MAX),
+                          ANY_UP_TO(UINT16_MAX)};
     uint16_t next;
     uint32_t id;
     switch (Frama_C_interval(0, 16)) {
-    case 0: balloon_notify(&balloon, any_u32()); break;
-    case 1: balloon_ask_statistics(&balloon); break;
-    case 2: balloon_write_status(&balloon, ANY_UP_TO(255), &result); break;
-    case 3: balloon_set_regions(&balloon, regions, REGIONS); break;
-    case 4: balloon_place(&balloon, any_u32(), any_u64(), any_u64(), any_u64(), ANY_UP_TO(UINT16_MAX)); break;
-    case 5: balloon_notify_number(&balloon, any_u32()); break;
-    case 6: balloon_restore(&balloon, bytes, sizeof bytes); break;
-    case 7: balloon_save(&balloon, bytes, sizeof bytes); break;
-    case 8: balloon_set_regions(&balloon, regions, BALLOON_MOST_REGIONS + 1); break;
-    case 9: balloon_start_queue(&balloon, any_u32(), start); break;
-    case 10: balloon_stop_queue(&balloon, any_u32(), &next); break;
-    case 11: balloon_forget_held(&balloon, any_u32()); break;
-    case 12: balloon_give_deflate(&balloon); break;
-    case 13: balloon_begin_hints(&balloon, &id); break;
-    case 14: balloon_stop_hints(&balloon); break;
-    case 15: balloon_end_hints(&balloon); break;
-    default: balloon_negotiate(&balloon, any_u64()); break;
+    case 0:
+        balloon_notify(&balloon, any_u32());
+        break;
+    case 1:
+        balloon_ask_statistics(&balloon);
+        break;
+    case 2:
+        balloon_write_status(&balloon, ANY_UP_TO(255), &result);
+        break;
+    case 3:
+        balloon_set_regions(&balloon, regions, REGIONS);
+        break;
+    case 4:
+        balloon_place(&balloon, any_u32(), any_u64(), any_u64(), any_u64(), ANY_UP_TO(UINT16_MAX));
+        break;
+    case 5:
+        balloon_notify_number(&balloon, any_u32());
+        break;
+    case 6:
+        balloon_restore(&balloon, bytes, sizeof bytes);
+        break;
+    case 7:
+        balloon_save(&balloon, bytes, sizeof bytes);
+        break;
+    case 8:
+        balloon_set_regions(&balloon, regions, BALLOON_MOST_REGIONS + 1);
+        break;
+    case 9:
+        balloon_start_queue(&balloon, any_u32(), start);
+        break;
+    case 10:
+        balloon_stop_queue(&balloon, any_u32(), &next);
+        break;
+    case 11:
+        balloon_forget_held(&balloon, any_u32());
+        break;
+    case 12:
+        balloon_give_deflate(&balloon);
+        break;
+    case 13:
+        balloon_begin_hints(&balloon, &id);
+        break;
+    case 14:
+        balloon_stop_hints(&balloon);
+        break;
+    case 15:
+        balloon_end_hints(&balloon);
+        break;
+    default:
+        balloon_negotiate(&balloon, any_u64());
+        break;
     }
 }
 
 /* The regions, and a balloon over them with any hooks. */
 static void begin(void)
 {
-    const VbSettings settings = { 0 };
+    const VbSettings settings = {0};
     has_set = maybe();
     //@ split has_set;
-    regions[0] = (struct balloon_region){ 0, LENGTH, shared, BALLOON_SHARED, IN_FILE, any_u64() };
-    regions[1] = (struct balloon_region){ 2 * LENGTH, LENGTH, private, BALLOON_PRIVATE, IN_FILE, any_u64() };
-    regions[2] = (struct balloon_region){ 4 * LENGTH, LENGTH, of_file, SOME_FD, IN_FILE, any_u64() };
+    regions[0] = (struct balloon_region){0, LENGTH, shared, BALLOON_SHARED, IN_FILE, any_u64()};
+    regions[1] =
+        (struct balloon_region){2 * LENGTH, LENGTH, private, BALLOON_PRIVATE, IN_FILE, any_u64()};
+    regions[2] = (struct balloon_region){4 * LENGTH, LENGTH, of_file, SOME_FD, IN_FILE, any_u64()};
     balloon_init(&balloon, regions, REGIONS, settings);
     balloon.on_pages = maybe() ? be_told : NULL;
     balloon.on_statistics = maybe() ? hear : NULL;
@@ -174,8 +230,8 @@ static uint64_t any_page_size(void)
     return doublings == 0 && maybe() ? 0 : BALLOON_PAGE << doublings;
 }
 
-/* Each part that a notice may discard, over the machine's pages of each size; and what a monitor discards by itself. Each region,
- * each size and each number of pages is looked at by itself. */
+/* Each part that a notice may discard, over the machine's pages of each size; and what a monitor
+ * discards by itself. Each region, each size and each number of pages is looked at by itself. */
 void discards(void)
 {
     struct balloon_result result;
@@ -201,11 +257,12 @@ void discards(void)
     }
 }
 
-/* Each copy that a notice may ask for: it lies within a region, and has room after what was copied (vb_monitor, Fits). Each
- * length is looked at by itself, so that the analysis sees that a place and its length belong together. */
+/* Each copy that a notice may ask for: it lies within a region, and has room after what was copied
+ * (vb_monitor, Fits). Each length is looked at by itself, so that the analysis sees that a place
+ * and its length belong together. */
 void copies(void)
 {
-    struct balloon_result result = { 0 };
+    struct balloon_result result = {0};
     VbNotice *notice = &balloon.notice;
     begin();
     notice->what = VB_COPY;
@@ -216,7 +273,8 @@ void copies(void)
     balloon_perform(&balloon, notice->what, &result);
 }
 
-/* Copying keeps to its contract above: each length by itself, between bytes that end with what is copied. */
+/* Copying keeps to its contract above: each length by itself, between bytes that end with what is
+ * copied. */
 void lengths(void)
 {
     static uint8_t from[VB_MAX_BYTES], to[VB_MAX_BYTES];

@@ -1,5 +1,6 @@
-/* A guest's driver played by hand, for tests and the bench: memory in two regions with a hole between them, rings
- * and buffers at fixed places, and the steps in which Linux starts a balloon (VIRTIO 1.1, 3.1.1). */
+/* A guest's driver played by hand, for tests and the bench: memory in two regions with a hole
+ * between them, rings and buffers at fixed places, and the steps in which Linux starts a balloon
+ * (VIRTIO 1.1, 3.1.1). */
 #ifndef GUEST_H
 #define GUEST_H
 #include "shim.h"
@@ -8,36 +9,54 @@
 #include <stdlib.h>
 #include <unistd.h>
 
-#define EXPECT(condition) \
-    ((condition) ? (void)0 : (fprintf(stderr, "%s:%d: not so: %s\n", __FILE__, __LINE__, #condition), exit(1)))
+#define EXPECT(condition)                                                                          \
+    ((condition)                                                                                   \
+         ? (void)0                                                                                 \
+         : (fprintf(stderr, "%s:%d: not so: %s\n", __FILE__, __LINE__, #condition), exit(1)))
 
-enum {                          /* features (VIRTIO 1.1, 5.5.3 and 6), and bit 5 of Linux: free page reporting */
-    MUST_TELL_HOST = 1, STATS_VQ = 2, DEFLATE_ON_OOM = 4, REPORTING = 32,
+enum { /* features (VIRTIO 1.1, 5.5.3 and 6), and bit 5 of Linux: free page reporting */
+       MUST_TELL_HOST = 1,
+       STATS_VQ = 2,
+       DEFLATE_ON_OOM = 4,
+       REPORTING = 32,
 };
 static const uint64_t VERSION_1 = 1ull << 32;
 static const uint64_t LINUX_FEATURES = 1ull << 32 | 0x27;
 
-enum { NEXT = 1, WRITE = 2, INDIRECT = 4 };     /* flags of a descriptor (VIRTIO 1.1, 2.6.5) */
+enum { NEXT = 1, WRITE = 2, INDIRECT = 4 }; /* flags of a descriptor (VIRTIO 1.1, 2.6.5) */
 enum { MIB = 1 << 20, LOW_MIB = 8, HIGH_MIB = 8 };
-static const uint64_t HIGH_ADDRESS = 16ull * MIB;       /* the hole is from 8 to 16 MiB */
+static const uint64_t HIGH_ADDRESS = 16ull * MIB; /* the hole is from 8 to 16 MiB */
 
 struct guest {
     struct balloon balloon;
     struct balloon_region regions[2];
-    uint16_t size;              /* of each queue */
-    uint16_t published[VB_NO_KIND];     /* available index, by kind */
+    uint16_t size;                  /* of each queue */
+    uint16_t published[VB_NO_KIND]; /* available index, by kind */
 };
 
-static inline uint64_t table_of(uint32_t kind) { return (16 + 4 * kind) * 4096ull; }
-static inline uint64_t avail_of(uint32_t kind) { return (17 + 4 * kind) * 4096ull; }
-static inline uint64_t used_of(uint32_t kind) { return (18 + 4 * kind) * 4096ull; }
-static inline uint64_t buffer_of(uint32_t kind) { return (40 + kind) * 4096ull + 0x91c; }
+static inline uint64_t table_of(uint32_t kind)
+{
+    return (16 + 4 * kind) * 4096ull;
+}
+static inline uint64_t avail_of(uint32_t kind)
+{
+    return (17 + 4 * kind) * 4096ull;
+}
+static inline uint64_t used_of(uint32_t kind)
+{
+    return (18 + 4 * kind) * 4096ull;
+}
+static inline uint64_t buffer_of(uint32_t kind)
+{
+    return (40 + kind) * 4096ull + 0x91c;
+}
 
 /* Where a byte of a balloon's guest memory is here, or NULL in a hole. */
 static inline uint8_t *host_of(const struct balloon *balloon, uint64_t address)
 {
     for (size_t i = 0; i < balloon->region_count; i++)
-        if (address >= balloon->regions[i].guest && address - balloon->regions[i].guest < balloon->regions[i].length)
+        if (address >= balloon->regions[i].guest &&
+            address - balloon->regions[i].guest < balloon->regions[i].length)
             return balloon->regions[i].host + (address - balloon->regions[i].guest);
     return NULL;
 }
@@ -52,14 +71,16 @@ static inline uint8_t *at(const struct guest *guest, uint64_t address)
 static inline VbQueue *ring_of_kind(struct balloon *balloon, uint32_t kind)
 {
     VbDevice *device = &balloon->state.device;
-    VbQueue *queues[] = { &device->inflate, &device->deflate, &device->statistics, &device->report, &device->hint };
+    VbQueue *queues[] = {&device->inflate, &device->deflate, &device->statistics, &device->report,
+                         &device->hint};
     return queues[kind];
 }
 
 static inline bool same_queue(const VbQueue *one, const VbQueue *other)
 {
-    return one->table == other->table && one->avail == other->avail && one->used == other->used
-        && one->size == other->size && one->next_avail == other->next_avail && one->next_used == other->next_used;
+    return one->table == other->table && one->avail == other->avail && one->used == other->used &&
+           one->size == other->size && one->next_avail == other->next_avail &&
+           one->next_used == other->next_used;
 }
 
 static inline void put(const struct guest *guest, uint64_t address, uint64_t value, size_t bytes)
@@ -75,8 +96,8 @@ static inline uint64_t get(const struct guest *guest, uint64_t address, size_t b
     return le64toh(value);
 }
 
-static inline void describe(const struct guest *guest, uint32_t kind, uint16_t number, uint64_t address,
-                            uint32_t length, uint16_t flags, uint16_t next)
+static inline void describe(const struct guest *guest, uint32_t kind, uint16_t number,
+                            uint64_t address, uint32_t length, uint16_t flags, uint16_t next)
 {
     uint64_t where = table_of(kind) + 16ull * number;
     put(guest, where, address, 8);
@@ -93,7 +114,8 @@ static inline void publish(struct guest *guest, uint32_t kind, uint16_t head)
 }
 
 /* Names pages as Linux does: one readable descriptor, head 0. */
-static inline void name_pages(struct guest *guest, uint32_t kind, const uint32_t *pages, uint32_t count)
+static inline void name_pages(struct guest *guest, uint32_t kind, const uint32_t *pages,
+                              uint32_t count)
 {
     for (uint32_t i = 0; i < count; i++)
         put(guest, buffer_of(kind) + 4 * i, pages[i], 4);
@@ -114,18 +136,21 @@ static inline uint32_t last_used(const struct guest *guest, uint32_t kind)
     return (uint32_t)get(guest, used_of(kind) + 4 + 8 * (last % guest->size), 4);
 }
 
-/* Memory: 8 MiB from 0 on in a file, or shared or private without one, and 8 MiB from 16 MiB on that is private. */
+/* Memory: 8 MiB from 0 on in a file, or shared or private without one, and 8 MiB from 16 MiB on
+ * that is private. */
 static inline void make_memory(struct guest *guest, int low)
 {
     int fd = low >= 0 ? memfd_create("guest", 0) : low;
     int flags = low == BALLOON_PRIVATE ? MAP_PRIVATE : MAP_SHARED;
     EXPECT(low < 0 || (fd >= 0 && ftruncate(fd, LOW_MIB * MIB) == 0));
-    void *first = mmap(NULL, LOW_MIB * MIB, PROT_READ | PROT_WRITE, flags | (low < 0 ? MAP_ANONYMOUS : 0),
-                       low < 0 ? -1 : fd, 0);
-    void *second = mmap(NULL, HIGH_MIB * MIB, PROT_READ | PROT_WRITE, MAP_PRIVATE | MAP_ANONYMOUS, -1, 0);
+    void *first = mmap(NULL, LOW_MIB * MIB, PROT_READ | PROT_WRITE,
+                       flags | (low < 0 ? MAP_ANONYMOUS : 0), low < 0 ? -1 : fd, 0);
+    void *second =
+        mmap(NULL, HIGH_MIB * MIB, PROT_READ | PROT_WRITE, MAP_PRIVATE | MAP_ANONYMOUS, -1, 0);
     EXPECT(first != MAP_FAILED && second != MAP_FAILED);
-    guest->regions[0] = (struct balloon_region){ 0, LOW_MIB * MIB, first, fd, 0, 0 };
-    guest->regions[1] = (struct balloon_region){ HIGH_ADDRESS, HIGH_MIB * MIB, second, BALLOON_PRIVATE, 0, 0 };
+    guest->regions[0] = (struct balloon_region){0, LOW_MIB * MIB, first, fd, 0, 0};
+    guest->regions[1] =
+        (struct balloon_region){HIGH_ADDRESS, HIGH_MIB * MIB, second, BALLOON_PRIVATE, 0, 0};
 }
 
 static inline void free_memory(struct guest *guest)
@@ -154,11 +179,13 @@ static inline void start_features(struct guest *guest, uint64_t features, uint16
             continue;
         for (uint64_t page = table_of(kind); page <= used_of(kind); page += 4096)
             memset(at(guest, page), 0, 4096);
-        EXPECT(balloon_place(balloon, kind, table_of(kind), avail_of(kind), used_of(kind), size) == VB_OK);
+        EXPECT(balloon_place(balloon, kind, table_of(kind), avail_of(kind), used_of(kind), size) ==
+               VB_OK);
     }
 }
 
-static inline void start(struct guest *guest, int low, VbSettings settings, uint64_t features, uint16_t size)
+static inline void start(struct guest *guest, int low, VbSettings settings, uint64_t features,
+                         uint16_t size)
 {
     struct balloon_result result;
     make_memory(guest, low);

@@ -8,6 +8,7 @@ int main(void)
     struct balloon *none = 0;
     uint8_t byte = 0;
     struct balloon_result result = balloon_notify_all(none);
-    return (int)(balloon_save(none, &byte, 0) + balloon_restore(none, &byte, 0) + balloon_write_status(none, 0, &result)
-                 + balloon_ask_statistics(none).code + balloon_set_regions(none, 0, 0) + vb_loan_owed(0, 0) + vb_version());
+    return (int)(balloon_save(none, &byte, 0) + balloon_restore(none, &byte, 0) +
+                 balloon_write_status(none, 0, &result) + balloon_ask_statistics(none).code +
+                 balloon_set_regions(none, 0, 0) + vb_loan_owed(0, 0) + vb_version());
 }

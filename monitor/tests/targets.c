@@ -1,5 +1,6 @@
-/* What guests are asked to give (vb_targets, vb_spare, vb_needs_targets), beside a plain sort, for random guests; and
- * what it takes for 100,000 guests, as does a grant, and targets of a host that lends (vb_lending.h). */
+/* What guests are asked to give (vb_targets, vb_spare, vb_needs_targets), beside a plain sort, for
+ * random guests; and what it takes for 100,000 guests, as does a grant, and targets of a host that
+ * lends (vb_lending.h). */
 #define _GNU_SOURCE
 #include "vb_lending.h"
 #include <stdbool.h>
@@ -84,7 +85,8 @@ static uint32_t any_needs(size_t count, uint32_t most)
         pages += needs[i].pages;
         spare += needs[i].spare;
     }
-    uint64_t least = pages > spare ? pages - spare : 0, frames = least + chance((uint32_t)spare + 10);
+    uint64_t least = pages > spare ? pages - spare : 0,
+             frames = least + chance((uint32_t)spare + 10);
     frames = frames > 5 ? frames - 5 : 0;
     return frames < UINT32_MAX ? (uint32_t)frames : UINT32_MAX;
 }
@@ -123,7 +125,8 @@ static void check_serving(size_t count, uint32_t frames, unsigned round)
 
 static void check_spare(unsigned round)
 {
-    uint32_t pages = chance(1000), ballooned = chance(1000), free_pages = chance(1000), known = chance(2);
+    uint32_t pages = chance(1000), ballooned = chance(1000), free_pages = chance(1000),
+             known = chance(2);
     uint32_t floor = chance(1000), reserved = chance(100);
     uint32_t most = pages > reserved ? pages - reserved : 0;
     uint32_t above = known && free_pages > floor ? free_pages - floor : 0;
@@ -158,17 +161,23 @@ static double bench(uint32_t most)
     return least;
 }
 
-/* A large host that lends: every other guest waits, and the last of these came first. Its frames leave half of what they can give. */
+/* A large host that lends: every other guest waits, and the last of these came first. Its frames
+ * leave half of what they can give. */
 static uint32_t any_loans(void)
 {
     uint64_t kept = 0, spare = 0;
     for (uint32_t i = 0; i < MANY; i++) {
-        uint32_t pages = 1000 + chance(39000), ballooned = chance(1000), asked = i % 2 ? 1 + chance(ballooned + 1) : 0;
+        uint32_t pages = 1000 + chance(39000), ballooned = chance(1000),
+                 asked = i % 2 ? 1 + chance(ballooned + 1) : 0;
         asked = asked > ballooned ? ballooned : asked;
-        loans[i] = (VbLoan){ .pages = pages, .ballooned = ballooned, .lent = pages - ballooned, .asked = asked,
-                             .turn = asked ? MANY - i : 0, .spare = ballooned + chance(pages - ballooned + 1) };
-        terms[i] = (VbTerms){ chance(pages / 2), chance(5) };
-        needs[i] = (VbNeed){ pages, asked ? ballooned - asked : loans[i].spare };
+        loans[i] = (VbLoan){.pages = pages,
+                            .ballooned = ballooned,
+                            .lent = pages - ballooned,
+                            .asked = asked,
+                            .turn = asked ? MANY - i : 0,
+                            .spare = ballooned + chance(pages - ballooned + 1)};
+        terms[i] = (VbTerms){chance(pages / 2), chance(5)};
+        needs[i] = (VbNeed){pages, asked ? ballooned - asked : loans[i].spare};
         if (needs[i].spare > pages - terms[i].least)
             needs[i].spare = pages - terms[i].least;
         kept += pages - needs[i].spare;
@@ -177,14 +186,17 @@ static uint32_t any_loans(void)
     return (uint32_t)(kept + spare / 2);
 }
 
-/* The quickest of five grants, in milliseconds: to the guest that came first, where there is room. */
+/* The quickest of five grants, in milliseconds: to the guest that came first, where there is
+  * room. */
 static double bench_grant(void)
 {
     double least = 1e9;
     for (unsigned round = 0; round < 5; round++) {
         size_t first = 0;
         for (size_t i = 0; i < MANY; i++)
-            first = loans[i].asked && (!loans[first].asked || loans[i].turn < loans[first].turn) ? i : first;
+            first = loans[i].asked && (!loans[first].asked || loans[i].turn < loans[first].turn)
+                        ? i
+                        : first;
         double start = milliseconds();
         VbGrant said = vb_loan_grant(UINT32_MAX, loans, MANY);
         double took = milliseconds() - start;
@@ -200,12 +212,16 @@ static double bench_lent(uint32_t frames, bool by_terms)
     double least = 1e9;
     for (unsigned round = 0; round < 5; round++) {
         double start = milliseconds();
-        VbTargets said = by_terms ? vb_loan_class_targets(frames, loans, MANY, terms, MANY, shares, MANY, needs, MANY, targets, MANY)
-                                  : vb_loan_targets(frames, loans, MANY, needs, MANY, targets, MANY);
+        VbTargets said = by_terms
+                             ? vb_loan_class_targets(frames, loans, MANY, terms, MANY, shares, MANY,
+                                                     needs, MANY, targets, MANY)
+                             : vb_loan_targets(frames, loans, MANY, needs, MANY, targets, MANY);
         double took = milliseconds() - start;
         least = took < least ? took : least;
         if (said.code != VB_OK || memcmp(targets, wanted, sizeof targets) != 0)
-            fail(by_terms ? "targets by terms of many guests" : "targets of many guests that are lent to", round);
+            fail(by_terms ? "targets by terms of many guests"
+                          : "targets of many guests that are lent to",
+                 round);
     }
     return least;
 }
@@ -217,7 +233,8 @@ static void check_time(const char *what, double took)
         fail("more than 20 ms", 0);
 }
 
-/* By terms, and then without them: each guest may give all that it can spare, and all have one priority. */
+/* By terms, and then without them: each guest may give all that it can spare, and all have one
+ * priority. */
 static void bench_lending(void)
 {
     uint32_t frames = any_loans();
@@ -226,7 +243,8 @@ static void bench_lending(void)
     check_time("vb_loan_class_targets", bench_lent(frames, true));
     memset(terms, 0, sizeof terms);
     for (size_t i = 0; i < MANY; i++)
-        needs[i] = (VbNeed){ loans[i].pages, loans[i].asked ? loans[i].ballooned - loans[i].asked : loans[i].spare };
+        needs[i] = (VbNeed){loans[i].pages,
+                            loans[i].asked ? loans[i].ballooned - loans[i].asked : loans[i].spare};
     share_by_sort(MANY, frames);
     check_time("vb_loan_targets", bench_lent(frames, false));
     check_time("vb_loan_grant", bench_grant());

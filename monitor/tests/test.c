@@ -1,9 +1,10 @@
-/* Tests of balloon.h over vb.h, with values from outside: VIRTIO 1.1, Linux 6.1's driver, and vb.h's own words. Each topic is a
- * part in test/. */
+/* Tests of balloon.h over vb.h, with values from outside: VIRTIO 1.1, Linux 6.1's driver, and
+ * vb.h's own words. Each topic is a part in test/. */
 #include "test/test.h"
 
 /* What other languages declare of vb.h has to have these sizes (rust/src/raw/structs.rs). */
-_Static_assert(sizeof(VbSettings) == 24 && sizeof(VbQueue) == 32 && sizeof(VbDevice) == 224, "a device's state");
+_Static_assert(sizeof(VbSettings) == 24 && sizeof(VbQueue) == 32 && sizeof(VbDevice) == 224,
+               "a device's state");
 _Static_assert(sizeof(VbHeld) == 12 && sizeof(VbBalloon) == 240, "a device and what it holds");
 _Static_assert(sizeof(VbQueueStart) == 32, "where a queue starts");
 _Static_assert(sizeof(VbRound) == 12, "a round of hints");

@@ -1,5 +1,6 @@
-/* Replays the rings of real Linux drivers (vectors/rings-*.txt, as their devices found them) through balloon.h: each
- * chain asks for what the driver meant, and the used ring gets what Linux saw next.
+/* Replays the rings of real Linux drivers (vectors/rings-*.txt, as their devices found them)
+ * through balloon.h: each chain asks for what the driver meant, and the used ring gets what Linux
+ * saw next.
  *
  *     vectors FILE..
  */
@@ -8,16 +9,23 @@
 
 enum { MOST_RECORDS = 16, MOST_PIECES = 32 };
 static const uint64_t MEMORY = 320ull * MIB;
-static const char *const KIND_NAMES[] = { "inflate", "deflate", "stats", "report" };
+static const char *const KIND_NAMES[] = {"inflate", "deflate", "stats", "report"};
 
-struct part { uint64_t address; uint32_t length; uint8_t bytes[4096]; };
+struct part {
+    uint64_t address;
+    uint32_t length;
+    uint8_t bytes[4096];
+};
 
 /* A chain that was next, with the ring round it. */
 struct record {
     uint32_t number, kind, index, taken, head, count;
-    struct { uint64_t address; uint32_t length, flags; } piece[MOST_PIECES];
+    struct {
+        uint64_t address;
+        uint32_t length, flags;
+    } piece[MOST_PIECES];
     struct part table, avail, used;
-    uint32_t pages[6];          /* the lowest, the highest, the first four */
+    uint32_t pages[6]; /* the lowest, the highest, the first four */
 };
 
 static struct record records[MOST_RECORDS];
@@ -34,8 +42,9 @@ static void read_pieces(struct record *record, const char *line)
 {
     for (const char *it = strchr(line, '['); it; it = strchr(it + 1, '[')) {
         EXPECT(record->count < MOST_PIECES);
-        EXPECT(sscanf(it, "[0x%" SCNx64 "+%" SCNu32 " flags %" SCNu32, &record->piece[record->count].address,
-                      &record->piece[record->count].length, &record->piece[record->count].flags) == 3);
+        EXPECT(sscanf(it, "[0x%" SCNx64 "+%" SCNu32 " flags %" SCNu32,
+                      &record->piece[record->count].address, &record->piece[record->count].length,
+                      &record->piece[record->count].flags) == 3);
         record->count++;
     }
 }
@@ -47,9 +56,11 @@ static void read_record(const char *line)
     EXPECT(record_count < MOST_RECORDS);
     struct record *record = &records[record_count++];
     memset(record, 0, sizeof *record);
-    EXPECT(sscanf(line, "%*f queue %" SCNu32 " %15[a-z]: avail flags %*u index %" SCNu32 " taken %" SCNu32
-                  " head %" SCNu32 " descriptors %" SCNu32, &record->number, name, &record->index, &record->taken,
-                  &record->head, &count) == 6);
+    EXPECT(sscanf(line,
+                  "%*f queue %" SCNu32 " %15[a-z]: avail flags %*u index %" SCNu32 " taken %" SCNu32
+                  " head %" SCNu32 " descriptors %" SCNu32,
+                  &record->number, name, &record->index, &record->taken, &record->head,
+                  &count) == 6);
     while (strcmp(KIND_NAMES[record->kind], name) != 0)
         EXPECT(++record->kind < VB_NO_KIND);
     read_pieces(record, line);
@@ -75,17 +86,23 @@ static void read_file(const char *name)
     struct part *part = NULL;
     char word[8];
     EXPECT(file != NULL);
-    for (record_count = 0; fgets(line, sizeof line, file) && strncmp(line, "at the end", 10) != 0;) {
+    for (record_count = 0;
+         fgets(line, sizeof line, file) && strncmp(line, "at the end", 10) != 0;) {
         struct record *record = record_count ? &records[record_count - 1] : NULL;
         if (strstr(line, " queue "))
             read_record(line);
         else if (record && sscanf(line, "  %7[a-z] at 0x", word) == 1 && strstr(line, " at 0x")) {
-            part = word[0] == 't' ? &record->table : word[0] == 'a' ? &record->avail : &record->used;
-            EXPECT(sscanf(line, "  %*s at 0x%" SCNx64 ", %" SCNu32, &part->address, &part->length) == 2);
+            part = word[0] == 't'   ? &record->table
+                   : word[0] == 'a' ? &record->avail
+                                    : &record->used;
+            EXPECT(sscanf(line, "  %*s at 0x%" SCNx64 ", %" SCNu32, &part->address,
+                          &part->length) == 2);
             EXPECT(part->length <= sizeof part->bytes);
         } else if (record && strncmp(line, "  pfns", 6) == 0)
-            EXPECT(sscanf(line, "  pfns %*u lowest %" SCNu32 " highest %" SCNu32 " consecutive %*u first %" SCNu32
-                          " %" SCNu32 " %" SCNu32 " %" SCNu32, &record->pages[0], &record->pages[1], &record->pages[2],
+            EXPECT(sscanf(line,
+                          "  pfns %*u lowest %" SCNu32 " highest %" SCNu32
+                          " consecutive %*u first %" SCNu32 " %" SCNu32 " %" SCNu32 " %" SCNu32,
+                          &record->pages[0], &record->pages[1], &record->pages[2],
                           &record->pages[3], &record->pages[4], &record->pages[5]) == 6);
         else if (record && part && strncmp(line, "   ", 3) == 0)
             read_row(part, line);
@@ -116,13 +133,15 @@ static void write_part(const struct part *part)
     memcpy(at(&guest, part->address), part->bytes, part->length);
 }
 
-/* Number i of a request: the vectors have the first four, the lowest and the highest; the others lie between. */
+/* Number i of a request: the vectors have the first four, the lowest and the highest; the others
+ * lie between. */
 static uint32_t number_of(const struct record *record, uint32_t i)
 {
     return i < 4 ? record->pages[2 + i] : i < 6 ? record->pages[i - 4] : record->pages[0] + i * 3;
 }
 
-/* Puts a record's ring into memory, and bytes where its buffer is: the vectors don't have these all. */
+/* Puts a record's ring into memory, and bytes where its buffer is: the vectors don't have these
+ * all. */
 static void write_record(const struct record *record)
 {
     uint64_t buffer = record->piece[0].address;
@@ -156,7 +175,8 @@ static void expect_pages(const struct record *record)
         for (uint32_t i = 0; i < record->count; i++)
             mean(record->piece[i].address / 4096, record->piece[i].length / 4096, 1);
     } else {
-        uint32_t least = record->kind == VB_INFLATE ? record->pages[5] : record->pages[2];     /* downward, upward */
+        uint32_t least =
+            record->kind == VB_INFLATE ? record->pages[5] : record->pages[2]; /* downward, upward */
         EXPECT(record->count == 1 && seen[0].first == least && seen[0].count >= 4);
         for (uint32_t i = 0; i < record->piece[0].length / 4; i++)
             mean(number_of(record, i), 1, 1);
@@ -170,7 +190,8 @@ static void expect_used(const struct record *record)
 {
     for (const struct record *next = record + 1; next < records + record_count; next++)
         if (next->number == record->number) {
-            EXPECT(memcmp(at(&guest, next->used.address), next->used.bytes, next->used.length) == 0);
+            EXPECT(memcmp(at(&guest, next->used.address), next->used.bytes, next->used.length) ==
+                   0);
             return;
         }
     EXPECT(get(&guest, record->used.address + 2, 2) == (uint16_t)(record->taken + 1));
@@ -180,11 +201,12 @@ static void replay(const struct record *record, bool first)
 {
     struct balloon_result result;
     write_record(record);
-    if (first)      /* Linux has filled its statistics buffer before DRIVER_OK */
+    if (first) /* Linux has filled its statistics buffer before DRIVER_OK */
         EXPECT(balloon_write_status(&guest.balloon, 15, &result) == 0);
     else
         result = balloon_notify_number(&guest.balloon, record->number);
-    EXPECT(result.code == VB_OK && result.chains == 1 && result.skipped == 0 && result.in_holes == 0);
+    EXPECT(result.code == VB_OK && result.chains == 1 && result.skipped == 0 &&
+           result.in_holes == 0);
     EXPECT(ring_of_kind(&guest.balloon, record->kind)->next_avail == record->index);
     if (record->kind == VB_STATISTICS) {
         EXPECT(figure_count == record->piece[0].length / 10);
@@ -201,10 +223,11 @@ static void start_at_records(uint64_t begin)
     static struct balloon_region region;
     int fd = memfd_create("guest", 0);
     EXPECT(fd >= 0 && ftruncate(fd, (off_t)MEMORY) == 0);
-    uint8_t *host = mmap(NULL, MEMORY - begin, PROT_READ | PROT_WRITE, MAP_SHARED, fd, (off_t)begin);
+    uint8_t *host =
+        mmap(NULL, MEMORY - begin, PROT_READ | PROT_WRITE, MAP_SHARED, fd, (off_t)begin);
     EXPECT(host != MAP_FAILED);
-    region = (struct balloon_region){ begin, MEMORY - begin, host, fd, begin, 0 };
-    VbSettings settings = { .offered = LINUX_FEATURES };
+    region = (struct balloon_region){begin, MEMORY - begin, host, fd, begin, 0};
+    VbSettings settings = {.offered = LINUX_FEATURES};
     EXPECT(balloon_init(&guest.balloon, &region, 1, settings) == VB_OK);
     guest.balloon.on_pages = see_pages;
     guest.balloon.on_statistics = hear;
@@ -215,8 +238,8 @@ static void start_at_records(uint64_t begin)
     for (uint32_t i = 0; i < record_count; i++) {
         const struct record *it = &records[i];
         EXPECT(vb_kind(&guest.balloon.state.device, it->number) == it->kind);
-        EXPECT(balloon_place(&guest.balloon, it->kind, it->table.address, it->avail.address, it->used.address,
-                             (uint16_t)(it->table.length / 16)) == VB_OK);
+        EXPECT(balloon_place(&guest.balloon, it->kind, it->table.address, it->avail.address,
+                             it->used.address, (uint16_t)(it->table.length / 16)) == VB_OK);
     }
 }
 

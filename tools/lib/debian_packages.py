@@ -13,7 +13,11 @@ def missing(packages):
     """Returns the packages that aren't installed, each once; none on a system without dpkg, which has others."""
     if not packages or not shutil.which("dpkg-query"):
         return []
-    said = subprocess.run(["dpkg-query", "-W", "-f", "${Package} ${db:Status-Status}\n", *packages], capture_output=True, text=True).stdout
+    said = subprocess.run(
+        ["dpkg-query", "-W", "-f", "${Package} ${db:Status-Status}\n", *packages],
+        capture_output=True,
+        text=True,
+    ).stdout
     there = {it.removesuffix(" installed") for it in said.splitlines() if it.endswith(" installed")}
     return [it for it in dict.fromkeys(packages) if it not in there]
 
@@ -27,7 +31,11 @@ def install(packages):
         time.sleep(PAUSE if tried else 0)
         print(f"installs, by apt-get: {' '.join(packages)}", flush=True)
         for words in (["update"], ["install", "-y", "--no-install-recommends", *packages]):
-            subprocess.run([*apt_get, *words], stdin=subprocess.DEVNULL, env={**os.environ, "DEBIAN_FRONTEND": "noninteractive"})
+            subprocess.run(
+                [*apt_get, *words],
+                stdin=subprocess.DEVNULL,
+                env={**os.environ, "DEBIAN_FRONTEND": "noninteractive"},
+            )
         packages = missing(packages)
         if not packages:
             break

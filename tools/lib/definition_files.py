@@ -40,7 +40,11 @@ def definition_files(crate):
 
 def items(lines):
     """Returns where each item of a file begins and ends: a line at the margin, with the indented ones after it."""
-    starts = [n for n, line in enumerate(lines) if line and not line[0].isspace() and not line.startswith(("--", "use ", "mod "))]
+    starts = [
+        n
+        for n, line in enumerate(lines)
+        if line and not line[0].isspace() and not line.startswith(("--", "use ", "mod "))
+    ]
     found = []
     for start in starts:
         end = start + 1

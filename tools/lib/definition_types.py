@@ -42,7 +42,9 @@ STANDARD = {
 def split(text, sign):
     """Returns the parts of a text between signs that are outside all brackets."""
     places = at_top(text, sign)
-    parts = [text[a:b].strip() for a, b in zip([0, *(it + 1 for it in places)], [*places, len(text)])]
+    parts = [
+        text[a:b].strip() for a, b in zip([0, *(it + 1 for it in places)], [*places, len(text)])
+    ]
     return [it for it in parts if it]
 
 
@@ -75,7 +77,9 @@ def data_cases(home, body):
     for names, kind in CONSTRUCTORS.findall(BROKEN.sub(" ", body)):
         types = arguments(kind)
         letters = "".join(f" a{number}" for number in range(len(types)))
-        found += [Case(it, f"({it}{letters})" if types else it, types, home) for it in names.split()]
+        found += [
+            Case(it, f"({it}{letters})" if types else it, types, home) for it in names.split()
+        ]
     return found
 
 
@@ -112,9 +116,13 @@ def typed_names(pattern, kind, cases):
     parts = split(within(pattern), "∷")
     if len(parts) > 1:
         element = within(kind.partition(" ")[2])
-        return [it for part in parts[:-1] for it in typed_names(part, element, cases)] + typed_names(parts[-1], kind, cases)
+        return [
+            it for part in parts[:-1] for it in typed_names(part, element, cases)
+        ] + typed_names(parts[-1], kind, cases)
     first, *words = split(within(pattern), " ") or [pattern]
     for case in cases_of(kind, cases):
         if case.name == first:
-            return [it for word, of in zip(words, case.types) for it in typed_names(word, of, cases)]
+            return [
+                it for word, of in zip(words, case.types) for it in typed_names(word, of, cases)
+            ]
     return [(first, kind)] if not words and re.fullmatch(r"[a-z]\w*", first) else []

@@ -36,8 +36,22 @@ def suite(name, *words):
 
 def monitor(name, *words):
     """Returns a step of monitor's Makefile: the programs are built beside each other before they run."""
-    build = " ".join(("make", "-s", "-C", "monitor", f"-j{os.cpu_count()}", "all", *(it for it in words if it.startswith("LIB="))))
-    return Step(name, ("sh", "-c", f"{build} && {' '.join(('make', '-C', 'monitor', *words))}"), tuple(SHIMS.split()))
+    build = " ".join(
+        (
+            "make",
+            "-s",
+            "-C",
+            "monitor",
+            f"-j{os.cpu_count()}",
+            "all",
+            *(it for it in words if it.startswith("LIB=")),
+        )
+    )
+    return Step(
+        name,
+        ("sh", "-c", f"{build} && {' '.join(('make', '-C', 'monitor', *words))}"),
+        tuple(SHIMS.split()),
+    )
 
 
 CHECKS = (
@@ -49,7 +63,10 @@ OVER_REFERENCE = ("headers", "c-test", "checked-test", "rust-test", "rust-c-test
 QUICK = (
     *CHECKS,
     monitor("monitor over reference", *OVER_REFERENCE, *FEWER),
-    *(suite(it, *(("--reference",) if SUITES[it].over_library else ())) for it in ("vhost-user", "control", "tools")),
+    *(
+        suite(it, *(("--reference",) if SUITES[it].over_library else ()))
+        for it in ("vhost-user", "control", "tools")
+    ),
 )
 # These want the network, or root, or some of their tests a Linux that is fetched.
 ELSEWHERE = ("host-runs", "fleet", "machine", "linux")
@@ -63,7 +80,10 @@ ALL = (
 
 def skipped(said):
     """Returns what a suite says of the tests that it skips: how many, and why."""
-    return [f"{count} skipped: {why}" for count, why in re.findall(r"(?m)^SKIPPED \[(\d+)\] [^:]+:\d+: (.*)$", said)]
+    return [
+        f"{count} skipped: {why}"
+        for count, why in re.findall(r"(?m)^SKIPPED \[(\d+)\] [^:]+:\d+: (.*)$", said)
+    ]
 
 
 def run(step):
@@ -71,13 +91,31 @@ def run(step):
     path, begun = os.path.join(LOGS, f"{step.name.replace(' ', '-')}.log"), time.monotonic()
     with open(path, "w", encoding="utf-8") as log:
         try:
-            passed = subprocess.run(step.words, cwd=ROOT, stdin=subprocess.DEVNULL, stdout=log, stderr=subprocess.STDOUT, timeout=LIMIT).returncode == 0
+            passed = (
+                subprocess.run(
+                    step.words,
+                    cwd=ROOT,
+                    stdin=subprocess.DEVNULL,
+                    stdout=log,
+                    stderr=subprocess.STDOUT,
+                    timeout=LIMIT,
+                ).returncode
+                == 0
+            )
         except subprocess.TimeoutExpired:
             passed = False
             log.write(f"\nit hangs, after {LIMIT} s\n")
     with open(path, encoding="utf-8", errors="replace") as log:
         said = log.read()
-    print("; ".join([f"{step.name}: {'passed' if passed else 'FAILED'} in {time.monotonic() - begun:.0f} s", *skipped(said)]), flush=True)
+    print(
+        "; ".join(
+            [
+                f"{step.name}: {'passed' if passed else 'FAILED'} in {time.monotonic() - begun:.0f} s",
+                *skipped(said),
+            ]
+        ),
+        flush=True,
+    )
     return passed, said.splitlines()[-LINES:]
 
 
@@ -103,7 +141,11 @@ def run_all(steps, tries=1):
         else:
             failed[step.name] = lines
     for name, lines in failed.items():
-        print(f"\n{name} failed; the end of {os.path.relpath(LOGS, ROOT)}/{name.replace(' ', '-')}.log:", *lines, sep="\n    ")
+        print(
+            f"\n{name} failed; the end of {os.path.relpath(LOGS, ROOT)}/{name.replace(' ', '-')}.log:",
+            *lines,
+            sep="\n    ",
+        )
     if failed:
         print(f"\nfailed: {', '.join(failed)}")
     print(f"{len(steps) - len(failed)} passed, {len(failed)} failed", flush=True)

@@ -78,10 +78,15 @@ def premises(crates):
     """Returns the relations that a contract of these crates supposes, itself or by what it says, and no function's promises. What a
     function promises needs no fact, since its proof refuses a stronger definition."""
     uses = Uses([it for crate in crates for it in definition_files(crate)])
-    for path in [it for crate in crates for it in glob.glob(f"{crate}/src/**/*.rt", recursive=True)]:
+    for path in [
+        it for crate in crates for it in glob.glob(f"{crate}/src/**/*.rt", recursive=True)
+    ]:
         for function in FUNCTION.findall("\n".join(without_comments(read_lines(path)))):
             for promise in PROMISE.finditer(function):
-                uses.add("a law" if IS_LAW.search(function) else "a function", inside(function, promise.end()))
+                uses.add(
+                    "a law" if IS_LAW.search(function) else "a function",
+                    inside(function, promise.end()),
+                )
     promised = uses.reached(uses.said["a function"])
     all_supposed = [uses.supposed[it] for it in ("a law", "a function", *promised)]
     return uses.reached(set().union(*all_supposed)) - promised

@@ -29,7 +29,9 @@ def load_library(path):
             f"{sys.executable} has no matplotlib for a picture: apt-get install python3-matplotlib gives it to /usr/bin/python3"
         ) from None
     matplotlib.rcdefaults()
-    matplotlib.rcParams.update({"svg.hashsalt": "boot-linux", "font.size": 8, "axes.linewidth": 0.6})
+    matplotlib.rcParams.update(
+        {"svg.hashsalt": "boot-linux", "font.size": 8, "axes.linewidth": 0.6}
+    )
     return matplotlib
 
 
@@ -50,14 +52,25 @@ def draw_steps(library, axes, rows):
     """Draws a thin line where each step ends, and says above it which one that was; one that ends at once is written beside it."""
     down = axes.get_xaxis_transform()
     above = library.transforms.offset_copy(down, axes.figure, y=12, units="points")
-    axes.vlines([point.seconds for _, point in rows], 0, 1, color="#777777", linewidth=0.5, transform=down)
+    axes.vlines(
+        [point.seconds for _, point in rows], 0, 1, color="#777777", linewidth=0.5, transform=down
+    )
     least = (axes.get_xlim()[1] - axes.get_xlim()[0]) / 62
     place = -least
     for step, point in rows:
         place = max(place + least, point.seconds)
         words = step.split(",")[0].split(":")[0]
-        axes.text(place, 1, words, transform=above, rotation=90, ha="center", va="bottom", fontsize=7)
-        axes.plot([point.seconds, place], [1, 1.05], color="#777777", linewidth=0.5, transform=down, clip_on=False)
+        axes.text(
+            place, 1, words, transform=above, rotation=90, ha="center", va="bottom", fontsize=7
+        )
+        axes.plot(
+            [point.seconds, place],
+            [1, 1.05],
+            color="#777777",
+            linewidth=0.5,
+            transform=down,
+            clip_on=False,
+        )
 
 
 def explain(library, axes):
@@ -66,8 +79,16 @@ def explain(library, axes):
     label, shape, colour = REPORTS
     handles = [area(color=HELD, label="the host: held")]
     handles += [line([], [], label=its, **style) for its, style in LINES.values()]
-    handles.append(line([], [], linestyle="none", marker=shape, color=colour, markersize=5, label=label))
-    axes.legend(handles=handles, loc="upper left", bbox_to_anchor=(1.01, 1.05), borderaxespad=0, frameon=False)
+    handles.append(
+        line([], [], linestyle="none", marker=shape, color=colour, markersize=5, label=label)
+    )
+    axes.legend(
+        handles=handles,
+        loc="upper left",
+        bbox_to_anchor=(1.01, 1.05),
+        borderaxespad=0,
+        frameon=False,
+    )
 
 
 def draw(library, path, memory, samples, rows):
@@ -77,7 +98,12 @@ def draw(library, path, memory, samples, rows):
     figure = library.figure.Figure(figsize=(10, 4.6))
     axes = figure.subplots()
     figure.subplots_adjust(left=0.07, right=0.82, top=0.79, bottom=0.10)
-    axes.set(xlabel="seconds", ylabel="MiB", ylim=(0, memory), xlim=(samples[0].seconds, rows[-1][1].seconds + 0.1))
+    axes.set(
+        xlabel="seconds",
+        ylabel="MiB",
+        ylim=(0, memory),
+        xlim=(samples[0].seconds, rows[-1][1].seconds + 0.1),
+    )
     draw_memory(axes, samples)
     _, shape, colour = REPORTS
     times = report_times(samples)

@@ -19,9 +19,17 @@ MOST_TEXT = 64 * 2**20
 
 # Its events, by guest, page and queue.
 TEXT_EVENTS = (
-    "alloc {guest} 0 0", "free {guest} 0 {page} 0", "write {guest} {page} {page} {page:02x}", "read {guest} {page} 0 2",
-    "inflate {guest} 1", "deflate {guest} 1", "take {guest} {queue}", "finish {guest} {queue} 0",
-    "reap {guest} {queue}", "backing {guest} {page}", "balloon {guest}",
+    "alloc {guest} 0 0",
+    "free {guest} 0 {page} 0",
+    "write {guest} {page} {page} {page:02x}",
+    "read {guest} {page} 0 2",
+    "inflate {guest} 1",
+    "deflate {guest} 1",
+    "take {guest} {queue}",
+    "finish {guest} {queue} 0",
+    "reap {guest} {queue}",
+    "backing {guest} {page}",
+    "balloon {guest}",
 )
 
 PLACES = ("free", "used", "giving", "lent", "taking", "stranded", "reporting", "ballooned")
@@ -47,7 +55,9 @@ class Script:
 def alone(pages, queue=64, frames=None, paced=False):
     """Returns a script that begins with one initialised guest."""
     start = [f"plug {pages} {queue} 1", "init 0", f"target 0 {pages}"]
-    return Script(frames or min(pages + 64, MOST_FRAMES), ["paced" if paced else "immediate"], start)
+    return Script(
+        frames or min(pages + 64, MOST_FRAMES), ["paced" if paced else "immediate"], start
+    )
 
 
 def lent(guest, count):
@@ -82,7 +92,13 @@ def long_script(program, rounds=ROUNDS):
     for it in range(rounds):
         at = it % 4_000
         script.events += ["alloc 0 0 0", f"write 0 {page} {at} {at:04x}", f"read 0 {page} {at} 2"]
-        script.events += ["target 0 2", *lent(0, 2), "target 0 0", "deflate 0 2", *served(0, DEFLATES)]
+        script.events += [
+            "target 0 2",
+            *lent(0, 2),
+            "target 0 0",
+            "deflate 0 2",
+            *served(0, DEFLATES),
+        ]
         script.events += [f"backing 0 {page}", "balloon 0", f"free 0 0 {page} 0"]
     return script
 
@@ -101,7 +117,11 @@ def lives_script(_program, rounds=500):
     guests = range(4)
     start = [line for it in guests for line in ("plug 64 8 1", f"init {it}")]
     script = Script(512, ["immediate"] * 4, start)
-    round_ = [line for it in guests for line in (f"reset {it}", f"init {it}", f"restart {it}", f"init {it}")]
+    round_ = [
+        line
+        for it in guests
+        for line in (f"reset {it}", f"init {it}", f"restart {it}", f"init {it}")
+    ]
     script.events = round_ * rounds
     return script
 
@@ -169,7 +189,7 @@ def mix_script(program, size, rounds=12):
         probe = Script(0, [], script.start)
         probe.head, probe.events = script.head, script.events + ["pages 0 ballooned"]
         replies = program.replies(probe.text())
-        blocks = [int(it.split()[1]) for it in replies if it.startswith("page ")][-len(orders):]
+        blocks = [int(it.split()[1]) for it in replies if it.startswith("page ")][-len(orders) :]
         swept = int(re.search(r"\d+", replies[-1])[0])
         chunks = [[f"sweep 0 {swept}", f"backing 0 {swept}"], *of_blocks(chance, blocks, orders)]
         rest = of_balloon(chance) + of_lives(size)
@@ -195,9 +215,13 @@ def of_balloon(chance):
         chunks += [lent(0, count) + asked_back(0, count)]
         chunks += [["report 0 16", *served(0, REPORTS)]]
         chunks += [["inflate 1 4", "take 1 0", *["work 1"] * 4, "finish 1 0 0", "reap 1 0"]]
-        chunks += [["target 0 100", "deflate 0 4", *served(0, DEFLATES), "target 0 2000", *lent(0, 4)]]
+        chunks += [
+            ["target 0 100", "deflate 0 4", *served(0, DEFLATES), "target 0 2000", *lent(0, 4)]
+        ]
         chunks += [["frames", "balloon 0", f"pages 0 {chance.choice(PLACES)}", "places 0"]]
-    chunks += [[f"take {it} {STATISTICS}", f"ask {it}", f"stats {it}", f"memory {it}"] for it in range(2)]
+    chunks += [
+        [f"take {it} {STATISTICS}", f"ask {it}", f"stats {it}", f"memory {it}"] for it in range(2)
+    ]
     return chunks + [["balance 64", "target 0 2000", "target 1 2000"]]
 
 

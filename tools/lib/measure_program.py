@@ -41,7 +41,14 @@ class Program:
 
     def instructions(self, text, kept=os.devnull, mode=("run",), more=()):
         """Counts what a run of this script takes; `kept` is callgrind's own file, and `more` are words for it."""
-        words = ["valgrind", "--tool=callgrind", f"--callgrind-out-file={kept}", *more, self.path, *mode]
+        words = [
+            "valgrind",
+            "--tool=callgrind",
+            f"--callgrind-out-file={kept}",
+            *more,
+            self.path,
+            *mode,
+        ]
         ran = subprocess.run(words, input=text, capture_output=True, check=True)
         return int(re.search(rb"Collected : (\d+)", ran.stderr)[1])
 
@@ -53,7 +60,9 @@ class Program:
     def memory(self, text, mode="run"):
         """Returns the most memory that a run of this script has, in megabytes."""
         words = ["/usr/bin/time", "-f", "%M", self.path, mode]
-        ran = subprocess.run(words, input=text, stdout=subprocess.DEVNULL, stderr=subprocess.PIPE, check=True)
+        ran = subprocess.run(
+            words, input=text, stdout=subprocess.DEVNULL, stderr=subprocess.PIPE, check=True
+        )
         return int(ran.stderr) / 1_024
 
     def seconds(self, script):

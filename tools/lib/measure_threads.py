@@ -80,7 +80,12 @@ def threads_text(guests, rounds, mode="threads"):
     if mode == "run":
         lines += [f"init {guest}" for guest in range(guests)]
     for guest in range(guests):
-        lines += [f"alloc {guest} 0 0", f"write {guest} 16 0 aa", f"read {guest} 16 0 1", f"free {guest} 0 16 0"] * rounds
+        lines += [
+            f"alloc {guest} 0 0",
+            f"write {guest} 16 0 aa",
+            f"read {guest} 16 0 1",
+            f"free {guest} 0 16 0",
+        ] * rounds
     return "".join(f"{it}\n" for it in lines).encode()
 
 
@@ -88,7 +93,9 @@ def by_thread(program, rounds):
     """Returns the instructions of each thread of one guest's run: the first one's, the worker's and the processor's."""
     with tempfile.TemporaryDirectory(prefix="measure-") as folder:
         kept = os.path.join(folder, "counts")
-        program.instructions(threads_text(1, rounds), kept, ("threads",), ["--separate-threads=yes"])
+        program.instructions(
+            threads_text(1, rounds), kept, ("threads",), ["--separate-threads=yes"]
+        )
         counts = []
         for number in (1, 2, 3):
             with open(f"{kept}-{number:02}", encoding="utf-8") as file:
@@ -108,7 +115,9 @@ def print_costs(program):
     silent, within = ("threads", "--bells", "drop"), [f"--toggle-collect={CALLS_OF_A_GUEST}"]
     own = of_a_call(lambda it: program.instructions(threads_text(1, it), mode=silent, more=within))
     rows = {
-        "in a list of events": of_a_call(lambda it: program.instructions(threads_text(1, it, "run"))),
+        "in a list of events": of_a_call(
+            lambda it: program.instructions(threads_text(1, it, "run"))
+        ),
         "on threads: the processor": processor,
         "of it the call itself": own,
         "of it lock, history and doorbell": processor - own,
@@ -136,8 +145,12 @@ class Clock:
         source = os.path.join(folder, "clock.c")
         with open(source, "w", encoding="utf-8") as file:
             file.write(CLOCK)
-        compiler = shutil.which("cc") or shutil.which("clang") or sys.exit("measure: there is no cc")
-        subprocess.run([compiler, "-O1", "-shared", "-fPIC", "-o", self.library, source, "-ldl"], check=True)
+        compiler = (
+            shutil.which("cc") or shutil.which("clang") or sys.exit("measure: there is no cc")
+        )
+        subprocess.run(
+            [compiler, "-O1", "-shared", "-fPIC", "-o", self.library, source, "-ldl"], check=True
+        )
 
     def seconds(self, program, count, guests, bells):
         """Returns how long the threads take, from the first one's beginning to the last one's end, of `count` programs."""
@@ -163,12 +176,17 @@ def print_seconds(program):
             kinds = [(1, 1), (1, 2), (2, 1), (1, 4), (4, 1)]
             runs = [[clock.seconds(program, *it, bells) for it in kinds] for _ in range(RUNS)]
             took = {kind: min(seconds) for kind, seconds in zip(kinds, zip(*runs))}
-            print(f"\n| Guests, bells {bells} | seconds | of one guest's | as many programs with a guest each |")
+            print(
+                f"\n| Guests, bells {bells} | seconds | of one guest's | as many programs with a guest each |"
+            )
             print("|---|---|---|---|")
             for guests in (1, 2, 4):
                 apart = took[guests, 1]
                 seconds = took[1, guests]
-                print(f"| {guests} | {seconds:.3f} | {seconds / took[1, 1]:.2f} | {apart:.3f} |", flush=True)
+                print(
+                    f"| {guests} | {seconds:.3f} | {seconds / took[1, 1]:.2f} | {apart:.3f} |",
+                    flush=True,
+                )
 
 
 def print_threads(program):

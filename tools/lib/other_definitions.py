@@ -8,7 +8,16 @@ from definition_files import DECLARES, Planted, definition_files, items, read_li
 
 # A name, a number or a sign.
 WORD = re.compile(r"[A-Za-z_]\w*|\d+|≤|<|\S")
-OPPOSITES = {"≤": "<", "<": "≤", "true": "false", "false": "true", "take": "drop", "drop": "take", "nat_le": "nat_lt", "nat_lt": "nat_le"}
+OPPOSITES = {
+    "≤": "<",
+    "<": "≤",
+    "true": "false",
+    "false": "true",
+    "take": "drop",
+    "drop": "take",
+    "nat_le": "nat_lt",
+    "nat_lt": "nat_le",
+}
 OPPOSITES |= {"min": "max", "max": "min"}
 
 # Structs and enums of sources, with a line for each field or variant; and the constructors of a `data`.
@@ -42,11 +51,24 @@ def next_names(crates):
     groups = []
     for crate in crates:
         for text in texts(crate, "src/**/*.rt"):
-            groups += [[f".{name}" for name in names] for body in STRUCT.findall(text) for names in alike(PUBLIC.findall(body))]
-            groups += [names for body in ENUM.findall(text) for names in alike(VARIANT.findall(body))]
+            groups += [
+                [f".{name}" for name in names]
+                for body in STRUCT.findall(text)
+                for names in alike(PUBLIC.findall(body))
+            ]
+            groups += [
+                names for body in ENUM.findall(text) for names in alike(VARIANT.findall(body))
+            ]
         for text in texts(crate, "specs/**/*.antt"):
-            groups += [names for body in DATA.findall(text) for names in alike(CONSTRUCTOR.findall(body))]
-    return {name: other for names in groups if len(names) > 1 for name, other in zip(names, names[1:] + names[:1])}
+            groups += [
+                names for body in DATA.findall(text) for names in alike(CONSTRUCTOR.findall(body))
+            ]
+    return {
+        name: other
+        for names in groups
+        if len(names) > 1
+        for name, other in zip(names, names[1:] + names[:1])
+    }
 
 
 def other_words(word, is_field, following):
@@ -62,7 +84,10 @@ def other_lines(line, begin, following):
     found = []
     for word in WORD.finditer(line, begin):
         is_field = line[word.start() - 1 : word.start()] == "."
-        found += [line[: word.start()] + it + line[word.end() :] for it in other_words(word[0], is_field, following)]
+        found += [
+            line[: word.start()] + it + line[word.end() :]
+            for it in other_words(word[0], is_field, following)
+        ]
     return found[:MOST]
 
 
@@ -83,7 +108,11 @@ def others_of_item(path, lines, start, end, following):
     if not is_record and re.match(r"(?:abbrev|unfoldable|rec|pub|data) ", lines[start]):
         return []
     name, found, has_begun = DECLARES.match(lines[start])[2], [], False
-    first = next((n + 1 for n in range(start, end) if lines[n].endswith(" where")), end) if is_record else start
+    first = (
+        next((n + 1 for n in range(start, end) if lines[n].endswith(" where")), end)
+        if is_record
+        else start
+    )
     for number in range(first, end):
         begin = said_from(lines[number], is_record, has_begun)
         has_begun |= begin >= 0

@@ -40,9 +40,15 @@ def number(text):
 
 def entries(path, name):
     """Returns how many entries a table of this name has, which a file of Python writes out."""
+
     def count():
         tree = ast.parse(read(path))
-        tables = [it.value for it in tree.body if isinstance(it, ast.Assign) and any(isinstance(to, ast.Name) and to.id == name for to in it.targets)]
+        tables = [
+            it.value
+            for it in tree.body
+            if isinstance(it, ast.Assign)
+            and any(isinstance(to, ast.Name) and to.id == name for to in it.targets)
+        ]
         return len(tables[0].keys if isinstance(tables[0], ast.Dict) else tables[0].elts)
 
     return count
@@ -63,7 +69,11 @@ def wrong_shims(*paths):
     return lambda: sum(it[1].startswith(paths) for it in tool("wrong-shims").WRONG)
 
 
-SHIM, CALLS, OBEY = "monitor/include/balloon.h", "monitor/include/balloon_calls.h", "monitor/rust/src/obey.rs"
+SHIM, CALLS, OBEY = (
+    "monitor/include/balloon.h",
+    "monitor/include/balloon_calls.h",
+    "monitor/rust/src/obey.rs",
+)
 
 # A page, the pattern of a number in it, and what the number has to be.
 COUNTS = (
@@ -71,17 +81,41 @@ COUNTS = (
     ("README.md", r"lines of C, (\w+) of Rust\)", lines_of(OBEY)),
     ("CHANGELOG.md", r"shims in C and Rust obey it: (\w+) and \w+ lines", lines_of(SHIM)),
     ("CHANGELOG.md", r"shims in C and Rust obey it: \w+ and (\w+) lines", lines_of(OBEY)),
-    ("CHANGELOG.md", r"\(`tools/conform`\): (\w+), by topic", scripts("crates/vb_conformance/data/*")),
+    (
+        "CHANGELOG.md",
+        r"\(`tools/conform`\): (\w+), by topic",
+        scripts("crates/vb_conformance/data/*"),
+    ),
     ("monitor/README.md", r"`balloon\.h` \((\w+) lines\)", lines_of(SHIM)),
     ("monitor/README.md", r"`balloon_calls\.h`, (\w+) lines", lines_of(CALLS)),
     ("monitor/README.md", r"by (\w+) wrong shims in C", wrong_shims("include/")),
     ("monitor/README.md", r"wrong shims in C and (\w+) in Rust", wrong_shims("rust/")),
     ("monitor/rust/README.md", r"`src/obey\.rs`\n?\s*\((\w+) lines\)", lines_of(OBEY)),
-    ("docs/LINUX.md", r"`tools/test linux` \| (\w+) runs", entries("monitor/tests/linux/linux_runs.py", "RUNS")),
-    ("docs/LINUX.md", r"`tools/test linux --wrong all` \| (\w+) devices", entries("monitor/tests/linux/linux_bench.py", "WRONG_DEVICES")),
-    ("docs/LINUX.md", r"`tools/test host-runs` \| (\w+) runs", entries("monitor/tests/host/host_runs.py", "RUNS")),
-    ("docs/LINUX.md", r"`tools/test host-runs --wrong all` \| (\w+) hosts", entries("monitor/tests/host/host_runs.py", "WRONG_HOSTS")),
-    ("docs/LINUX.md", r"`tools/test vhost-user --wrong all` \| (\w+) backends", entries("monitor/tests/vhost_user/test_mutants.py", "WRONG")),
+    (
+        "docs/LINUX.md",
+        r"`tools/test linux` \| (\w+) runs",
+        entries("monitor/tests/linux/linux_runs.py", "RUNS"),
+    ),
+    (
+        "docs/LINUX.md",
+        r"`tools/test linux --wrong all` \| (\w+) devices",
+        entries("monitor/tests/linux/linux_bench.py", "WRONG_DEVICES"),
+    ),
+    (
+        "docs/LINUX.md",
+        r"`tools/test host-runs` \| (\w+) runs",
+        entries("monitor/tests/host/host_runs.py", "RUNS"),
+    ),
+    (
+        "docs/LINUX.md",
+        r"`tools/test host-runs --wrong all` \| (\w+) hosts",
+        entries("monitor/tests/host/host_runs.py", "WRONG_HOSTS"),
+    ),
+    (
+        "docs/LINUX.md",
+        r"`tools/test vhost-user --wrong all` \| (\w+) backends",
+        entries("monitor/tests/vhost_user/test_mutants.py", "WRONG"),
+    ),
 )
 
 
@@ -133,9 +167,21 @@ def wanted():
     """Returns the packages that the tests of a suite of monitor say to install, and that aren't among the suite's."""
     found = []
     for name, suite in SUITES.items():
-        for path in sorted(it for word in suite.words for it in glob.glob(f"{ROOT}/{word}/*.py") if word.startswith("monitor/")):
-            asked = set(re.findall(r"apt-get install ([a-z][a-z0-9+.-]+)", read(os.path.relpath(path, ROOT))))
-            found += [f"tools/lib/suites.py: {name} wants {it}" for it in sorted(asked - set(packages_of(name, all_of_it=True)))]
+        for path in sorted(
+            it
+            for word in suite.words
+            for it in glob.glob(f"{ROOT}/{word}/*.py")
+            if word.startswith("monitor/")
+        ):
+            asked = set(
+                re.findall(
+                    r"apt-get install ([a-z][a-z0-9+.-]+)", read(os.path.relpath(path, ROOT))
+                )
+            )
+            found += [
+                f"tools/lib/suites.py: {name} wants {it}"
+                for it in sorted(asked - set(packages_of(name, all_of_it=True)))
+            ]
     return found
 
 
@@ -150,7 +196,9 @@ def packages():
         for path, pattern in others:
             lists = re.findall(pattern, read(path))
             if len(lists) != 1 or set(lists[0].split()) - {"#"} != set(wanted[0].split()):
-                found.append(f"{path}: packages {' or '.join(lists) or 'none'}, and {first} has {wanted[0]}")
+                found.append(
+                    f"{path}: packages {' or '.join(lists) or 'none'}, and {first} has {wanted[0]}"
+                )
     return found
 
 
@@ -162,14 +210,22 @@ def times():
     """Returns commands whose tables have several times, and pages and tools that state one beside the tables."""
     stated, found = {}, []
     for path in TABLES:
-        for command, time in re.findall(r"(?m)^\| `([^`]+)` \|.*\| ([^|]*\b(?:seconds|minutes?|hour)\b[^|]*) \|$", read(path)):
+        for command, time in re.findall(
+            r"(?m)^\| `([^`]+)` \|.*\| ([^|]*\b(?:seconds|minutes?|hour)\b[^|]*) \|$", read(path)
+        ):
             if stated.setdefault(command, time) != time:
-                found.append(f"{path}: `{command}` takes {time} here, and {stated[command]} elsewhere")
+                found.append(
+                    f"{path}: `{command}` takes {time} here, and {stated[command]} elsewhere"
+                )
     named = {it.split()[0] for it in stated if it.startswith("tools/")} | {"tools/wrong-shims"}
     texts = {it: ast.get_docstring(ast.parse(read(it))) for it in sorted(named)}
     texts |= {it: read(it) for it in ("monitor/README.md", "monitor/rust/README.md")}
     for path, text in texts.items():
-        found += [f"{path}: a time belongs into {' and '.join(TABLES)} alone: {it.strip()}" for it in text.splitlines() if re.search(DURATION, it)]
+        found += [
+            f"{path}: a time belongs into {' and '.join(TABLES)} alone: {it.strip()}"
+            for it in text.splitlines()
+            if re.search(DURATION, it)
+        ]
     return found
 
 
@@ -177,7 +233,11 @@ def times():
 LISTINGS = (
     ("README.md", "c", ("monitor/examples/example.c",)),
     ("README.md", "rust", ("monitor/rust/examples/monitor.rs",)),
-    ("docs/INTEGRATION.md", "rust", tuple(f"docs/examples/{it}/src/lib.rt.in" for it in ("serve", "noting", "hosting"))),
+    (
+        "docs/INTEGRATION.md",
+        "rust",
+        tuple(f"docs/examples/{it}/src/lib.rt.in" for it in ("serve", "noting", "hosting")),
+    ),
 )
 
 
@@ -185,7 +245,11 @@ def listings():
     """Returns the pages whose listing of a file isn't what the file has."""
     found = []
     for path, language, sources in LISTINGS:
-        parts = [part for it in re.findall(rf"(?s)\n```{language}\n(.*?)```\n", read(path)) for part in it.split("...\n")]
+        parts = [
+            part
+            for it in re.findall(rf"(?s)\n```{language}\n(.*?)```\n", read(path))
+            for part in it.split("...\n")
+        ]
         texts = [read(it) for it in sources]
         if not parts or any(all(it not in text for text in texts) for it in parts):
             found.append(f"{path}: a listing isn't in {' or '.join(sources)}")
@@ -196,9 +260,14 @@ def order():
     """Returns what is wrong with the map's table of crates, low to high: each is there once, after those that it needs."""
     section = read("docs/MAP.md").partition("\n## The crates\n")[2].partition("\n## ")[0]
     named = re.findall(r"(?m)^\| `(vb_\w+)` \|", section)
-    below = {name: set(rest.split()) for name, rest in re.findall(r"(?m)^(\w+)[^:#\n]*:(.*)$", read("crates.txt"))}
+    below = {
+        name: set(rest.split())
+        for name, rest in re.findall(r"(?m)^(\w+)[^:#\n]*:(.*)$", read("crates.txt"))
+    }
     if sorted(named) != sorted(below):
-        return [f"docs/MAP.md: its crates aren't those of crates.txt: {', '.join(sorted(set(named) ^ set(below))) or 'one is there twice'}"]
+        return [
+            f"docs/MAP.md: its crates aren't those of crates.txt: {', '.join(sorted(set(named) ^ set(below))) or 'one is there twice'}"
+        ]
     late = [(it, low) for at, it in enumerate(named) for low in below[it] & set(named[at:])]
     return [f"docs/MAP.md: crate {it} is listed before {low}, which it needs" for it, low in late]
 
@@ -206,16 +275,34 @@ def order():
 def named_files():
     """Returns the files that the map's table of crates names, or CONTRIBUTING by its crate, and that aren't there."""
     section = read("docs/MAP.md").partition("\n## The crates\n")[2].partition("\n## ")[0]
-    named = [("docs/MAP.md", crate, it) for crate, last in re.findall(r"(?m)^\| `(vb_\w+)` \|.*\|([^|]*)\|$", section) for it in re.findall(r"`([^`]+)`", last)]
-    named = [(page, f"{crate}/{'' if it.startswith(('proofs/', 'data/')) else 'specs/' if it.endswith('.antt') else 'src/'}{it}") for page, crate, it in named]
-    named += [("CONTRIBUTING.md", it) for it in re.findall(r"`(vb_\w+/[\w./]+)`", read("CONTRIBUTING.md"))]
-    return [f"{page}: no file crates/{it}" for page, it in named if not glob.glob(f"{ROOT}/crates/{it}")]
+    named = [
+        ("docs/MAP.md", crate, it)
+        for crate, last in re.findall(r"(?m)^\| `(vb_\w+)` \|.*\|([^|]*)\|$", section)
+        for it in re.findall(r"`([^`]+)`", last)
+    ]
+    named = [
+        (
+            page,
+            f"{crate}/{'' if it.startswith(('proofs/', 'data/')) else 'specs/' if it.endswith('.antt') else 'src/'}{it}",
+        )
+        for page, crate, it in named
+    ]
+    named += [
+        ("CONTRIBUTING.md", it) for it in re.findall(r"`(vb_\w+/[\w./]+)`", read("CONTRIBUTING.md"))
+    ]
+    return [
+        f"{page}: no file crates/{it}" for page, it in named if not glob.glob(f"{ROOT}/crates/{it}")
+    ]
 
 
 def named_tools():
     """Returns the tools that the map doesn't name, and those that it names and that aren't there."""
     section = read("docs/MAP.md").partition("\n## The tools\n")[2]
-    named = {it.split()[0] for it in re.findall(r"`([a-z][\w-]*(?: [A-Z]+)?)`", section.partition("|---|---|")[2]) if "/" not in it} - {"debian", "packaging"}
+    named = {
+        it.split()[0]
+        for it in re.findall(r"`([a-z][\w-]*(?: [A-Z]+)?)`", section.partition("|---|---|")[2])
+        if "/" not in it
+    } - {"debian", "packaging"}
     there = {it for it in os.listdir(f"{ROOT}/tools") if os.path.isfile(f"{ROOT}/tools/{it}")}
     return [f"docs/MAP.md: its tools aren't those of tools: {it}" for it in sorted(named ^ there)]
 
@@ -224,12 +311,29 @@ def sanitized():
     """Returns where monitor/README.md names other tests as those without the address sanitizer than the Makefile has."""
     page, makefile = read("monitor/README.md"), read("monitor/Makefile")
     tests = set(re.findall(r"(?m)^\| `(\w+)\.c` \|", page))
-    run = {it for names in re.findall(r"(?m)^(?:C_TESTS \+?=|EXPLAINED =) (.*)$", makefile) for it in names.split()}
+    run = {
+        it
+        for names in re.findall(r"(?m)^(?:C_TESTS \+?=|EXPLAINED =) (.*)$", makefile)
+        for it in names.split()
+    }
     said = re.search(r"(?m)^.* run without the address sanitizer alone.*$", page)
     named = set(re.findall(r"`(\w+)\.c`", said[0])) if said else set()
-    return [f"monitor/README.md: of tests without the sanitizer, {it}.c isn't said correctly" for it in sorted(named ^ (tests - run))]
+    return [
+        f"monitor/README.md: of tests without the sanitizer, {it}.c isn't said correctly"
+        for it in sorted(named ^ (tests - run))
+    ]
 
 
 def claims():
     """Returns all that pages claim falsely."""
-    return [*counts(), *packages(), *wanted(), *times(), *listings(), *order(), *named_files(), *named_tools(), *sanitized()]
+    return [
+        *counts(),
+        *packages(),
+        *wanted(),
+        *times(),
+        *listings(),
+        *order(),
+        *named_files(),
+        *named_tools(),
+        *sanitized(),
+    ]

@@ -19,7 +19,12 @@ def read(path):
 
 def pages():
     """Returns the names of all pages, from the top."""
-    listed = subprocess.run(["git", "-C", ROOT, "ls-files", "-co", "--exclude-standard", "*.md"], stdout=subprocess.PIPE, text=True, check=True)
+    listed = subprocess.run(
+        ["git", "-C", ROOT, "ls-files", "-co", "--exclude-standard", "*.md"],
+        stdout=subprocess.PIPE,
+        text=True,
+        check=True,
+    )
     return [it for it in listed.stdout.splitlines() if os.path.isfile(f"{ROOT}/{it}")]
 
 

@@ -105,15 +105,25 @@ class Proved:
         source = os.path.join(folder, "refuse.c")
         with open(source, "w", encoding="utf-8") as file:
             file.write(ALLOCATOR)
-        compiler = shutil.which("cc") or shutil.which("clang") or sys.exit("refuse-memory: there is no cc")
-        subprocess.run([compiler, "-O1", "-shared", "-fPIC", "-o", self.library, source, "-ldl"], check=True)
+        compiler = (
+            shutil.which("cc") or shutil.which("clang") or sys.exit("refuse-memory: there is no cc")
+        )
+        subprocess.run(
+            [compiler, "-O1", "-shared", "-fPIC", "-o", self.library, source, "-ldl"], check=True
+        )
 
     def run_with(self, words, text="", refused=0, thread=0):
         """Runs a program of which the request, or the thread, of this number is refused, counted from 1."""
-        given = {"LD_PRELOAD": self.library, "REFUSED_REQUEST": str(refused), "REQUESTS_FILE": self.count}
+        given = {
+            "LD_PRELOAD": self.library,
+            "REFUSED_REQUEST": str(refused),
+            "REQUESTS_FILE": self.count,
+        }
         given["REFUSED_THREAD"] = str(thread)
         try:
-            ran = subprocess.run(words, input=text, env=given, capture_output=True, text=True, timeout=LIMIT)
+            ran = subprocess.run(
+                words, input=text, env=given, capture_output=True, text=True, timeout=LIMIT
+            )
         except subprocess.TimeoutExpired:
             return Run(None, [], f"no answer after {LIMIT} seconds", refused)
         with open(self.count, encoding="utf-8") as file:

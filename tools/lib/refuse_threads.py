@@ -16,7 +16,12 @@ def threads_script():
     """Returns the lines of two guests, each of which takes, writes, reads and frees a page, 25 times."""
     lines = ["host 64", "spare paced", "spare paced", "plug 64 8 1", "plug 64 8 1"]
     for guest in GUESTS:
-        lines += [f"alloc {guest} 0 0", f"write {guest} 16 0 aa", f"read {guest} 16 0 1", f"free {guest} 0 16 0"] * 25
+        lines += [
+            f"alloc {guest} 0 0",
+            f"write {guest} 16 0 aa",
+            f"read {guest} 16 0 1",
+            f"free {guest} 0 16 0",
+        ] * 25
     return lines
 
 
@@ -24,7 +29,9 @@ def is_whole(run):
     """Whether a run on threads printed a line for each guest, with all its calls, and that no frame is shared."""
     guests = [f"guest {it} calls 100 frames " for it in GUESTS]
     said = [line.rstrip("0123456789") for line in run.replies[:-1]]
-    return run.status == 0 and not run.errors and said == guests and run.replies[-1:] == ["disjoint"]
+    return (
+        run.status == 0 and not run.errors and said == guests and run.replies[-1:] == ["disjoint"]
+    )
 
 
 def count_wrong(what, runs, is_right):
@@ -40,21 +47,29 @@ def walk_threads(proved):
     lines, words = threads_script(), ("threads",)
     whole = proved.run(lines, words=words)
     if not whole.requests:
-        sys.exit("refuse-memory: no request of the run on threads is counted, so none would be refused")
+        sys.exit(
+            "refuse-memory: no request of the run on threads is counted, so none would be refused"
+        )
     if not is_whole(whole):
         sys.exit("refuse-memory: the run on threads isn't whole, though nothing was refused")
     runs = [(it, proved.run(lines, it, words)) for it in range(1, whole.requests + 1)]
     short = sum(run.is_refused_at_first() for _, run in runs)
     unasked = sum(is_whole(run) and run.requests < it for it, run in runs)
     answered = sum(is_whole(run) and run.requests >= it for it, run in runs)
-    print(f"two guests on threads: {len(runs)} requests, {THREADS} threads\n\n| Refused | Answer |\n|---|---|")
+    print(
+        f"two guests on threads: {len(runs)} requests, {THREADS} threads\n\n| Refused | Answer |\n|---|---|"
+    )
     print(f"| {short} requests | status 3, `run: memory` |")
-    print(f"| {answered} requests | all lines of a run: the runtime asked again, or a guest's call was answered `{WANT}` |")
+    print(
+        f"| {answered} requests | all lines of a run: the runtime asked again, or a guest's call was answered `{WANT}` |"
+    )
     print(f"| none: {unasked} runs asked for fewer | all lines of a run |")
     unmade = [proved.run(lines, words=words, thread=it) for it in range(1, THREADS + 1)]
     ended = sum(it.is_refused_at_first() for it in unmade)
     print(f"| {ended} threads | status 3, `run: memory` |")
-    wrong = count_wrong("request", [it for _, it in runs], lambda it: it.is_refused_at_first() or is_whole(it))
+    wrong = count_wrong(
+        "request", [it for _, it in runs], lambda it: it.is_refused_at_first() or is_whole(it)
+    )
     return wrong + count_wrong("thread", unmade, Run.is_refused_at_first)
 
 
@@ -70,15 +85,23 @@ def walk_tests(proved):
     if not whole.requests:
         sys.exit("refuse-memory: no request of the test is counted, so none would be refused")
     if what_is_left(whole) != REPORT:
-        sys.exit("refuse-memory: the test of runs on threads has no report, though nothing was refused")
+        sys.exit(
+            "refuse-memory: the test of runs on threads has no report, though nothing was refused"
+        )
     runs = [proved.test(refused=it) for it in range(1, whole.requests + 1)]
     unmade = [proved.test(thread=it) for it in range(1, THREADS + 1)]
     left = [what_is_left(it) for it in runs]
     ended = [what_is_left(it) for it in unmade].count(NO_REPORT)
-    print(f"\nthe same by the tests: {len(runs)} requests, {THREADS} threads\n\n| Refused | Left |\n|---|---|")
+    print(
+        f"\nthe same by the tests: {len(runs)} requests, {THREADS} threads\n\n| Refused | Left |\n|---|---|"
+    )
     print(f"| {left.count(NO_REPORT)} requests | `Memory`, and no frame is out |")
-    print(f"| {left.count(REPORT)} requests, or none | a report, whose histories replay, and no frame is out |")
+    print(
+        f"| {left.count(REPORT)} requests, or none | a report, whose histories replay, and no frame is out |"
+    )
     print(f"| {left.count(NO_RUN)} requests | they are the test's own, beside the run |")
     print(f"| {ended} threads | `Memory`, and no frame is out |")
     wrong = count_wrong("request of the test", runs, what_is_left)
-    return wrong + count_wrong("thread of the test", unmade, lambda it: what_is_left(it) == NO_REPORT)
+    return wrong + count_wrong(
+        "thread of the test", unmade, lambda it: what_is_left(it) == NO_REPORT
+    )

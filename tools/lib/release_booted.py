@@ -13,7 +13,13 @@ LIMIT, BOOT_LIMIT, END_LIMIT = 900, 180, 60
 
 # Where the container sees the repository and what is released; other folders of its own are its root's.
 SOURCE, RELEASED = "/srv/source", "/srv/released"
-ENVIRONMENT = {"PATH": "/usr/local/bin:/usr/sbin:/usr/bin:/sbin:/bin", "HOME": "/root", "LC_ALL": "C.UTF-8", "DEBIAN_FRONTEND": "noninteractive", "TERM": "xterm"}
+ENVIRONMENT = {
+    "PATH": "/usr/local/bin:/usr/sbin:/usr/bin:/sbin:/bin",
+    "HOME": "/root",
+    "LC_ALL": "C.UTF-8",
+    "DEBIAN_FRONTEND": "noninteractive",
+    "TERM": "xterm",
+}
 
 
 def end(process):
@@ -30,7 +36,14 @@ def end(process):
 def ran(words, what, limit=LIMIT, **options):
     """Runs a command within a time limit, and returns what it printed."""
     try:
-        process = subprocess.Popen(words, stdout=subprocess.PIPE, stderr=subprocess.PIPE, text=True, start_new_session=True, **options)
+        process = subprocess.Popen(
+            words,
+            stdout=subprocess.PIPE,
+            stderr=subprocess.PIPE,
+            text=True,
+            start_new_session=True,
+            **options,
+        )
     except FileNotFoundError as missing:
         raise Fault(f"{what}: {words[0]} isn't there") from missing
     try:
@@ -51,17 +64,39 @@ class Booted:
         if not shutil.which("systemd-nspawn"):
             raise Fault("systemd-nspawn isn't there: apt-get install systemd-container")
         self.root, self.leader = root, None
-        folders = [f"--bind-ro={here}:{there}" for here, there in ((ROOT, SOURCE), (released, RELEASED), *others)]
-        words = ["systemd-nspawn", "--quiet", "--register=no", "--keep-unit", "--resolv-conf=copy-host", *folders, "-D", root, "--boot", "--console=pipe"]
+        folders = [
+            f"--bind-ro={here}:{there}"
+            for here, there in ((ROOT, SOURCE), (released, RELEASED), *others)
+        ]
+        words = [
+            "systemd-nspawn",
+            "--quiet",
+            "--register=no",
+            "--keep-unit",
+            "--resolv-conf=copy-host",
+            *folders,
+            "-D",
+            root,
+            "--boot",
+            "--console=pipe",
+        ]
         environment = {**os.environ, "SYSTEMD_NSPAWN_UNIFIED_HIERARCHY": "1"}
-        self.container = subprocess.Popen(words, stdin=subprocess.DEVNULL, stdout=subprocess.DEVNULL, stderr=subprocess.DEVNULL, env=environment)
+        self.container = subprocess.Popen(
+            words,
+            stdin=subprocess.DEVNULL,
+            stdout=subprocess.DEVNULL,
+            stderr=subprocess.DEVNULL,
+            env=environment,
+        )
 
     def __enter__(self):
         end = time.monotonic() + BOOT_LIMIT
         while not self.is_ready():
             if self.container.poll() is not None or time.monotonic() > end:
                 self.__exit__()
-                raise Fault(f"{self.root} doesn't boot: systemd-nspawn -D {self.root} --boot says why")
+                raise Fault(
+                    f"{self.root} doesn't boot: systemd-nspawn -D {self.root} --boot says why"
+                )
             time.sleep(0.5)
         return self
 
@@ -78,7 +113,13 @@ class Booted:
         self.leader = self.leader or self.first_process()
         if not self.leader:
             return False
-        said = subprocess.run([*self.entered(), "systemctl", "is-system-running"], capture_output=True, text=True, env=ENVIRONMENT, timeout=60)
+        said = subprocess.run(
+            [*self.entered(), "systemctl", "is-system-running"],
+            capture_output=True,
+            text=True,
+            env=ENVIRONMENT,
+            timeout=60,
+        )
         return said.stdout.strip() in ("running", "degraded")
 
     def first_process(self):
@@ -98,7 +139,17 @@ class Booted:
 
     def entered(self):
         """Returns the words that run a command there."""
-        return ["nsenter", "--target", str(self.leader), "--mount", "--uts", "--ipc", "--pid", "--root", "--wd"]
+        return [
+            "nsenter",
+            "--target",
+            str(self.leader),
+            "--mount",
+            "--uts",
+            "--ipc",
+            "--pid",
+            "--root",
+            "--wd",
+        ]
 
     def run(self, words, what):
         """Runs shell words there, and returns what they printed."""

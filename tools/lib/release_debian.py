@@ -25,8 +25,16 @@ SERVICE = (
 
 def changelog(tree):
     """Returns Debian's changelog: what CHANGELOG.md has in bold, by version."""
-    bold = re.findall(r"(?m)^- \*\*(.*?)\*\*", read("CHANGELOG.md").split(f"\n## {tree.number}\n")[1].split("\n## ")[0])
-    lines = [f"bigvasta ({tree.debian}) unstable; urgency=medium", "", *(f"  * {it}." for it in bold), ""]
+    bold = re.findall(
+        r"(?m)^- \*\*(.*?)\*\*",
+        read("CHANGELOG.md").split(f"\n## {tree.number}\n")[1].split("\n## ")[0],
+    )
+    lines = [
+        f"bigvasta ({tree.debian}) unstable; urgency=medium",
+        "",
+        *(f"  * {it}." for it in bold),
+        "",
+    ]
     date = email.utils.formatdate(tree.date)
     return "\n".join([*lines, f" -- {MAINTAINER}  {date}"]) + "\n"
 
@@ -58,7 +66,13 @@ def put_debian(tree, room):
     write(f"{debian}/copyright", copyright_of(tree))
     if not tree.gate:
         paragraphs = [it.rstrip("\n") for it in read("packaging/debian/control").split("\n\n")]
-        write(f"{debian}/control", "\n\n".join([paragraphs[0], *(f"{it}\n{UNPROVED}".rstrip("\n") for it in paragraphs[1:])]) + "\n")
+        write(
+            f"{debian}/control",
+            "\n\n".join(
+                [paragraphs[0], *(f"{it}\n{UNPROVED}".rstrip("\n") for it in paragraphs[1:])]
+            )
+            + "\n",
+        )
 
 
 def make_packages(tree, room, names, out):
@@ -68,7 +82,22 @@ def make_packages(tree, room, names, out):
     put_debian(tree, room)
     settle(os.path.join(room, "stage"), tree.date)
     chosen = " ".join(f"-p{it}" for it in names)
-    environment = {**os.environ, "SOURCE_DATE_EPOCH": str(tree.date), "DH_OPTIONS": chosen, "DEB_BUILD_OPTIONS": "nocheck"}
-    said(["dpkg-buildpackage", "--build=binary", "--unsigned-changes", "--unsigned-buildinfo", "--no-check-builddeps"], cwd=room, env=environment)
+    environment = {
+        **os.environ,
+        "SOURCE_DATE_EPOCH": str(tree.date),
+        "DH_OPTIONS": chosen,
+        "DEB_BUILD_OPTIONS": "nocheck",
+    }
+    said(
+        [
+            "dpkg-buildpackage",
+            "--build=binary",
+            "--unsigned-changes",
+            "--unsigned-buildinfo",
+            "--no-check-builddeps",
+        ],
+        cwd=room,
+        env=environment,
+    )
     found = sorted(glob.glob(f"{os.path.dirname(room)}/*.deb"))
     return [shutil.move(it, out) for it in found]

@@ -22,13 +22,18 @@ DOCUMENTS = ("docs/HOST.md", "docs/CONTROL.md", "docs/LINUX.md", "docs/PLANNING.
 def build_installed(library, room):
     """Builds over a library what an operator runs: the daemons, and the library as the planner loads it; returns their paths. All are without
     symbols."""
-    return make(room, *(f"plain/{it}" for it in DAEMONS), "libvb.so", O=room, VB_LIB=library, LIB="")
+    return make(
+        room, *(f"plain/{it}" for it in DAEMONS), "libvb.so", O=room, VB_LIB=library, LIB=""
+    )
 
 
 def put_pages(tree, names, root):
     """Puts man pages under a root."""
     for page in names:
-        write(f"{root}/share/man/man{page.rsplit('.', 1)[1]}/{page}", tree.filled(read(f"docs/man/{page}")))
+        write(
+            f"{root}/share/man/man{page.rsplit('.', 1)[1]}/{page}",
+            tree.filled(read(f"docs/man/{page}")),
+        )
 
 
 def put_client(root, modules):
@@ -49,11 +54,20 @@ def stage_host(tree, installed, root):
     for source, target in INSTALLED:
         copy(os.path.join(PACKAGING, source), f"{root}/{target}")
     for document in DOCUMENTS:
-        copy(os.path.join(ROOT, document), f"{root}/usr/share/doc/bigvasta-host/{os.path.basename(document)}")
+        copy(
+            os.path.join(ROOT, document),
+            f"{root}/usr/share/doc/bigvasta-host/{os.path.basename(document)}",
+        )
 
 
 def put_service(root):
     """Puts units, the user, the configuration and the rules of alerts under a root, for who has no package."""
     copy_listed("packaging/systemd", f"{root}/systemd")
-    for source, target in (("sysusers.d", "sysusers.d"), ("tmpfiles.d", "tmpfiles.d"), ("etc", "etc"), ("prometheus", "prometheus"), ("qemu", "qemu")):
+    for source, target in (
+        ("sysusers.d", "sysusers.d"),
+        ("tmpfiles.d", "tmpfiles.d"),
+        ("etc", "etc"),
+        ("prometheus", "prometheus"),
+        ("qemu", "qemu"),
+    ):
         copy_listed(f"packaging/{source}", f"{root}/{target}")

@@ -59,8 +59,12 @@ def gate_of(path, names):
     found = re.fullmatch(r"(\d+) passed, 0 failed", line)
     if not found:
         raise Fault(f"{path} doesn't end with what a passed gate says: {line}")
-    crates = {it.split("/")[1] for it in names if re.fullmatch(r"crates/\w+/src/(?:lib|main)\.rt", it)}
+    crates = {
+        it.split("/")[1] for it in names if re.fullmatch(r"crates/\w+/src/(?:lib|main)\.rt", it)
+    }
     edits = [it for it in names if re.fullmatch(r"crates/\w+/must-fail/[^/]+\.edit", it)]
     if int(found[1]) != len(crates) + len(edits):
-        raise Fault(f"{path} is of another tree's gate: {line}, and there are {len(crates)} crates and {len(edits)} edits")
+        raise Fault(
+            f"{path} is of another tree's gate: {line}, and there are {len(crates)} crates and {len(edits)} edits"
+        )
     return line

@@ -36,8 +36,15 @@ def make(commit, words, out):
     """Makes packages in a copy of the tree at a commit, by these words, and returns the paths of what is in a folder then."""
     with tempfile.TemporaryDirectory(prefix="older-") as room:
         tree = f"{room}/tree"
-        if subprocess.run(["git", "cat-file", "-e", f"{commit}^{{commit}}"], cwd=ROOT, capture_output=True).returncode != 0:
-            raise Fault(f"the commit {commit[:8]} isn't there, of which packages of 0.1.0 are made: fetch the whole history")
+        if (
+            subprocess.run(
+                ["git", "cat-file", "-e", f"{commit}^{{commit}}"], cwd=ROOT, capture_output=True
+            ).returncode
+            != 0
+        ):
+            raise Fault(
+                f"the commit {commit[:8]} isn't there, of which packages of 0.1.0 are made: fetch the whole history"
+            )
         said(["git", "clone", "-q", "--shared", "--no-checkout", ROOT, tree])
         said(["git", "-C", tree, "checkout", "-q", commit])
         said(words, cwd=tree)

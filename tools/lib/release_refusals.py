@@ -35,7 +35,18 @@ def add_to(path, text):
 
 def commit(tree):
     """Commits all of a tree."""
-    words = ["git", "-c", "user.name=x", "-c", "user.email=x@y.invalid", "commit", "-q", "-a", "-m", "x"]
+    words = [
+        "git",
+        "-c",
+        "user.name=x",
+        "-c",
+        "user.email=x@y.invalid",
+        "commit",
+        "-q",
+        "-a",
+        "-m",
+        "x",
+    ]
     subprocess.run(words, cwd=tree, check=True, capture_output=True)
 
 
@@ -55,14 +66,40 @@ def change_and_commit(tree):
 
 
 CASES = (
-    Case("another program called vb_sim", lambda tree: shutil.copy(shutil.which("false"), f"{tree}/{PROGRAM}"), "isn't the program that the kit's mark is of"),
-    Case("a program without a mark", lambda tree: os.remove(f"{tree}/{PROGRAM}.stamp"), "has no mark of the kit's"),
+    Case(
+        "another program called vb_sim",
+        lambda tree: shutil.copy(shutil.which("false"), f"{tree}/{PROGRAM}"),
+        "isn't the program that the kit's mark is of",
+    ),
+    Case(
+        "a program without a mark",
+        lambda tree: os.remove(f"{tree}/{PROGRAM}.stamp"),
+        "has no mark of the kit's",
+    ),
     Case("no program", lambda tree: os.remove(f"{tree}/{PROGRAM}"), "isn't there"),
     Case("a program of other sources", change_and_commit, "was proved of other sources"),
-    Case("a source that isn't committed", lambda tree: add_to(f"{tree}/{SOURCE}", "\n"), f"isn't that of a commit, of which a release is made: M {SOURCE}"),
-    Case("a file that isn't of the commit", lambda tree: add_to(f"{tree}/{PROOF}", "\n"), f"isn't that of a commit, of which a release is made: ?? {PROOF}"),
-    Case("a gate that failed", lambda tree: None, "doesn't end with what a passed gate says", "27 passed, 1 failed"),
-    Case("a gate of another tree", lambda tree: None, "is of another tree's gate", "27 passed, 0 failed"),
+    Case(
+        "a source that isn't committed",
+        lambda tree: add_to(f"{tree}/{SOURCE}", "\n"),
+        f"isn't that of a commit, of which a release is made: M {SOURCE}",
+    ),
+    Case(
+        "a file that isn't of the commit",
+        lambda tree: add_to(f"{tree}/{PROOF}", "\n"),
+        f"isn't that of a commit, of which a release is made: ?? {PROOF}",
+    ),
+    Case(
+        "a gate that failed",
+        lambda tree: None,
+        "doesn't end with what a passed gate says",
+        "27 passed, 1 failed",
+    ),
+    Case(
+        "a gate of another tree",
+        lambda tree: None,
+        "is of another tree's gate",
+        "27 passed, 0 failed",
+    ),
     Case("a gate that isn't there", lambda tree: None, "No such file", "-"),
 )
 
@@ -75,7 +112,9 @@ def release(tree, room, gate):
     if gate.endswith("failed"):
         with open(f"{room}/gate", "w", encoding="utf-8") as file:
             file.write(f"{gate}\n")
-    with subprocess.Popen(words, stdout=subprocess.DEVNULL, stderr=subprocess.PIPE, text=True, start_new_session=True) as ran:
+    with subprocess.Popen(
+        words, stdout=subprocess.DEVNULL, stderr=subprocess.PIPE, text=True, start_new_session=True
+    ) as ran:
         try:
             said = ran.communicate(timeout=LIMIT)[1]
         except subprocess.TimeoutExpired:
@@ -90,7 +129,9 @@ def refused(case):
     """Demands that a case is refused in its words, and that nothing is made; without it, the same tree has a program that is taken."""
     with tempfile.TemporaryDirectory(prefix="test-release-") as room:
         tree = f"{room}/tree"
-        subprocess.run(["git", "clone", "-q", "--shared", ROOT, tree], check=True, capture_output=True)
+        subprocess.run(
+            ["git", "clone", "-q", "--shared", ROOT, tree], check=True, capture_output=True
+        )
         put_program(tree)
         if release_marks.simulator(tree) != f"{tree}/{PROGRAM}":
             raise Fault(f"{case.what}: a program whose mark fits isn't taken")

@@ -27,12 +27,30 @@ sed 1d /tmp/example | diff - /tmp/printed && test -s /tmp/printed
 # Of the library and the simulator.
 STEPS = (
     ("example.c by gcc", f"gcc -std=c11 -O2 {WARNINGS} {EXAMPLE} -o /tmp/c {LINKED} && /tmp/c"),
-    ("example.c by clang", f"clang -std=c11 -O2 {WARNINGS} {EXAMPLE} -o /tmp/clang {LINKED} && /tmp/clang"),
-    ("example.c by g++", f"g++ -std=c++17 -O2 {WARNINGS} -x c++ {EXAMPLE} -x none -o /tmp/cpp {LINKED} && /tmp/cpp"),
-    ("the headers as C11 by gcc", f"{HEADER} | gcc -std=c11 {WARNINGS} {FLAGS} -x c -c - -o /tmp/h"),
-    ("the headers as C11 by clang", f"{HEADER} | clang -std=c11 {WARNINGS} {FLAGS} -x c -c - -o /tmp/h"),
-    ("the headers as C++17 by g++", f"{HEADER} | g++ -std=c++17 {WARNINGS} {FLAGS} -x c++ -c - -o /tmp/h"),
-    ("the headers as C++17 by clang", f"{HEADER} | clang++ -std=c++17 {WARNINGS} {FLAGS} -x c++ -c - -o /tmp/h"),
+    (
+        "example.c by clang",
+        f"clang -std=c11 -O2 {WARNINGS} {EXAMPLE} -o /tmp/clang {LINKED} && /tmp/clang",
+    ),
+    (
+        "example.c by g++",
+        f"g++ -std=c++17 -O2 {WARNINGS} -x c++ {EXAMPLE} -x none -o /tmp/cpp {LINKED} && /tmp/cpp",
+    ),
+    (
+        "the headers as C11 by gcc",
+        f"{HEADER} | gcc -std=c11 {WARNINGS} {FLAGS} -x c -c - -o /tmp/h",
+    ),
+    (
+        "the headers as C11 by clang",
+        f"{HEADER} | clang -std=c11 {WARNINGS} {FLAGS} -x c -c - -o /tmp/h",
+    ),
+    (
+        "the headers as C++17 by g++",
+        f"{HEADER} | g++ -std=c++17 {WARNINGS} {FLAGS} -x c++ -c - -o /tmp/h",
+    ),
+    (
+        "the headers as C++17 by clang",
+        f"{HEADER} | clang++ -std=c++17 {WARNINGS} {FLAGS} -x c++ -c - -o /tmp/h",
+    ),
     (
         "the Rust crate, offline",
         "rm -rf /tmp/rust && cp -r /usr/share/cargo/registry/vb-balloon-* /tmp/rust && cd /tmp/rust"
@@ -40,7 +58,10 @@ STEPS = (
     ),
     ("the conformance scripts", "python3 /usr/share/doc/bigvasta/conformance/conform vb_sim"),
     ("the example of vb_sim's page", EXAMPLE_OF_PAGE),
-    ("the man pages", "test -s /usr/share/man/man1/vb_sim.1.gz && test -s /usr/share/man/man3/vb.3.gz"),
+    (
+        "the man pages",
+        "test -s /usr/share/man/man1/vb_sim.1.gz && test -s /usr/share/man/man3/vb.3.gz",
+    ),
 )
 
 # A host as a service. Who is in bigvasta-status sees it and changes nothing; a VMM, which is in bigvasta, can't open the control socket.
@@ -85,7 +106,10 @@ cd / && rm -rf /tmp/plan
 # Of the daemons and the client program.
 HOST_STEPS = (
     ("the planner's example", PLAN),
-    ("the programs say how they are called", "vhost_user_balloon 2>&1 | grep -q SOCKET; vhost_user_host 2>&1 | grep -q FOLDER; bigvasta --help | grep -q watch"),
+    (
+        "the programs say how they are called",
+        "vhost_user_balloon 2>&1 | grep -q SOCKET; vhost_user_host 2>&1 | grep -q FOLDER; bigvasta --help | grep -q watch",
+    ),
     ("the user and the group", "getent passwd bigvasta && getent group bigvasta"),
     (
         "the backend's kind, and its description",
@@ -95,15 +119,26 @@ HOST_STEPS = (
     ("the units", "systemd-analyze verify --man=no bigvasta-host.service bigvasta-metrics.service"),
     ("a host by its configuration, and the client program", RUN_HOST),
     ("no host", "bigvasta status || test $? = 3"),
-    ("the completion", "bash -c '. /usr/share/bash-completion/completions/bigvasta && complete -p bigvasta'"),
-    ("the host's man pages", "for each in bigvasta.1 vhost_user_host.1 vhost_user_balloon.1 bigvasta-host.conf.5; do man -w ${each%.*} && test -s /usr/share/man/man${each##*.}/$each.gz; done"),
+    (
+        "the completion",
+        "bash -c '. /usr/share/bash-completion/completions/bigvasta && complete -p bigvasta'",
+    ),
+    (
+        "the host's man pages",
+        "for each in bigvasta.1 vhost_user_host.1 vhost_user_balloon.1 bigvasta-host.conf.5; do man -w ${each%.*} && test -s /usr/share/man/man${each##*.}/$each.gz; done",
+    ),
 )
 
 # What stays of README's commands where the one at a keyboard isn't there, or QEMU is too old: by how a command begins, what is done in its place.
 QEMU = "qemu-system-x86_64"
 INSTEAD = (
-    ("bigvasta watch", "sleep 2 && (sleep 3; printf q) | timeout 20 script -qec 'bigvasta watch' /dev/null > /tmp/watch && grep -q 'budget 6144' /tmp/watch"),
-    (QEMU, """
+    (
+        "bigvasta watch",
+        "sleep 2 && (sleep 3; printf q) | timeout 20 script -qec 'bigvasta watch' /dev/null > /tmp/watch && grep -q 'budget 6144' /tmp/watch",
+    ),
+    (
+        QEMU,
+        """
 if {has_device}; then
     ({command} -display none -serial none -monitor none > /tmp/qemu.log 2>&1 & echo $! > /tmp/qemu.pid)
     trap 'kill $(cat /tmp/qemu.pid) 2> /dev/null || true' EXIT
@@ -116,7 +151,8 @@ if {has_device}; then
 else
     test -S $(echo '{command}' | sed -n 's/.*socket,id=balloon,path=\\([^ ,]*\\).*/\\1/p')
 fi
-"""),
+""",
+    ),
 )
 
 # Where a Debian sees a newer one, and the program there that runs its QEMU, with the sockets and devices of this one.
@@ -149,12 +185,20 @@ systemctl disable --now bigvasta-host bigvasta-metrics
 
 def readme_step():
     """Returns the step that runs README's commands for a host, as they are there."""
-    found = [it for it in re.findall(r"(?s)```sh\n(.*?)```", read("README.md")) if "bigvasta add" in it]
+    found = [
+        it for it in re.findall(r"(?s)```sh\n(.*?)```", read("README.md")) if "bigvasta add" in it
+    ]
     if len(found) != 1:
-        raise Fault(f"README.md has {len(found)} blocks of commands with `bigvasta add`, and one is wanted")
+        raise Fault(
+            f"README.md has {len(found)} blocks of commands with `bigvasta add`, and one is wanted"
+        )
     script = [SUDO]
     for command in found[0].replace("\\\n", " ").splitlines():
         bare = command.removeprefix("sudo ").removesuffix(" ..")
         instead = [text for begin, text in INSTEAD if bare.startswith(begin)]
-        script.append(instead[0].replace("{command}", bare).replace("{has_device}", HAS_DEVICE) if instead else command)
+        script.append(
+            instead[0].replace("{command}", bare).replace("{has_device}", HAS_DEVICE)
+            if instead
+            else command
+        )
     return "README's commands for a host", "\n".join([*script, AFTER])

@@ -70,7 +70,9 @@ class Tree:
     def __init__(self, gate):
         changed = said(["git", "status", "--porcelain"], cwd=ROOT).splitlines()
         if changed:
-            raise Fault(f"the tree isn't that of a commit, of which a release is made: {changed[0].strip()}")
+            raise Fault(
+                f"the tree isn't that of a commit, of which a release is made: {changed[0].strip()}"
+            )
         self.number = read("VERSION").strip()
         self.commit = said(["git", "rev-parse", "HEAD"], cwd=ROOT).strip()
         self.date = int(said(["git", "log", "-1", "--format=%ct"], cwd=ROOT))
@@ -94,7 +96,9 @@ def contracts():
         for path in listed(f"crates/{crate}/src"):
             if path.endswith(".rt") and not path.startswith("tests"):
                 text = read(f"crates/{crate}/src/{path}")
-                names += re.findall(r"(?m)^ *pub (?:extern \"C\" )?fn (\w+)[^{]*?\n\s+ensures", text)
+                names += re.findall(
+                    r"(?m)^ *pub (?:extern \"C\" )?fn (\w+)[^{]*?\n\s+ensures", text
+                )
         found.append(f"  {crate}: {', '.join(sorted(set(names))) or 'tests alone'}")
     return found
 

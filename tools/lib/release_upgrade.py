@@ -85,8 +85,10 @@ rm -f /root/guest.py /root/show.py /root/before /root/after /root/why /root/host
 """
 
 STEPS = (
-    ("packages of 0.1.0", OLD_DAEMONS), ("their upgrade: the daemons have moved", NEW_DAEMONS),
+    ("packages of 0.1.0", OLD_DAEMONS),
+    ("their upgrade: the daemons have moved", NEW_DAEMONS),
     ("all of them are purged", "dpkg --purge libvb-dev bigvasta bigvasta-host"),
-    ("a service of 0.1.0 with a guest at work", OLD_SERVICE), ("its upgrade: the configuration and the guest stay", NEW_SERVICE),
+    ("a service of 0.1.0 with a guest at work", OLD_SERVICE),
+    ("its upgrade: the configuration and the guest stay", NEW_SERVICE),
     ("its end: nothing is left", END_SERVICE),
 )

@@ -21,4 +21,8 @@ def load(tool):
 def edits_in(crate):
     """Returns the names of the crate's edits, in the order in which they are tried."""
     folder = f"crates/{crate}/must-fail"
-    return sorted(it for it in os.listdir(folder) if it.endswith(".edit")) if os.path.isdir(folder) else []
+    return (
+        sorted(it for it in os.listdir(folder) if it.endswith(".edit"))
+        if os.path.isdir(folder)
+        else []
+    )

@@ -23,7 +23,10 @@ PLACES_DRAWN = {
 COUNTS_DRAWN = {
     "ballooned": ("the device: ballooned", {"color": "black", "linewidth": 2.6}),
     "actual": ("the driver: actual", {"color": "#ffaa00", "linewidth": 1.3}),
-    "target": ("the host: target", {"color": "#cc0022", "linewidth": 1.3, "linestyle": (0, (3, 2))}),
+    "target": (
+        "the host: target",
+        {"color": "#cc0022", "linewidth": 1.3, "linestyle": (0, (3, 2))},
+    ),
 }
 
 # What the legend says of each kind of mark, its shape and its colour.
@@ -57,7 +60,9 @@ def load_library():
 
 def held(points, numbers_at):
     """Returns each run of points that have numbers: the events at which they change, its end, and the numbers there."""
-    changes = [(next(same).event, numbers) for numbers, same in itertools.groupby(points, numbers_at)]
+    changes = [
+        (next(same).event, numbers) for numbers, same in itertools.groupby(points, numbers_at)
+    ]
     ends = [*(event for event, _ in changes[1:]), points[-1].event + 1]
     runs = []
     for has_numbers, run in itertools.groupby(zip(changes, ends), lambda it: it[0][1] is not None):
@@ -70,10 +75,14 @@ def held(points, numbers_at):
 
 def draw_areas(axes, events, numbers, colours):
     """Draws numbers as areas, one on the other; one that is 0 throughout is left out."""
-    drawn = {name: [it[name] for it in numbers] for name in colours if any(it[name] for it in numbers)}
+    drawn = {
+        name: [it[name] for it in numbers] for name in colours if any(it[name] for it in numbers)
+    }
     if drawn:
         shades = [colours[name] for name in drawn]
-        axes.stackplot(events, *drawn.values(), colors=shades, step="post", linewidth=0, antialiased=False)
+        axes.stackplot(
+            events, *drawn.values(), colors=shades, step="post", linewidth=0, antialiased=False
+        )
 
 
 def draw_host(axes, points):
@@ -91,7 +100,14 @@ def draw_guest(axes, guest, points, most_pages):
             axes.plot(events, [it[name] for it in numbers], drawstyle="steps-post", **style)
     highest = max((it.guests[guest]["target"] for it in points if guest in it.guests), default=0)
     if highest > most_pages:
-        axes.text(0.995, 0.97, f"target up to {highest}, above this scale", transform=axes.transAxes, ha="right", va="top")
+        axes.text(
+            0.995,
+            0.97,
+            f"target up to {highest}, above this scale",
+            transform=axes.transAxes,
+            ha="right",
+            va="top",
+        )
     axes.set(ylabel=f"guest {guest}\npages", ylim=(0, max(1, most_pages) * 1.04))
 
 
@@ -102,19 +118,37 @@ def draw_marks(library, axes, marks):
     for kind, (_, shape, colour) in MARKS_DRAWN.items():
         events = [it.event for it in marks if kind_of(it) == kind]
         axes.vlines(events, 0, 1, color=colour, linewidth=0.6, transform=down)
-        axes.plot(events, [1] * len(events), shape, color=colour, markersize=4.5, transform=above, clip_on=False)
+        axes.plot(
+            events,
+            [1] * len(events),
+            shape,
+            color=colour,
+            markersize=4.5,
+            transform=above,
+            clip_on=False,
+        )
     beside = library.transforms.offset_copy(above, axes.figure, y=5, units="points")
     for mark in marks:
         if kind_of(mark) == "broken":
-            axes.text(mark.event, 1, mark.text.split(" ")[1], transform=beside, ha="center", fontsize=7)
+            axes.text(
+                mark.event, 1, mark.text.split(" ")[1], transform=beside, ha="center", fontsize=7
+            )
 
 
 def explain(library, axes, groups):
     """Puts a legend beside a panel: a heading for each group, and below it how each of its parts is drawn."""
     handles = []
     for heading, parts in groups.items():
-        handles.extend([library.lines.Line2D([], [], linestyle="none", label=heading), *parts] if parts else [])
-    legend = axes.legend(handles=handles, loc="upper left", bbox_to_anchor=(1.01, 1.05), borderaxespad=0, frameon=False)
+        handles.extend(
+            [library.lines.Line2D([], [], linestyle="none", label=heading), *parts] if parts else []
+        )
+    legend = axes.legend(
+        handles=handles,
+        loc="upper left",
+        bbox_to_anchor=(1.01, 1.05),
+        borderaxespad=0,
+        frameon=False,
+    )
     for text in legend.get_texts():
         text.set_weight("bold" if text.get_text() in groups else "normal")
 
@@ -122,11 +156,23 @@ def explain(library, axes, groups):
 def guests_legend(library, points, marks):
     """Returns the legend of the guests' panels: the places and marks that there are in this run, and the counts."""
     area, line = library.patches.Patch, library.lines.Line2D
-    there = {place for it in points for numbers in it.guests.values() for place in PLACES if numbers[place]}
+    there = {
+        place
+        for it in points
+        for numbers in it.guests.values()
+        for place in PLACES
+        if numbers[place]
+    }
     kinds = {kind_of(it) for it in marks}
     return {
-        "pages at each place": [area(color=it, label=name) for name, it in reversed(PLACES_DRAWN.items()) if name in there],
-        "pages as counted by": [line([], [], label=label, **style) for label, style in COUNTS_DRAWN.values()],
+        "pages at each place": [
+            area(color=it, label=name)
+            for name, it in reversed(PLACES_DRAWN.items())
+            if name in there
+        ],
+        "pages as counted by": [
+            line([], [], label=label, **style) for label, style in COUNTS_DRAWN.values()
+        ],
         "events": [
             line([], [], linestyle="none", marker=shape, color=colour, markersize=4.5, label=label)
             for kind, (label, shape, colour) in MARKS_DRAWN.items()
@@ -149,17 +195,31 @@ def panels(library, count):
 def draw(library, path, title, points, marks):
     """Draws the picture, and saves it as what its name says."""
     guests = sorted({it for point in points for it in point.guests} | {it.guest for it in marks})
-    most_pages = max((sum(it[name] for name in PLACES) for point in points for it in point.guests.values()), default=1)
+    most_pages = max(
+        (sum(it[name] for name in PLACES) for point in points for it in point.guests.values()),
+        default=1,
+    )
     figure, (host, *below) = panels(library, len(guests))
     figure.suptitle(title, x=0.07, y=1 - 0.1 / figure.get_figheight(), va="top", ha="left")
     draw_host(host, points)
-    explain(library, host, {"frames": [library.patches.Patch(color=it, label=name) for name, it in reversed(HOST.items())]})
+    explain(
+        library,
+        host,
+        {
+            "frames": [
+                library.patches.Patch(color=it, label=name) for name, it in reversed(HOST.items())
+            ]
+        },
+    )
     for guest, axes in zip(guests, below):
         draw_guest(axes, guest, points, most_pages)
         draw_marks(library, axes, [it for it in marks if it.guest == guest])
     if guests:
         explain(library, below[0], guests_legend(library, points, marks))
     bottom, every = [host, *below][-1], points[0].event
-    bottom.set(xlabel="event" if every == 1 else f"event (asked about after every {every})", xlim=(0, points[-1].event + 1))
+    bottom.set(
+        xlabel="event" if every == 1 else f"event (asked about after every {every})",
+        xlim=(0, points[-1].event + 1),
+    )
     bottom.xaxis.set_major_locator(library.ticker.MaxNLocator(integer=True))
     figure.savefig(path, dpi=120, metadata={"Date": None} if path.endswith(".svg") else None)

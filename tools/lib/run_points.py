@@ -63,7 +63,9 @@ def run(program, text):
     if ran.returncode < 0:
         raise Fault(f"{program} was ended by signal {-ran.returncode}")
     if ran.returncode != 0:
-        raise Fault(": ".join([f"{program} ended with status {ran.returncode}", *filter(None, [last])]))
+        raise Fault(
+            ": ".join([f"{program} ended with status {ran.returncode}", *filter(None, [last])])
+        )
     return ran.stdout.decode("latin-1").split("\n")[:-1], said
 
 
@@ -142,7 +144,9 @@ def points_of(answered, replies, asked, behind):
     points, place, asked = [], 0, set(asked)
     for number, (reply, guests) in enumerate(zip(replies, behind), 1):
         if answered[place] != reply:
-            raise Fault(f"event {number} is answered {reply!r}, but {answered[place]!r} with questions put in")
+            raise Fault(
+                f"event {number} is answered {reply!r}, but {answered[place]!r} with questions put in"
+            )
         place += 1
         if number in asked:
             behind_it = place + len(questions(guests))

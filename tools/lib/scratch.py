@@ -17,7 +17,9 @@ def needed_lines(libraries):
     while wanted:
         name = wanted.pop()
         found[name] = names[name]
-        wanted += [it for it in names[name].split(":")[1].split() if it in names and it not in found]
+        wanted += [
+            it for it in names[name].split(":")[1].split() if it in names and it not in found
+        ]
     return list(found), list(found.values())
 
 
@@ -28,14 +30,19 @@ def build(folder, name, source, libraries, numbers):
     os.makedirs(os.path.join(crate, "src"))
     for it in names:
         # With what is kept of its proof, and with its time stamps.
-        subprocess.run(["cp", "-a", os.path.join(ROOT, "crates", it), os.path.join(folder, "crates")], check=True)
+        subprocess.run(
+            ["cp", "-a", os.path.join(ROOT, "crates", it), os.path.join(folder, "crates")],
+            check=True,
+        )
     shutil.copy(os.path.join(ROOT, "HANDLES"), folder)
     with open(os.path.join(folder, "crates.txt"), "w", encoding="utf-8") as listed:
         listed.write("\n".join([*lines, f"{name}: {' '.join(libraries)}"]) + "\n")
     with open(os.path.join(crate, "src", "main.rt"), "w", encoding="utf-8") as main:
         main.write(source)
     # The program reads its numbers from a line.
-    subprocess.run(["rt", "run"], cwd=crate, input=line_of(numbers), check=True, stdout=subprocess.DEVNULL)
+    subprocess.run(
+        ["rt", "run"], cwd=crate, input=line_of(numbers), check=True, stdout=subprocess.DEVNULL
+    )
     return os.path.join(crate, "out", name)
 
 

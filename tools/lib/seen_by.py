@@ -27,16 +27,35 @@ def read(path):
 @functools.cache
 def parts():
     """Returns the parts of each daemon, by the words of monitor's Makefile."""
-    words = ["make", "-s", "-C", MONITOR, "--eval", "parts: ; @$(foreach it,$(DAEMONS),echo $(it) $(PARTS_$(it));)", "parts"]
+    words = [
+        "make",
+        "-s",
+        "-C",
+        MONITOR,
+        "--eval",
+        "parts: ; @$(foreach it,$(DAEMONS),echo $(it) $(PARTS_$(it));)",
+        "parts",
+    ]
     lines = subprocess.run(words, capture_output=True, text=True, check=True).stdout.splitlines()
     return {name: [f"{BACKENDS}{it}.c" for it in its] for name, *its in map(str.split, lines)}
 
 
 def shipped():
     """Returns the files that are shipped, by their names from the top: parts of daemons, the headers, the modules of the client program."""
-    patterns = (f"{MONITOR}/backends/**/*.h", f"{MONITOR}/include/balloon*.h", f"{ROOT}/client/bigvasta/**/*.py")
-    others = {os.path.relpath(it, ROOT) for pattern in patterns for it in glob.glob(pattern, recursive=True)}
-    return sorted({it for its in parts().values() for it in its} | {it for it in others if not it.endswith(".h") or sources_of(it)})
+    patterns = (
+        f"{MONITOR}/backends/**/*.h",
+        f"{MONITOR}/include/balloon*.h",
+        f"{ROOT}/client/bigvasta/**/*.py",
+    )
+    others = {
+        os.path.relpath(it, ROOT)
+        for pattern in patterns
+        for it in glob.glob(pattern, recursive=True)
+    }
+    return sorted(
+        {it for its in parts().values() for it in its}
+        | {it for it in others if not it.endswith(".h") or sources_of(it)}
+    )
 
 
 @functools.cache
@@ -66,13 +85,19 @@ def programs_of(path):
 @functools.cache
 def tests_of(suite):
     """Returns the files of a suite with tests, and their texts."""
-    return {os.path.relpath(it, ROOT): read(it) for it in sorted(glob.glob(f"{ROOT}/{SUITES[suite].words[0]}/test_*.py"))}
+    return {
+        os.path.relpath(it, ROOT): read(it)
+        for it in sorted(glob.glob(f"{ROOT}/{SUITES[suite].words[0]}/test_*.py"))
+    }
 
 
 @functools.cache
 def built_by(suite):
     """Returns the daemons that a suite builds: of its conftest.py's PROGRAMS, and with a host's that of its guests' processes."""
-    found = set(re.findall(r'"[\w-]+/(\w+)"', read(f"{SUITES[suite].words[0]}/conftest.py"))) & parts().keys()
+    found = (
+        set(re.findall(r'"[\w-]+/(\w+)"', read(f"{SUITES[suite].words[0]}/conftest.py")))
+        & parts().keys()
+    )
     return found | ({"vhost_user_balloon"} if "vhost_user_host" in found else set())
 
 
@@ -80,12 +105,17 @@ def mentions(text, path):
     """Returns how often a test speaks of a file: by its name, and ten times as much where it imports it."""
     stem = os.path.splitext(os.path.basename(path))[0]
     names = path.removeprefix(CLIENT).removesuffix(".py").split("/")
-    imports = rf"(?m)^from {'.'.join(names)} import|^from {'.'.join(names[:-1])} import .*\b{names[-1]}\b"
-    return len(re.findall(rf"\b{stem}\b", text)) + (10 * len(re.findall(imports, text)) if path.startswith(CLIENT) else 0)
+    imports = (
+        rf"(?m)^from {'.'.join(names)} import|^from {'.'.join(names[:-1])} import .*\b{names[-1]}\b"
+    )
+    return len(re.findall(rf"\b{stem}\b", text)) + (
+        10 * len(re.findall(imports, text)) if path.startswith(CLIENT) else 0
+    )
 
 
 def suites_of(path):
     """Returns the suites that see a file, the narrowest first: that of its folder, then those that build the least, and those that speak most of it."""
+
     def spoken(suite):
         return sum(mentions(text, path) for text in tests_of(suite).values())
 
@@ -94,7 +124,14 @@ def suites_of(path):
         return sorted(PLANNED, key=lambda it: -spoken(it)) if is_planner else ["control", "plan"]
     programs, folder = programs_of(path), os.path.basename(os.path.dirname(path))
     found = [it for it in ASKED if programs & built_by(it)]
-    return sorted(found, key=lambda it: (it != folder, sum(len(parts()[each]) for each in built_by(it)), -spoken(it)))
+    return sorted(
+        found,
+        key=lambda it: (
+            it != folder,
+            sum(len(parts()[each]) for each in built_by(it)),
+            -spoken(it),
+        ),
+    )
 
 
 def commands_of(path):
@@ -103,5 +140,15 @@ def commands_of(path):
     for suite in suites_of(path):
         files = sorted(tests_of(suite), key=lambda it: -mentions(tests_of(suite)[it], path))
         at_once = ("-n", "2") if "-n" in SUITES[suite].words else ()
-        commands.append((sys.executable, "-m", "pytest", "-x", "-q", *at_once, *(it for it in files if not it.endswith("test_runs.py"))))
+        commands.append(
+            (
+                sys.executable,
+                "-m",
+                "pytest",
+                "-x",
+                "-q",
+                *at_once,
+                *(it for it in files if not it.endswith("test_runs.py")),
+            )
+        )
     return commands

@@ -21,7 +21,10 @@ def in_scope(case, path, text):
         return case.pattern, ""
     if "◌" in case.name:
         return case.pattern, f"use {case.home}.{{{case.name}}}\n"
-    return re.sub(rf"\b{case.name}\b", "Planted", case.pattern, count=1), f"use {case.home}.{{{case.name} as Planted}}\n"
+    return (
+        re.sub(rf"\b{case.name}\b", "Planted", case.pattern, count=1),
+        f"use {case.home}.{{{case.name} as Planted}}\n",
+    )
 
 
 def stronger_texts(text, names, cases):
@@ -29,7 +32,9 @@ def stronger_texts(text, names, cases):
     found = [(NEVER_HOLDS, NEVER, None)]
     for name, kind in names:
         said = SAID.format(name=name, text=text)
-        found += [(f"not where {name} is {it.pattern}", said, (kind, it)) for it in cases_of(kind, cases)]
+        found += [
+            (f"not where {name} is {it.pattern}", said, (kind, it)) for it in cases_of(kind, cases)
+        ]
     return found
 
 
@@ -44,31 +49,51 @@ def stronger_forms(path, lines, place, front, text, names, cases):
             pattern, imported = in_scope(case, path, "\n".join(lines))
             new[begin:begin] = HELPER.format(kind=kind, pattern=pattern).split("\n")
             new[0] = imported + new[0]
-        found.append(Planted(path, name, "", f"`{front.strip(' =:')}`: {what}", lines, first, "\n".join(new)))
+        found.append(
+            Planted(path, name, "", f"`{front.strip(' =:')}`: {what}", lines, first, "\n".join(new))
+        )
     return found
 
 
 def stronger_clause(path, lines, item, signature, cases):
     """Returns a clause's stronger forms; its signature has the line where it begins, and the type."""
     whole = joined(without_comments(lines[slice(*item)]))
-    front, text = (it.strip() for it in (whole[: at_top(whole, "=")[0]], whole[at_top(whole, "=")[0] + 1 :]))
+    front, text = (
+        it.strip() for it in (whole[: at_top(whole, "=")[0]], whole[at_top(whole, "=")[0] + 1 :])
+    )
     if text == NEVER:
         return []
     name, *patterns = split(front, " ")
-    names = [it for pattern, kind in zip(patterns, arguments(signature[1])) for it in typed_names(pattern, kind, cases)]
-    return stronger_forms(path, lines, (name, signature[0], *item), f"{front} =", text, names, cases)
+    names = [
+        it
+        for pattern, kind in zip(patterns, arguments(signature[1]))
+        for it in typed_names(pattern, kind, cases)
+    ]
+    return stronger_forms(
+        path, lines, (name, signature[0], *item), f"{front} =", text, names, cases
+    )
 
 
 def stronger_record(path, lines, item, relations, cases):
     """Returns a record's stronger forms: its first field that is a statement is stronger."""
     start, end = item
-    name, header = re.match(r"(?:pub )?record (\S+) (.*?) : Type", joined(lines[start:end])).groups()
+    name, header = re.match(
+        r"(?:pub )?record (\S+) (.*?) : Type", joined(lines[start:end])
+    ).groups()
     fields = [n for n in range(start + 1, end) if FIELD.fullmatch(lines[n])]
     for first, last in zip(fields, [*fields[1:], end]):
         margin, public, field, begin = FIELD.fullmatch(lines[first]).groups()
         text = joined([begin, *without_comments(lines[first + 1 : last])])
         if is_statement(text, relations):
-            return stronger_forms(path, lines, (name, start, first, last), f"{margin}{public or ''}{field} :", text, binders(header), cases)
+            return stronger_forms(
+                path,
+                lines,
+                (name, start, first, last),
+                f"{margin}{public or ''}{field} :",
+                text,
+                binders(header),
+                cases,
+            )
     return []
 
 

@@ -21,32 +21,50 @@ class Suite(NamedTuple):
 
 
 SUITES = {
-    "vhost-user": Suite("the backend of one guest, by a client that isn't Linux and isn't always correct", ("monitor/tests/vhost_user", *AT_ONCE)),
-    "pci-proxy": Suite("the backend on PCI, by a client in the place of QEMU", ("monitor/tests/pci_proxy", *AT_ONCE)),
+    "vhost-user": Suite(
+        "the backend of one guest, by a client that isn't Linux and isn't always correct",
+        ("monitor/tests/vhost_user", *AT_ONCE),
+    ),
+    "pci-proxy": Suite(
+        "the backend on PCI, by a client in the place of QEMU",
+        ("monitor/tests/pci_proxy", *AT_ONCE),
+    ),
     "control": Suite(
-        "a host that an operator runs: its control socket, configuration and service, and the client program", ("monitor/tests/control", "-q"),
+        "a host that an operator runs: its control socket, configuration and service, and the client program",
+        ("monitor/tests/control", "-q"),
         more="tmux prometheus python3-prometheus-client man-db systemd",
     ),
     "host": Suite(
         "the host with a process for each guest, by clients that aren't Linux",
-        ("monitor/tests/host", "--ignore=monitor/tests/host/test_runs.py", *AT_ONCE), "python3-pandas", "python3-fusepy",
+        ("monitor/tests/host", "--ignore=monitor/tests/host/test_runs.py", *AT_ONCE),
+        "python3-pandas",
+        "python3-fusepy",
     ),
     "fuzz": Suite(
-        "coverage-guided fuzzing of both programs of a host; `--seconds N` (600), `--keep`", ("monitor/tests/fuzz", "-v", "-rP"),
+        "coverage-guided fuzzing of both programs of a host; `--seconds N` (600), `--keep`",
+        ("monitor/tests/fuzz", "-v", "-rP"),
         "clang libclang-rt-14-dev llvm",
     ),
-    "host-runs": Suite("its runs with Linux guests at work, and with clients; `--times K`; `-k shift` for some", ("monitor/tests/host/test_runs.py", "-v", "-rP")),
+    "host-runs": Suite(
+        "its runs with Linux guests at work, and with clients; `--times K`; `-k shift` for some",
+        ("monitor/tests/host/test_runs.py", "-v", "-rP"),
+    ),
     "plan": Suite(
-        "the planner of the client program, `bigvasta plan`, over days worked out by hand and random ones", ("monitor/tests/plan", *AT_ONCE),
-        "python3-pandas python3-hypothesis", "python3-matplotlib",
+        "the planner of the client program, `bigvasta plan`, over days worked out by hand and random ones",
+        ("monitor/tests/plan", *AT_ONCE),
+        "python3-pandas python3-hypothesis",
+        "python3-matplotlib",
     ),
     "fleet": Suite(
         "its fleets: placement, processes, and a Dask scheduler with workers in network namespaces, one of them killed (as root)",
-        ("monitor/tests/fleet", "-q"), "python3-pandas", "python3-distributed iproute2",
+        ("monitor/tests/fleet", "-q"),
+        "python3-pandas",
+        "python3-distributed iproute2",
     ),
     "machine": Suite(
         "limits by cgroups of the second version, and the installed service under systemd, in a Debian 13 that QEMU boots (the first time as root)",
-        ("monitor/tests/machine", "-v", "-rP"), "dpkg-dev debhelper dh-python git mmdebstrap e2fsprogs",
+        ("monitor/tests/machine", "-v", "-rP"),
+        "dpkg-dev debhelper dh-python git mmdebstrap e2fsprogs",
     ),
     "linux": Suite(
         "Debian's own Linux and driver on both, under User Mode Linux; `--vmm qemu`: under QEMU; `--help` names its words",
@@ -54,19 +72,26 @@ SUITES = {
     ),
     "rust-vmm": Suite(
         "the backend of one guest, by the frontend of rust-vmm's crate `vhost`, and the example on `vhost-user-backend`: Debian 13's crates, which "
-        "are fetched where they aren't installed", ("monitor/tests/rust_vmm", "-q"), "cargo",
+        "are fetched where they aren't installed",
+        ("monitor/tests/rust_vmm", "-q"),
+        "cargo",
     ),
     "linux-kit": Suite(
-        "what the tools that boot a Linux say where something is missing", ("monitor/tests/linux/test_kit.py", "monitor/tests/linux/test_machine_kit.py", "-q"),
+        "what the tools that boot a Linux say where something is missing",
+        ("monitor/tests/linux/test_kit.py", "monitor/tests/linux/test_machine_kit.py", "-q"),
         over_library=False,
     ),
     "tools": Suite(
-        "the tools that judge, each over a planted fault", ("tools/tests", "--ignore=tools/tests/test_draw_run.py", *AT_ONCE),
-        "git clang libc6-dev-arm64-cross cargo librust-vm-memory-dev", over_library=False,
+        "the tools that judge, each over a planted fault",
+        ("tools/tests", "--ignore=tools/tests/test_draw_run.py", *AT_ONCE),
+        "git clang libc6-dev-arm64-cross cargo librust-vm-memory-dev",
+        over_library=False,
     ),
     "draw-run": Suite(
         "the numbers of tools/draw-run beside numbers worked out by hand: ./vb_sim answers, or the program that VB_SIM names",
-        ("tools/tests/test_draw_run.py", *AT_ONCE), more="python3-matplotlib", over_library=False,
+        ("tools/tests/test_draw_run.py", *AT_ONCE),
+        more="python3-matplotlib",
+        over_library=False,
     ),
 }
 
@@ -74,4 +99,9 @@ SUITES = {
 def packages_of(name, all_of_it=False):
     """Returns the packages that a suite wants; those of the tests that are skipped without them, too."""
     suite = SUITES[name]
-    return [*PYTEST.split(), *DAEMONS.split(), *suite.packages.split(), *(suite.more.split() if all_of_it else ())]
+    return [
+        *PYTEST.split(),
+        *DAEMONS.split(),
+        *suite.packages.split(),
+        *(suite.more.split() if all_of_it else ()),
+    ]

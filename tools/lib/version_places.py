@@ -19,5 +19,7 @@ PLACES = (
 def placed(text, begin, form, version):
     """Returns a file's text with this version in its place, or none where it has no place."""
     number = int.from_bytes(bytes(map(int, version.split("."))), "big")
-    found, count = re.subn(rf'(?m)^({re.escape(begin)})[\w."]+', lambda it: it[1] + form.format(version, number), text)
+    found, count = re.subn(
+        rf'(?m)^({re.escape(begin)})[\w."]+', lambda it: it[1] + form.format(version, number), text
+    )
     return found if count == 1 else None

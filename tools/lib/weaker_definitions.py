@@ -36,7 +36,9 @@ def weaker_texts(text):
             if BINDER.match(part):
                 continue
             others = [NOTHING if k == number else it for k, it in enumerate(all_parts)]
-            texts.append((f"part {number + 1} says nothing", f"{front} {' × '.join(others)}".strip()))
+            texts.append(
+                (f"part {number + 1} says nothing", f"{front} {' × '.join(others)}".strip())
+            )
     return texts
 
 
@@ -64,7 +66,11 @@ def relations_of(paths):
 def weaker_fields(path, lines, start, end, relations):
     """Returns a record's weaker forms."""
     name = DECLARES.match(lines[start])[2]
-    fields = [n for n in range(start + 1, end) if FIELD.fullmatch(lines[n]) and lines[n].lstrip().startswith("pub ")]
+    fields = [
+        n
+        for n in range(start + 1, end)
+        if FIELD.fullmatch(lines[n]) and lines[n].lstrip().startswith("pub ")
+    ]
     found = []
     for first, last in zip(fields, [*fields[1:], end]):
         margin, public, field, begin = FIELD.fullmatch(lines[first]).groups()
@@ -73,7 +79,17 @@ def weaker_fields(path, lines, start, end, relations):
         if is_statement(text, relations):
             for what, weaker in weaker_texts(text):
                 new = [f"{margin}{public}{field} : {weaker}"]
-                found.append(Planted(path, name, field, f"{field}: {what}", lines, first, "\n".join(lines[:first] + new + lines[last:])))
+                found.append(
+                    Planted(
+                        path,
+                        name,
+                        field,
+                        f"{field}: {what}",
+                        lines,
+                        first,
+                        "\n".join(lines[:first] + new + lines[last:]),
+                    )
+                )
     return found
 
 
@@ -87,7 +103,15 @@ def weaker_clause(path, lines, start, end):
     if text in SAY_NOTHING:
         return []
     return [
-        Planted(path, front.split()[0], "", f"`{front[:-2].strip()}`: {what}", lines, start, "\n".join(lines[:start] + [f"{front} {new}"] + lines[end:]))
+        Planted(
+            path,
+            front.split()[0],
+            "",
+            f"`{front[:-2].strip()}`: {what}",
+            lines,
+            start,
+            "\n".join(lines[:start] + [f"{front} {new}"] + lines[end:]),
+        )
         for what, new in weaker_texts(text)
     ]
 

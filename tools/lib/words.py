@@ -8,8 +8,14 @@ import tokenize
 
 # A word that isn't used, with its exceptions, and what is used in its place.
 WORDS = (
-    (r"behind\b(?! (?:an? |one |its |the )?(?:traits?|types?|box|references?|pointers?|locks?|flag)\b)", "after, at offset, or backs"),
-    (r"(?:stands?|stood)\b(?! (?:still|by|out|up)\b|-in|\()", "is, is at, represents, is available"),
+    (
+        r"behind\b(?! (?:an? |one |its |the )?(?:traits?|types?|box|references?|pointers?|locks?|flag)\b)",
+        "after, at offset, or backs",
+    ),
+    (
+        r"(?:stands?|stood)\b(?! (?:still|by|out|up)\b|-in|\()",
+        "is, is at, represents, is available",
+    ),
     (r"so many\b", "n, or the parameter's name"),
     (r"so much\b(?! (?:as|that|for|\w+er that)\b)", "n, or the parameter's name"),
     (r"anyhow\b", "on the slow path"),
@@ -32,7 +38,20 @@ WORDS = (
 LISTED = tuple((re.compile(rf"\b{pattern}", re.IGNORECASE), instead) for pattern, instead in WORDS)
 
 # What is read: prose of all kinds. The page of terms and this file's test name the words that aren't used.
-READ = ("*.md", "*.rt", "*.antt", "*.[ch]", "*.rs", "*.py", "tools", "client", "monitor/bench", "monitor/rust/bind", "monitor/Makefile", ".ci/run")
+READ = (
+    "*.md",
+    "*.rt",
+    "*.antt",
+    "*.[ch]",
+    "*.rs",
+    "*.py",
+    "tools",
+    "client",
+    "monitor/bench",
+    "monitor/rust/bind",
+    "monitor/Makefile",
+    ".ci/run",
+)
 OWNERS = ("docs/TERMS.md", "tools/lib/words.py", "tools/tests/test_words.py")
 # Commits from this day on have to have right subjects.
 SINCE = "2026-11-29T03:00:00Z"
@@ -52,7 +71,11 @@ def unused(text):
 def page(text):
     """Returns the lines of a page with their numbers, without those of listings."""
     shown = re.sub(r"(?ms)^```.*?^```$", lambda it: "\n" * it[0].count("\n"), text)
-    return [(number, line) for number, line in enumerate(shown.splitlines(), 1) if not line.startswith("    ")]
+    return [
+        (number, line)
+        for number, line in enumerate(shown.splitlines(), 1)
+        if not line.startswith("    ")
+    ]
 
 
 def commented(text, kind):
@@ -72,9 +95,14 @@ def described(text):
     tokens = tokenize.generate_tokens(io.StringIO(text).readline)
     found = [(it.start[0], it.string) for it in tokens if it.type == tokenize.COMMENT]
     for node in ast.walk(ast.parse(text)):
-        if isinstance(node, (ast.Module, ast.ClassDef, ast.FunctionDef)) and ast.get_docstring(node):
+        if isinstance(node, (ast.Module, ast.ClassDef, ast.FunctionDef)) and ast.get_docstring(
+            node
+        ):
             string = node.body[0]
-            found += [(string.lineno + at, line) for at, line in enumerate(string.value.value.splitlines())]
+            found += [
+                (string.lineno + at, line)
+                for at, line in enumerate(string.value.value.splitlines())
+            ]
     return sorted(found)
 
 
@@ -91,16 +119,24 @@ def lines_of(path, text):
 
 def words_of(path, text):
     """Returns the words of a file that aren't used, with their lines. No doc comment begins with "The same": each is read alone."""
-    found = [f"{path}:{number}: {it}" for number, line in lines_of(path, text) for it in unused(line)]
+    found = [
+        f"{path}:{number}: {it}" for number, line in lines_of(path, text) for it in unused(line)
+    ]
     if path.endswith((".rt", ".rs")):
         lines = text.splitlines()
-        begins = [at for at, line in enumerate(lines) if FIRST.match(line) and not (at and re.match(r"\s*//[/!]", lines[at - 1]))]
+        begins = [
+            at
+            for at, line in enumerate(lines)
+            if FIRST.match(line) and not (at and re.match(r"\s*//[/!]", lines[at - 1]))
+        ]
         found += [f"{path}:{at + 1}: 'The same': what it is" for at in begins]
     return found
 
 
 # A subject begins with a verb's plain form: not with these, nor with an ending of other forms.
-NO_VERBS = re.compile(r"^(?:An?|The|Of|On|In|For|With|By|To|At|From|Some|More|New|All|Each|Every|What|Where|How|Who|Which|No|And|Also)\b|^\w+(?:ing|ed|[^s]s)\b")
+NO_VERBS = re.compile(
+    r"^(?:An?|The|Of|On|In|For|With|By|To|At|From|Some|More|New|All|Each|Every|What|Where|How|Who|Which|No|And|Also)\b|^\w+(?:ing|ed|[^s]s)\b"
+)
 VERBS = re.compile(r"^(?:Bring|Embed|Feed|Need|Shed|Speed|Focus|Bypass|Cross|Pass)\b")
 
 
@@ -108,9 +144,15 @@ def subject_faults(subject):
     """Returns what is wrong with a commit's subject."""
     tests = (
         ("more than 72 columns", len(subject) > 72),
-        ("begins with no verb in the imperative", NO_VERBS.match(subject) and not VERBS.match(subject)),
+        (
+            "begins with no verb in the imperative",
+            NO_VERBS.match(subject) and not VERBS.match(subject),
+        ),
         ("begins in lower case", subject[:1].islower()),
-        ("has a path", re.search(r"\b[\w.-]+/[\w.-]+/|\b[\w-]+\.(?:rt|antt|py|c|h|rs|md)\b", subject)),
+        (
+            "has a path",
+            re.search(r"\b[\w.-]+/[\w.-]+/|\b[\w-]+\.(?:rt|antt|py|c|h|rs|md)\b", subject),
+        ),
         ("has a prefix with a colon", re.match(r"^[\w/-]+:", subject)),
         ("ends in a stop", subject.endswith(".")),
     )
@@ -119,13 +161,21 @@ def subject_faults(subject):
 
 def asked(root, *words):
     """Returns the lines that git says of a repository; none where there is none."""
-    return subprocess.run(["git", "-C", root, *words], stdout=subprocess.PIPE, stderr=subprocess.DEVNULL, text=True).stdout.splitlines()
+    return subprocess.run(
+        ["git", "-C", root, *words], stdout=subprocess.PIPE, stderr=subprocess.DEVNULL, text=True
+    ).stdout.splitlines()
 
 
 def subjects(root, since=SINCE):
     """Returns the commits since a time whose subjects are wrong; none where the history isn't there."""
-    said = [line.partition(" ") for line in asked(root, "log", f"--since={since}", "--format=%h %s")]
-    return [f"{commit}: {fault}: {subject}" for commit, _, subject in said for fault in subject_faults(subject)]
+    said = [
+        line.partition(" ") for line in asked(root, "log", f"--since={since}", "--format=%h %s")
+    ]
+    return [
+        f"{commit}: {fault}: {subject}"
+        for commit, _, subject in said
+        for fault in subject_faults(subject)
+    ]
 
 
 def words(root):

@@ -14,20 +14,55 @@ TOKEN = r"(?P<word>[A-Za-z_]\w*)|(?P<number>\d[\w.]*)|(?P<sign>->|<<|>>|[-+*/|&<
 # What takes a token's place, by the kind of the edit; spaces round a word of Python's that is left out stay.
 PLACES = {
     "comparison": {"<": "<=", "<=": "<", ">": ">=", ">=": ">", "==": "!=", "!=": "=="},
-    "logic": {"&&": "||", "||": "&&", "and": "or", "or": "and", "!": "", "not": "", "true": "false", "false": "true", "True": "False", "False": "True"},
+    "logic": {
+        "&&": "||",
+        "||": "&&",
+        "and": "or",
+        "or": "and",
+        "!": "",
+        "not": "",
+        "true": "false",
+        "false": "true",
+        "True": "False",
+        "False": "True",
+    },
     "sign": {"+": "-", "-": "+", "+=": "-=", "-=": "+="},
 }
-KEYWORDS = {"if", "while", "for", "switch", "return", "sizeof", "case", "def", "in", "and", "or", "not", "else", "elif", "lambda", "class", "yield"}
+KEYWORDS = {
+    "if",
+    "while",
+    "for",
+    "switch",
+    "return",
+    "sizeof",
+    "case",
+    "def",
+    "in",
+    "and",
+    "or",
+    "not",
+    "else",
+    "elif",
+    "lambda",
+    "class",
+    "yield",
+}
 
 # Whole lines, by what takes their place: calls and assignments that stand by themselves, labels of cases, rows of tables.
 C_LINES = {
-    "call": (re.compile(r" +[a-z_]\w*\([^\n]*\);"), "(void)0;"), "assignment": (re.compile(r" +\*?[a-z_][\w.\[\]]*(?:->[\w.\[\]>-]+)* [-+|&]?= [^\n]*;"), "(void)0;"),
+    "call": (re.compile(r" +[a-z_]\w*\([^\n]*\);"), "(void)0;"),
+    "assignment": (
+        re.compile(r" +\*?[a-z_][\w.\[\]]*(?:->[\w.\[\]>-]+)* [-+|&]?= [^\n]*;"),
+        "(void)0;",
+    ),
     "case": (re.compile(r" +(?:case [A-Z]\w*:|\{[^\n]*\},)"), ""),
 }
 LINES = {
-    ".c": C_LINES, ".h": C_LINES,
+    ".c": C_LINES,
+    ".h": C_LINES,
     ".py": {
-        "call": (re.compile(r" +[a-z_][\w.]*\([^\n]*\)"), "pass"), "assignment": (re.compile(r" +[a-z_][\w.]* [-+|]?= [^\n]*[^\n\[({,]"), "pass"),
+        "call": (re.compile(r" +[a-z_][\w.]*\([^\n]*\)"), "pass"),
+        "assignment": (re.compile(r" +[a-z_][\w.]* [-+|]?= [^\n]*[^\n\[({,]"), "pass"),
         "case": (re.compile(r" +\([^\n]*\),"), ""),
     },
 }
@@ -64,12 +99,20 @@ class Token(NamedTuple):
 def tokens_of(text, suffix):
     """Returns the tokens of code."""
     pattern = re.compile(f"(?P<skipped>{SKIPPED[suffix]})|{TOKEN}", re.S | re.M)
-    return [Token(it.lastgroup, it[0], it.start(), it.end()) for it in pattern.finditer(text) if it.lastgroup != "skipped"]
+    return [
+        Token(it.lastgroup, it[0], it.start(), it.end())
+        for it in pattern.finditer(text)
+        if it.lastgroup != "skipped"
+    ]
 
 
 def is_operand(token):
     """Whether what follows a token has something to its left."""
-    return token.kind == "number" or (token.kind == "word" and token.text not in KEYWORDS) or token.text in (")", "]")
+    return (
+        token.kind == "number"
+        or (token.kind == "word" and token.text not in KEYWORDS)
+        or token.text in (")", "]")
+    )
 
 
 def other_number(text):
@@ -92,7 +135,9 @@ def small_edits(path, tokens):
 def field_edits(path, tokens):
     """Yields exchanged fields: in the place of one that a name has, the next one that it has elsewhere."""
     four = zip(tokens, tokens[1:], tokens[2:], [*tokens[3:], Token("sign", ";", 0, 0)])
-    triples = [it for it in four if it[0].kind == it[2].kind == "word" and it[1].text in ("->", ".")]
+    triples = [
+        it for it in four if it[0].kind == it[2].kind == "word" and it[1].text in ("->", ".")
+    ]
     fields = {}
     for whose, _, field, after in triples:
         if after.text != "(":
@@ -100,7 +145,9 @@ def field_edits(path, tokens):
     for whose, _, field, after in triples:
         its = [*fields.get(whose.text, ())]
         if after.text != "(" and len(its) > 1:
-            yield Edit(path, "field", field.begin, field.end, its[(its.index(field.text) + 1) % len(its)])
+            yield Edit(
+                path, "field", field.begin, field.end, its[(its.index(field.text) + 1) % len(its)]
+            )
 
 
 def arguments_of(tokens, number):
@@ -119,13 +166,20 @@ def arguments_of(tokens, number):
 def argument_edits(path, text, tokens):
     """Yields exchanged arguments: of two neighbours that differ, of calls."""
     for number in range(1, len(tokens)):
-        if tokens[number].text != "(" or tokens[number - 1].kind != "word" or tokens[number - 1].text in KEYWORDS:
+        if (
+            tokens[number].text != "("
+            or tokens[number - 1].kind != "word"
+            or tokens[number - 1].text in KEYWORDS
+        ):
             continue
         spans = arguments_of(tokens, number)
         for (begin, middle), (after, end) in zip(spans, spans[1:]):
             first, second = text[begin:middle].strip(), text[after:end].strip()
             # Parameters of a definition have types or values before them.
-            is_call = not any(re.search(r"^(?:const |struct |enum )?\w+ \**\w+$|\n|^\*|[^=]=[^=]", it) for it in (first, second))
+            is_call = not any(
+                re.search(r"^(?:const |struct |enum )?\w+ \**\w+$|\n|^\*|[^=]=[^=]", it)
+                for it in (first, second)
+            )
             if first and second and first != second and is_call:
                 yield Edit(path, "arguments", begin, end, f"{second}, {first}")
 
@@ -145,7 +199,12 @@ def edits_of(path, text):
     """Returns all edits of a file."""
     suffix = path[path.rindex(".") :]
     tokens = tokens_of(text, suffix)
-    parts = (small_edits(path, tokens), field_edits(path, tokens), argument_edits(path, text, tokens), line_edits(path, text, tokens, suffix))
+    parts = (
+        small_edits(path, tokens),
+        field_edits(path, tokens),
+        argument_edits(path, text, tokens),
+        line_edits(path, text, tokens, suffix),
+    )
     return [it for part in parts for it in part]
 
 

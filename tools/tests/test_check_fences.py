@@ -5,7 +5,7 @@ import shutil
 import pytest
 from linux_kit import MONITOR
 from page_claims import tool
-from wrong_edits import WRONG
+from wrong_edits import WRONG, planted
 
 CHECK = tool("check-fences")
 
@@ -20,7 +20,9 @@ MISSED = {
 
 
 # Patterns of instructions, the code, and whether they are in order in it: none like the last one may come between, nor another word before.
-GIVES = next(patterns for processor, _, function, _, patterns in CHECK.ORDERS if function == "gives")
+GIVES = next(
+    patterns for processor, _, function, _, patterns in CHECK.ORDERS if function == "gives"
+)
 CODES = (
     (["str w1, [x2]", "str w3, [x4]", "dmb ish", "strh w5, [x6]"], True),
     (["mov x1, x2", "str w1, [x2]", "add x1, x2", "str w3, [x4]", "dmb ish", "ret"], False),
@@ -37,7 +39,10 @@ def test_the_order_of_instructions(lines, wanted):
 
 def missing(monitor, folder):
     """Returns which fences of the C shim are missing."""
-    rows = [(what, patterns, CHECK.code_of(words, monitor, str(folder)).get(function, [])) for _, words, function, what, patterns in CHECK.ORDERS]
+    rows = [
+        (what, patterns, CHECK.code_of(words, monitor, str(folder)).get(function, []))
+        for _, words, function, what, patterns in CHECK.ORDERS
+    ]
     return [what for what, patterns, lines in rows if not CHECK.stand_in_order(lines, patterns)]
 
 
@@ -58,8 +63,7 @@ def test_a_fence_that_is_missing(copy, tmp_path, name):
     _, path, old, new, *more = next(it for it in WRONG if it[0] == name)
     text = (copy / path).read_text(encoding="utf-8")
     for before, after in ((old, new), *more):
-        assert text.count(before) == 1
-        text = text.replace(before, after)
+        text = planted(text, before, after)
     (copy / path).write_text(text, encoding="utf-8")
     assert missing(str(copy), tmp_path) == MISSED[name]
 
@@ -73,7 +77,9 @@ def test_a_shim_that_is_not_compiled(copy, tmp_path):
 @pytest.mark.timeout(600)
 def test_a_fence_of_the_rust_crate(tmp_path):
     for it in ("include", "reference", "rust"):
-        shutil.copytree(f"{MONITOR}/{it}", tmp_path / "monitor" / it, ignore=shutil.ignore_patterns("target"))
+        shutil.copytree(
+            f"{MONITOR}/{it}", tmp_path / "monitor" / it, ignore=shutil.ignore_patterns("target")
+        )
     path = tmp_path / "monitor/rust/src/obey.rs"
     text = path.read_text(encoding="utf-8")
     assert text.count("        fence(order);\n") == 1

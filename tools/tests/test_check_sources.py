@@ -58,7 +58,9 @@ def found(tmp_path, monkeypatch):
 
 
 @pytest.mark.parametrize("line", BARE)
-@pytest.mark.parametrize("path", ("crates/a/src/a.rt", "monitor/backends/guest/a.c", "monitor/reference/a.h"))
+@pytest.mark.parametrize(
+    "path", ("crates/a/src/a.rt", "monitor/backends/guest/a.c", "monitor/reference/a.h")
+)
 def test_a_bare_number_is_found_in_its_place(found, path, line):
     assert found(path, f"\n    {line}\n") == [f"{path}:2: {line}"]
 
@@ -68,7 +70,13 @@ def test_names_and_other_numbers_are_not(found, line):
     assert found("crates/a/src/a.rt", line) == []
 
 
-MAY = (*CHECK.LAYOUT_OWNERS, "crates/a/src/tests.rt", "crates/a/src/tests/b.rt", "monitor/tests/guest.h", "monitor/tests/order.c")
+MAY = (
+    *CHECK.LAYOUT_OWNERS,
+    "crates/a/src/tests.rt",
+    "crates/a/src/tests/b.rt",
+    "monitor/tests/guest.h",
+    "monitor/tests/order.c",
+)
 
 
 @pytest.mark.parametrize("path", MAY)

@@ -9,21 +9,52 @@ CONFORM = tool("conform")
 RIGHT = 'cat > /dev/null; case "$1" in run) echo ok; echo frames;; *) echo "bad word $1" >&2; exit 3;; esac'
 PROGRAMS = (
     (RIGHT, 0, "2 passed, 0 failed\n"),
-    (RIGHT.replace("echo ok", "echo no"), 1, "topic/first, run: line 1: wanted 'ok', got 'no'\n1 passed, 1 failed\n"),
-    (RIGHT.replace("; echo frames", ""), 1, "topic/first, run: line 2: wanted 'frames', got ''\n1 passed, 1 failed\n"),
-    (RIGHT.replace("echo frames", "echo frames; echo more"), 1, "topic/first, run: line 3: wanted '', got 'more'\n1 passed, 1 failed\n"),
-    (RIGHT.replace("bad word", "word"), 1,
-     "topic/second, walk: standard error, line 1: wanted 'bad word walk', got 'word walk'\n1 passed, 1 failed\n"),
-    (RIGHT.replace("exit 3", "exit 4"), 1, "topic/second, walk: status 4 in place of 3: bad word walk\n1 passed, 1 failed\n"),
-    (RIGHT.replace("echo ok", "echo why >&2; echo ok"), 1,
-     "topic/first, run: standard error, line 1: wanted '', got 'why'\n1 passed, 1 failed\n"),
-    (RIGHT.replace("echo ok", "sleep 9"), 1, "topic/first, run: it hangs, after 0.5 s\n1 passed, 1 failed\n"),
+    (
+        RIGHT.replace("echo ok", "echo no"),
+        1,
+        "topic/first, run: line 1: wanted 'ok', got 'no'\n1 passed, 1 failed\n",
+    ),
+    (
+        RIGHT.replace("; echo frames", ""),
+        1,
+        "topic/first, run: line 2: wanted 'frames', got ''\n1 passed, 1 failed\n",
+    ),
+    (
+        RIGHT.replace("echo frames", "echo frames; echo more"),
+        1,
+        "topic/first, run: line 3: wanted '', got 'more'\n1 passed, 1 failed\n",
+    ),
+    (
+        RIGHT.replace("bad word", "word"),
+        1,
+        "topic/second, walk: standard error, line 1: wanted 'bad word walk', got 'word walk'\n1 passed, 1 failed\n",
+    ),
+    (
+        RIGHT.replace("exit 3", "exit 4"),
+        1,
+        "topic/second, walk: status 4 in place of 3: bad word walk\n1 passed, 1 failed\n",
+    ),
+    (
+        RIGHT.replace("echo ok", "echo why >&2; echo ok"),
+        1,
+        "topic/first, run: standard error, line 1: wanted '', got 'why'\n1 passed, 1 failed\n",
+    ),
+    (
+        RIGHT.replace("echo ok", "sleep 9"),
+        1,
+        "topic/first, run: it hangs, after 0.5 s\n1 passed, 1 failed\n",
+    ),
 )
 
 FILES = {
-    "first.script": "# Shows: two answers\nask\n", "first.expected": "ok\nframes\n",
-    "second.script": "# Shows: a refusal\n", "second.args": "walk\n", "second.errors": "bad word walk\n", "second.status": "3",
-    "third.script": "# Shows: no command line's\n", "third.args": "-\n",
+    "first.script": "# Shows: two answers\nask\n",
+    "first.expected": "ok\nframes\n",
+    "second.script": "# Shows: a refusal\n",
+    "second.args": "walk\n",
+    "second.errors": "bad word walk\n",
+    "second.status": "3",
+    "third.script": "# Shows: no command line's\n",
+    "third.args": "-\n",
 }
 
 
@@ -42,6 +73,7 @@ def topic(tmp_path, monkeypatch):
 @pytest.fixture
 def program(tmp_path):
     """Writes a program of the shell; returns its path."""
+
     def make(lines):
         path = tmp_path / "program"
         path.write_text(f"#!/bin/sh\n{lines}\n", encoding="utf-8")
@@ -62,6 +94,8 @@ def test_some_of_the_scripts(topic, program, capsys):
     assert capsys.readouterr().out == "1 passed, 0 failed\n"
 
 
-@pytest.mark.parametrize("words, status", ((["--only", "nothing", "/bin/true"], 1), (["/nowhere/program"], 2), ([], 2)))
+@pytest.mark.parametrize(
+    "words, status", ((["--only", "nothing", "/bin/true"], 1), (["/nowhere/program"], 2), ([], 2))
+)
 def test_what_shows_nothing_is_no_pass(topic, words, status):
     assert CONFORM.main(words) == status

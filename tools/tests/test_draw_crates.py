@@ -8,7 +8,11 @@ DRAW = tool("draw-crates")
 # A trunk of one crate, the library, a part of it that the program reaches by the crate that ties both, the program, and one that neither
 # uses.
 CRATES = {
-    "low": [], "vb_core": ["low"], "vb_c": ["low", "vb_core"], "vb_served": ["vb_core"], "vb_sim": ["low", "vb_served"],
+    "low": [],
+    "vb_core": ["low"],
+    "vb_c": ["low", "vb_core"],
+    "vb_served": ["vb_core"],
+    "vb_sim": ["low", "vb_served"],
     "apart": ["low", "vb_core"],
 }
 
@@ -33,7 +37,12 @@ def test_the_graph_has_the_lines_that_no_other_way_makes(line, is_there):
 
 def test_the_parts():
     assert DRAW.parts_of(CRATES) == {
-        "low": DRAW.TRUNK, "vb_core": DRAW.LEFT, "vb_c": DRAW.LEFT, "vb_served": DRAW.RIGHT, "vb_sim": DRAW.RIGHT, "apart": DRAW.RIGHT,
+        "low": DRAW.TRUNK,
+        "vb_core": DRAW.LEFT,
+        "vb_c": DRAW.LEFT,
+        "vb_served": DRAW.RIGHT,
+        "vb_sim": DRAW.RIGHT,
+        "apart": DRAW.RIGHT,
     }
 
 

@@ -9,20 +9,43 @@ import pytest
 from run_picture import held, load_library
 from run_points import Fault, Point, events_asked_about
 from run_tables import (
-    FIRST_PATH, GIVE_BACK, LIVES, LIVES_SCRIPT, NO_FRAME, NO_FRAME_SCRIPT, PACED, PACED_BALANCE, REPORTING, ROGUE, TWO_GUESTS,
+    FIRST_PATH,
+    GIVE_BACK,
+    LIVES,
+    LIVES_SCRIPT,
+    NO_FRAME,
+    NO_FRAME_SCRIPT,
+    PACED,
+    PACED_BALANCE,
+    REPORTING,
+    ROGUE,
+    TWO_GUESTS,
 )
 
 ROOT = os.path.realpath(os.path.join(os.path.dirname(__file__), "../.."))
 TOOL = f"{ROOT}/tools/draw-run"
 PROGRAM = os.environ.get("VB_SIM", f"{ROOT}/vb_sim")
 
-COUNTED = ("ballooned", "actual", "target", "free", "used", "giving", "lent", "taking", "stranded", "reporting")
+COUNTED = (
+    "ballooned",
+    "actual",
+    "target",
+    "free",
+    "used",
+    "giving",
+    "lent",
+    "taking",
+    "stranded",
+    "reporting",
+)
 COLUMNS = ("event", "frames_used", "frames_free", "guest", *COUNTED, "mark")
 
 
 def call(*words, **environment):
     """Calls the tool; returns its status and what it said on standard error."""
-    ran = subprocess.run([TOOL, *words], capture_output=True, text=True, env={**os.environ, **environment})
+    ran = subprocess.run(
+        [TOOL, *words], capture_output=True, text=True, env={**os.environ, **environment}
+    )
     assert ran.stdout == "", ran.stdout
     return ran.returncode, ran.stderr
 
@@ -53,7 +76,11 @@ def rows_of(table, asked=None):
             changed(words, host, guests)
         if asked is None or event in asked:
             rows.extend(rows_at(event, int(frames), host, guests))
-        rows.extend({"event": event, "guest": it[1], "mark": " ".join(it[3:])} for it in here if it[2] == "mark")
+        rows.extend(
+            {"event": event, "guest": it[1], "mark": " ".join(it[3:])}
+            for it in here
+            if it[2] == "mark"
+        )
     return [{name: str(row.get(name, "")) for name in COLUMNS} for row in rows]
 
 
@@ -63,7 +90,13 @@ def test_what_the_page_of_the_program_shows(tmp_path):
         block = page.read().split("\n.EX\n$ ")[1].split("\n.EE\n")[0]
     command, *lines = block.replace("\\e", "\\").splitlines()
     (tmp_path / "vb_sim").symlink_to(PROGRAM)
-    ran = subprocess.run(["sh", "-c", command], capture_output=True, text=True, timeout=120, env={**os.environ, "PATH": f"{tmp_path}:{os.environ['PATH']}"})
+    ran = subprocess.run(
+        ["sh", "-c", command],
+        capture_output=True,
+        text=True,
+        timeout=120,
+        env={**os.environ, "PATH": f"{tmp_path}:{os.environ['PATH']}"},
+    )
     assert (ran.returncode, ran.stderr, ran.stdout.splitlines()) == (0, "", lines)
 
 
@@ -125,42 +158,65 @@ def test_examples(folder, name):
     folder.demand_numbers(f"{ROOT}/{name}.script", EXAMPLES[name])
 
 
-@pytest.mark.parametrize("every, asked", (("1", None), ("2", range(2, 17, 2)), ("5", (5, 10, 15, 16))))
+@pytest.mark.parametrize(
+    "every, asked", (("1", None), ("2", range(2, 17, 2)), ("5", (5, 10, 15, 16)))
+)
 def test_each_nth_event_and_the_last_one(folder, every, asked):
-    folder.demand_numbers(folder.file("lives.script", LIVES_SCRIPT), LIVES, "--every", every, asked=asked)
+    folder.demand_numbers(
+        folder.file("lives.script", LIVES_SCRIPT), LIVES, "--every", every, asked=asked
+    )
 
 
 def test_no_frame_at_init(folder):
     folder.demand_numbers(folder.file("small.script", NO_FRAME_SCRIPT), NO_FRAME)
 
 
-@pytest.mark.parametrize("events, every, wanted", (
-    (3, None, [1, 2, 3]), (2000, None, [*range(1, 2001)]), (2001, None, [*range(2, 2001, 2), 2001]), (7, 10, [7]),
-))
+@pytest.mark.parametrize(
+    "events, every, wanted",
+    (
+        (3, None, [1, 2, 3]),
+        (2000, None, [*range(1, 2001)]),
+        (2001, None, [*range(2, 2001, 2), 2001]),
+        (7, 10, [7]),
+    ),
+)
 def test_how_many_points(events, every, wanted):
     assert events_asked_about(events, every) == wanted
 
 
-@pytest.mark.parametrize("name, contents, said", (
-    ("bad.script", b"host 64\nspare immediate\n\nplug 64 8\n", "script: line 4: bad line"),
-    ("empty.script", b"# nothing\n\n", "draw-run: PATH has no events"),
-    ("host.script", b"host 64\nspare paced\n", "draw-run: PATH has no events"),
-    ("none.script", None, "draw-run: PATH: No such file or directory"),
-))
+@pytest.mark.parametrize(
+    "name, contents, said",
+    (
+        ("bad.script", b"host 64\nspare immediate\n\nplug 64 8\n", "script: line 4: bad line"),
+        ("empty.script", b"# nothing\n\n", "draw-run: PATH has no events"),
+        ("host.script", b"host 64\nspare paced\n", "draw-run: PATH has no events"),
+        ("none.script", None, "draw-run: PATH: No such file or directory"),
+    ),
+)
 def test_scripts_that_are_refused(folder, name, contents, said):
     path = f"{folder.path}/{name}" if contents is None else folder.file(name, contents)
-    folder.demand_refused(path, "--csv", f"{folder.path}/out", "--program", PROGRAM, said=said.replace("PATH", path))
+    folder.demand_refused(
+        path, "--csv", f"{folder.path}/out", "--program", PROGRAM, said=said.replace("PATH", path)
+    )
 
 
-@pytest.mark.parametrize("lines, said", (
-    ("kill -9 $$", "PATH was ended by signal 9"),
-    ("echo first >&2; echo why >&2; exit 70", "PATH ended with status 70: why"),
-    ("cat > /dev/null", "PATH gave 0 replies to 1 events"),
-    ("if grep -q frames; then printf 'ok\\nframes used 0 free 1\\n'; else echo 'no guest'; fi",
-     "event 1 is answered 'no guest', but 'ok' with questions put in"),
-    ("if grep -q frames; then printf 'ok\\nframes used 0\\n'; else echo ok; fi", "no answer to a question: used 0"),
-    (None, "PATH: No such file or directory"),
-))
+@pytest.mark.parametrize(
+    "lines, said",
+    (
+        ("kill -9 $$", "PATH was ended by signal 9"),
+        ("echo first >&2; echo why >&2; exit 70", "PATH ended with status 70: why"),
+        ("cat > /dev/null", "PATH gave 0 replies to 1 events"),
+        (
+            "if grep -q frames; then printf 'ok\\nframes used 0 free 1\\n'; else echo 'no guest'; fi",
+            "event 1 is answered 'no guest', but 'ok' with questions put in",
+        ),
+        (
+            "if grep -q frames; then printf 'ok\\nframes used 0\\n'; else echo ok; fi",
+            "no answer to a question: used 0",
+        ),
+        (None, "PATH: No such file or directory"),
+    ),
+)
 def test_programs_that_are_refused(folder, lines, said):
     script = folder.file("some.script", b"host 1\nreset 0\n")
     path = f"{folder.path}/none" if lines is None else folder.program("program", lines)
@@ -170,7 +226,12 @@ def test_programs_that_are_refused(folder, lines, said):
 
 def test_names_of_pictures(folder):
     name = f"{folder.path}/run.pdf"
-    folder.demand_refused("some.script", "-o", name, said=f"draw-run: {name}: the name of a picture ends in .svg or .png")
+    folder.demand_refused(
+        "some.script",
+        "-o",
+        name,
+        said=f"draw-run: {name}: the name of a picture ends in .svg or .png",
+    )
 
 
 # A program that answers one event, and questions about it.
@@ -184,7 +245,9 @@ def test_without_the_library(folder):
     way = "apt-get install python3-matplotlib gives it to /usr/bin/python3"
     said = f"draw-run: /usr/bin/python3 has no matplotlib for a picture: {way}"
     folder.demand_refused("some.script", "-o", f"{folder.path}/run.svg", said=said, **lacking)
-    answering, script = folder.program("answering", ANSWERING), folder.file("some.script", b"host 1\nreset 0\n")
+    answering, script = folder.program("answering", ANSWERING), folder.file(
+        "some.script", b"host 1\nreset 0\n"
+    )
     numbers = f"{folder.path}/numbers.csv"
     assert call(script, "--csv", numbers, "--program", answering, **lacking) == (0, "")
     assert os.path.exists(numbers)
@@ -202,13 +265,17 @@ def library():
 def test_runs_of_numbers(library):
     """A guest that goes and comes again is two runs, each held to where it ends."""
     numbers = {2: 5, 3: 5, 4: 6, 7: 1, 8: 1}
-    points = [Point(event, {}, {0: numbers[event]} if event in numbers else {}) for event in range(1, 9)]
+    points = [
+        Point(event, {}, {0: numbers[event]} if event in numbers else {}) for event in range(1, 9)
+    ]
     assert held(points, lambda it: it.guests.get(0)) == [([2, 4, 5], [5, 6, 6]), ([7, 9], [1, 1])]
 
 
 @pytest.mark.parametrize("name, start", (("run.svg", b"<?xml"), ("run.png", b"\x89PNG")))
 def test_same_bytes_each_time(folder, library, name, start):
-    answering, script = folder.program("answering", ANSWERING), folder.file("some.script", b"host 1\nreset 0\n")
+    answering, script = folder.program("answering", ANSWERING), folder.file(
+        "some.script", b"host 1\nreset 0\n"
+    )
     pictures = []
     for _ in range(2):
         assert call(script, "-o", f"{folder.path}/{name}", "--program", answering) == (0, "")

@@ -6,8 +6,12 @@ import gate_steps
 import pytest
 from gate_steps import Step
 
-PASSES, FAILS = Step("passes", ("true",)), Step("a wrong body", ("sh", "-c", "echo the body; echo is wrong >&2; exit 1"))
-SKIPS = Step("skips", ("echo", "SKIPPED [2] tests/test_one.py:7: tmux isn't there: apt-get install tmux"))
+PASSES, FAILS = Step("passes", ("true",)), Step(
+    "a wrong body", ("sh", "-c", "echo the body; echo is wrong >&2; exit 1")
+)
+SKIPS = Step(
+    "skips", ("echo", "SKIPPED [2] tests/test_one.py:7: tmux isn't there: apt-get install tmux")
+)
 LACKS = Step("lacks", ("true",), ("nobody-has-this-package",))
 
 
@@ -24,13 +28,22 @@ def test_a_line_for_each_step_and_what_failed_said(capsys):
     assert gate_steps.run_all((FAILS, PASSES)) == 1
     said = capsys.readouterr().out.splitlines()
     assert [it.split(" in ")[0] for it in said[:2]] == ["a wrong body: FAILED", "passes: passed"]
-    assert said[-5:] == ["    the body", "    is wrong", "", "failed: a wrong body", "1 passed, 1 failed"]
+    assert said[-5:] == [
+        "    the body",
+        "    is wrong",
+        "",
+        "failed: a wrong body",
+        "1 passed, 1 failed",
+    ]
 
 
 def test_what_is_skipped_says_why(capsys):
     assert gate_steps.run_all((SKIPS,)) == 0
     first, last = capsys.readouterr().out.splitlines()
-    assert first.endswith("s; 2 skipped: tmux isn't there: apt-get install tmux") and last == "1 passed, 0 failed"
+    assert (
+        first.endswith("s; 2 skipped: tmux isn't there: apt-get install tmux")
+        and last == "1 passed, 0 failed"
+    )
 
 
 def test_what_is_missing_is_named_before_anything_runs(capsys):
@@ -38,16 +51,24 @@ def test_what_is_missing_is_named_before_anything_runs(capsys):
     assert capsys.readouterr() == ("", "test: missing: apt-get install nobody-has-this-package\n")
 
 
-@pytest.mark.parametrize("step, status, last", ((PASSES, None, "runs rt ci"), (FAILS, 1, "0 passed, 1 failed"), (LACKS, 2, None)))
+@pytest.mark.parametrize(
+    "step, status, last",
+    ((PASSES, None, "runs rt ci"), (FAILS, 1, "0 passed, 1 failed"), (LACKS, 2, None)),
+)
 def test_rt_ci_runs_where_the_quick_part_passed_alone(step, status, last, monkeypatch, capsys):
     monkeypatch.setattr(gate_steps, "QUICK", (step,))
     assert gate_steps.gate() == status
     assert (capsys.readouterr().out.splitlines() or [None])[-1] == last
 
 
-@pytest.mark.parametrize("tries, status, lines", ((1, 1, ["FAILED"]), (2, 0, ["FAILED", "passed"]), (3, 0, ["FAILED", "passed"])))
+@pytest.mark.parametrize(
+    "tries, status, lines",
+    ((1, 1, ["FAILED"]), (2, 0, ["FAILED", "passed"]), (3, 0, ["FAILED", "passed"])),
+)
 def test_a_step_has_failed_that_fails_each_time(tries, status, lines, tmp_path, capsys):
-    later = Step("later", ("sh", "-c", f"test -e {tmp_path}/there || {{ touch {tmp_path}/there; false; }}"))
+    later = Step(
+        "later", ("sh", "-c", f"test -e {tmp_path}/there || {{ touch {tmp_path}/there; false; }}")
+    )
     assert gate_steps.run_all((later,), tries) == status
     said = [it.split() for it in capsys.readouterr().out.splitlines() if it.startswith("later: ")]
     assert [it[1] for it in said] == lines
@@ -64,7 +85,10 @@ def tools_of(folder, monkeypatch, installs):
     does where `installs`."""
     folder.mkdir()
     apt_get = f"case $* in *install*) echo x >> {folder}/tries; [ $(wc -l < {folder}/tries) -lt 2 ] || {'touch' if installs else 'true'} {folder}/there; esac"
-    for name, text in (("apt-get", apt_get), ("dpkg-query", f"[ ! -e {folder}/there ] || echo nobody-has-this-package installed")):
+    for name, text in (
+        ("apt-get", apt_get),
+        ("dpkg-query", f"[ ! -e {folder}/there ] || echo nobody-has-this-package installed"),
+    ):
         (folder / name).write_text(f"#!/bin/sh\n{text}\n", encoding="ascii")
         (folder / name).chmod(0o755)
     monkeypatch.setenv("PATH", f"{folder}:{os.environ['PATH']}")

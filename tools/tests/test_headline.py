@@ -72,10 +72,17 @@ def headline(tmp_path, monkeypatch):
         (tmp_path / path).parent.mkdir(parents=True, exist_ok=True)
         (tmp_path / path).write_text(text, encoding="utf-8")
     monkeypatch.setattr(its, "ROOT", str(tmp_path))
-    monkeypatch.setattr(its, "PAGES", {
-        "page.md": [("World::run", "high/src/first.rt", "pub fn run("), ("run_threads", "high/src/second.rt", "pub fn run_threads")],
-        "laws.md": [("all_are_even", "high/src/laws.rt", "pub fn all_are_even")],
-    })
+    monkeypatch.setattr(
+        its,
+        "PAGES",
+        {
+            "page.md": [
+                ("World::run", "high/src/first.rt", "pub fn run("),
+                ("run_threads", "high/src/second.rt", "pub fn run_threads"),
+            ],
+            "laws.md": [("all_are_even", "high/src/laws.rt", "pub fn all_are_even")],
+        },
+    )
 
     def call(word):
         its.FILES.clear()
@@ -93,15 +100,22 @@ def test_what_is_counted(headline):
     assert headline.call("--check") == 0
 
 
-@pytest.mark.parametrize("path, old, new", (
-    ("crates/low/specs/Even.antt", "IsTwice n = Σ", "IsTwice zero = Unit\nIsTwice n = Σ"),
-    ("crates/low/specs/Even.antt", "Even n = IsTwice n ×", "Even n ="),
-    ("crates/low/src/limits.rt", "pub const MOST: u32 = 256;", "pub const MOST: u32 =\n    256;"),
-    ("crates/high/src/second.rt", "{ Odd result }", "{ result ≡ 1 }"),
-    ("crates/high/src/laws.rt", "(n : ℕ) → Even n", "(n : ℕ) → Odd n"),
-    ("page.md", "| 4 | 6 |", "| 4 | 5 |"),
-    ("laws.md", "| 5 |", "| 6 |"),
-))
+@pytest.mark.parametrize(
+    "path, old, new",
+    (
+        ("crates/low/specs/Even.antt", "IsTwice n = Σ", "IsTwice zero = Unit\nIsTwice n = Σ"),
+        ("crates/low/specs/Even.antt", "Even n = IsTwice n ×", "Even n ="),
+        (
+            "crates/low/src/limits.rt",
+            "pub const MOST: u32 = 256;",
+            "pub const MOST: u32 =\n    256;",
+        ),
+        ("crates/high/src/second.rt", "{ Odd result }", "{ result ≡ 1 }"),
+        ("crates/high/src/laws.rt", "(n : ℕ) → Even n", "(n : ℕ) → Odd n"),
+        ("page.md", "| 4 | 6 |", "| 4 | 5 |"),
+        ("laws.md", "| 5 |", "| 6 |"),
+    ),
+)
 def test_another_table_is_refused(headline, path, old, new):
     assert headline.call("--write") == 0
     file = headline.folder / path
@@ -114,7 +128,10 @@ def test_another_table_is_refused(headline, path, old, new):
 def test_a_comment_counts_nothing(headline):
     assert headline.call("--write") == 0
     file = headline.folder / "crates/low/specs/Even.antt"
-    file.write_text(file.read_text(encoding="utf-8").replace("IsTwice n = Σ", "-- twice\nIsTwice n = Σ"), encoding="utf-8")
+    file.write_text(
+        file.read_text(encoding="utf-8").replace("IsTwice n = Σ", "-- twice\nIsTwice n = Σ"),
+        encoding="utf-8",
+    )
     assert headline.call("--check") == 0
 
 

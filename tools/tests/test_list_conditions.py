@@ -95,7 +95,9 @@ def test_which_conditions_are_listed(lister):
     assert lister.call() == [*LOW, ABOVE]
 
 
-@pytest.mark.parametrize("names, rows", ((["low"], [*LOW]), (["above"], [ABOVE]), (["above", "low"], [ABOVE, *LOW])))
+@pytest.mark.parametrize(
+    "names, rows", ((["low"], [*LOW]), (["above"], [ABOVE]), (["above", "low"], [ABOVE, *LOW]))
+)
 def test_of_which_crates(lister, names, rows):
     assert lister.call(*names) == rows
 
@@ -106,14 +108,39 @@ def test_a_crate_that_is_not_there(lister):
     assert ended.value.code == 2
 
 
-@pytest.mark.parametrize("path, old, new, gone, come", (
-    ("crates/low/src/open.rt", "requires few { n ≤ 256 }", "requires few { n ≤ 255 }", LOW[:1], [
-        "| `low` | `first` | `n ≤ 255` |", "| `low` | `shown` | `n ≤ 256` |",
-    ]),
-    ("crates/low/src/open.rt", "fn hidden", "pub fn hidden", [], ["| `low` | `hidden` | `n ≤ 3` |"]),
-    ("crates/low/src/lib.rt", "{Ring, shown}", "{Ring}", LOW[:1], ["| `low` | `first` | `n ≤ 256` |"]),
-    ("crates/low/src/shut.rt", "        requires { n ≤ 7 }\n", "", LOW[1:2], ["| `low` | `Ring::add` | `n ≢ 3 &#124; 4` |"]),
-))
+@pytest.mark.parametrize(
+    "path, old, new, gone, come",
+    (
+        (
+            "crates/low/src/open.rt",
+            "requires few { n ≤ 256 }",
+            "requires few { n ≤ 255 }",
+            LOW[:1],
+            ["| `low` | `first` | `n ≤ 255` |", "| `low` | `shown` | `n ≤ 256` |"],
+        ),
+        (
+            "crates/low/src/open.rt",
+            "fn hidden",
+            "pub fn hidden",
+            [],
+            ["| `low` | `hidden` | `n ≤ 3` |"],
+        ),
+        (
+            "crates/low/src/lib.rt",
+            "{Ring, shown}",
+            "{Ring}",
+            LOW[:1],
+            ["| `low` | `first` | `n ≤ 256` |"],
+        ),
+        (
+            "crates/low/src/shut.rt",
+            "        requires { n ≤ 7 }\n",
+            "",
+            LOW[1:2],
+            ["| `low` | `Ring::add` | `n ≢ 3 &#124; 4` |"],
+        ),
+    ),
+)
 def test_what_another_source_has(lister, path, old, new, gone, come):
     file = lister.folder / path
     text = file.read_text(encoding="utf-8")

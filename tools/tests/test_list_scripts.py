@@ -16,7 +16,10 @@ CHANGES = (
 
 # How a script begins, and what is said of it.
 BEGINS = (
-    ("# Shows: Sweeps are refused in order.\n# And more.\nhost 1\n", "Sweeps are refused in order."),
+    (
+        "# Shows: Sweeps are refused in order.\n# And more.\nhost 1\n",
+        "Sweeps are refused in order.",
+    ),
     ("# Two guests share a host. A balance\n# follows.\n\nhost 1\n", "Two guests share a host."),
     ("# Two guests share\n# a host.\nhost 1\n", "Two guests share a host."),
 )

@@ -17,7 +17,10 @@ LINES = (
     ("`[it](docs/NONE.md)` is code", []),
     ("```\n[it](docs/NONE.md)\n```", []),
     ("[it](docs/NONE.md)", ["PAGE.md:3: no file docs/NONE.md"]),
-    ("two [of](docs/NONE.md) [them](NONE.md#a)", ["PAGE.md:3: no file docs/NONE.md", "PAGE.md:3: no file NONE.md"]),
+    (
+        "two [of](docs/NONE.md) [them](NONE.md#a)",
+        ["PAGE.md:3: no file docs/NONE.md", "PAGE.md:3: no file NONE.md"],
+    ),
     ("[it](docs/OTHER.md#no-heading)", ["PAGE.md:3: docs/OTHER.md has no heading #no-heading"]),
     ("[it](#second)", ["PAGE.md:3: PAGE.md has no heading #second"]),
 )

@@ -26,11 +26,23 @@ static bool is_few(const struct list *list, unsigned most)
 }
 """
 EDITS_OF_C = [
-    ("comparison", "<=", "<"), ("logic", "&&", "||"), ("logic", "!", ""), ("logic", "true", "false"), ("sign", "-", "+"), ("constant", "5", "6"),
+    ("comparison", "<=", "<"),
+    ("logic", "&&", "||"),
+    ("logic", "!", ""),
+    ("logic", "true", "false"),
+    ("sign", "-", "+"),
+    ("constant", "5", "6"),
     ("constant", "0x10", "0x11"),
-    ("field", "count", "none"), ("field", "none", "count"), ("field", "none", "count"), ("field", "count", "none"), ("field", "count", "none"),
-    ("arguments", '"1 < 2", most', 'most, "1 < 2"'), ("arguments", "list, 0x10", "0x10, list"),
-    ("assignment", "list->none = list->count - 5;", "(void)0;"), ("call", 'say("1 < 2", most);', "(void)0;"), ("case", "case FEW:", ""),
+    ("field", "count", "none"),
+    ("field", "none", "count"),
+    ("field", "none", "count"),
+    ("field", "count", "none"),
+    ("field", "count", "none"),
+    ("arguments", '"1 < 2", most', 'most, "1 < 2"'),
+    ("arguments", "list, 0x10", "0x10, list"),
+    ("assignment", "list->none = list->count - 5;", "(void)0;"),
+    ("call", 'say("1 < 2", most);', "(void)0;"),
+    ("case", "case FEW:", ""),
 ]
 PYTHON = '''"""Whether 1 < 2."""
 import sys
@@ -46,13 +58,28 @@ def show(its, most=4):
         print(its, -most)
 '''
 EDITS_OF_PYTHON = [
-    ("constant", "1", "2"), ("constant", "4", "5"), ("logic", "not", ""), ("logic", "or", "and"), ("sign", "+", "-"), ("constant", "1", "2"),
-    ("comparison", "==", "!="), ("field", "few", "count"), ("field", "count", "few"), ("field", "few", "count"),
-    ("arguments", "its, -most", "-most, its"), ("case", '("a", 1),', ""), ("assignment", 'its.few = f"{1 < 2}"', "pass"), ("call", "print(its, -most)", "pass"),
+    ("constant", "1", "2"),
+    ("constant", "4", "5"),
+    ("logic", "not", ""),
+    ("logic", "or", "and"),
+    ("sign", "+", "-"),
+    ("constant", "1", "2"),
+    ("comparison", "==", "!="),
+    ("field", "few", "count"),
+    ("field", "count", "few"),
+    ("field", "few", "count"),
+    ("arguments", "its, -most", "-most, its"),
+    ("case", '("a", 1),', ""),
+    ("assignment", 'its.few = f"{1 < 2}"', "pass"),
+    ("call", "print(its, -most)", "pass"),
 ]
 
 
-@pytest.mark.parametrize("path, text, wanted", (("a.c", C, EDITS_OF_C), ("a.py", PYTHON, EDITS_OF_PYTHON)), ids=("C", "Python"))
+@pytest.mark.parametrize(
+    "path, text, wanted",
+    (("a.c", C, EDITS_OF_C), ("a.py", PYTHON, EDITS_OF_PYTHON)),
+    ids=("C", "Python"),
+)
 def test_what_is_planted(path, text, wanted):
     assert [(it.kind, text[it.begin : it.end], it.new) for it in edits_of(path, text)] == wanted
 
@@ -69,17 +96,25 @@ def test_what_is_drawn():
 # A file that is shipped, and the suites that see it, the narrowest first; of the first one, the first test.
 SEEN = (
     ("monitor/backends/control/answers.c", ["control", "host"], None),
-    ("monitor/backends/service/config.c", ["control", "host"], "monitor/tests/control/test_config.py"),
+    (
+        "monitor/backends/service/config.c",
+        ["control", "host"],
+        "monitor/tests/control/test_config.py",
+    ),
     ("monitor/backends/host/limits.c", ["host", "control"], "monitor/tests/host/test_limits.py"),
-    ("monitor/backends/guest/virtio_pci.c", ["pci-proxy"], None), ("monitor/backends/guest/lent.c", ["vhost-user", "host", "control"], None),
-    ("client/bigvasta/picture.py", ["control", "plan"], "monitor/tests/control/test_client.py"), ("client/bigvasta/plan/days.py", ["plan", "fleet"], "monitor/tests/plan/test_days.py"),
+    ("monitor/backends/guest/virtio_pci.c", ["pci-proxy"], None),
+    ("monitor/backends/guest/lent.c", ["vhost-user", "host", "control"], None),
+    ("client/bigvasta/picture.py", ["control", "plan"], "monitor/tests/control/test_client.py"),
+    ("client/bigvasta/plan/days.py", ["plan", "fleet"], "monitor/tests/plan/test_days.py"),
     ("client/bigvasta/plan/placing.py", ["fleet", "plan"], "monitor/tests/fleet/test_placing.py"),
 )
 
 
 @pytest.mark.parametrize("path, suites, first", SEEN)
 def test_who_sees_a_file(path, suites, first):
-    assert suites_of(path) == suites and (first is None or first == next(it for it in commands_of(path)[0] if it.endswith(".py")))
+    assert suites_of(path) == suites and (
+        first is None or first == next(it for it in commands_of(path)[0] if it.endswith(".py"))
+    )
 
 
 def test_each_file_that_is_shipped_is_seen():
@@ -97,7 +132,12 @@ name=always; asked "$*" && fails always
 name=sums; asked "$*" && ! grep -q 'a + b' monitor/add.c && fails sums
 exit 0"""
 TEST = ("sh", "-c", SHELL, "sh", "-q")
-OUTCOMES = (("+", "-", "refused by test_add.py::test_sums"), (">", ">=", "the same object"), ("a + b", "a +", "isn't compiled"), ("1", "2", "PASSED"))
+OUTCOMES = (
+    ("+", "-", "refused by test_add.py::test_sums"),
+    (">", ">=", "the same object"),
+    ("a + b", "a +", "isn't compiled"),
+    ("1", "2", "PASSED"),
+)
 
 
 @pytest.fixture
@@ -107,7 +147,12 @@ def tree(tmp_path, monkeypatch):
     (tmp_path / "monitor/add.c").write_text(ADD)
     for words in ("init", "-q"), ("add", "."):
         subprocess.run(["git", *words], cwd=tmp_path, check=True)
-    for name, value in {"ROOT": str(tmp_path), "sources_of": lambda path: [path], "commands_of": lambda _: [TEST], "shipped": lambda: ["monitor/add.c"]}.items():
+    for name, value in {
+        "ROOT": str(tmp_path),
+        "sources_of": lambda path: [path],
+        "commands_of": lambda _: [TEST],
+        "shipped": lambda: ["monitor/add.c"],
+    }.items():
         monkeypatch.setattr(PLANT, name, value)
     return tmp_path / "monitor/add.c"
 
@@ -123,8 +168,12 @@ def test_what_comes_of_an_edit(tree, tmp_path_factory, old, new, outcome):
 
 # The last lines of a run, and the test that failed.
 SAID = (
-    ("FAILED a/b.py::test_c", "a/b.py::test_c"), ("ERROR a/b.py::test_c - no [1]", "a/b.py::test_c"), ("FAILED a/b.py::test_c[d = 1-e] - x == [2]", "a/b.py::test_c[d = 1-e]"),
-    ("FAILED a/b.py::test_c[d - [e]-f]", "a/b.py::test_c[d - [e]-f]"), ("ERROR a/b.py", "a/b.py"), ("make: *** [Makefile:9: test] Error 1", None),
+    ("FAILED a/b.py::test_c", "a/b.py::test_c"),
+    ("ERROR a/b.py::test_c - no [1]", "a/b.py::test_c"),
+    ("FAILED a/b.py::test_c[d = 1-e] - x == [2]", "a/b.py::test_c[d = 1-e]"),
+    ("FAILED a/b.py::test_c[d - [e]-f]", "a/b.py::test_c[d - [e]-f]"),
+    ("ERROR a/b.py", "a/b.py"),
+    ("make: *** [Makefile:9: test] Error 1", None),
 )
 
 
@@ -138,7 +187,8 @@ def test_what_is_said(tree, monkeypatch, capsys):
     status = PLANT.main(["--seed", "3", "--count", "9", "--jobs", "2"])
     *lines, last = capsys.readouterr().out.splitlines()
     assert status == 1 and sorted(lines) == [
-        "monitor/add.c:3: sign: + -> -: refused by test_add.py::test_sums", "monitor/add.c:4: constant: 1 -> 2: PASSED",
+        "monitor/add.c:3: sign: + -> -: refused by test_add.py::test_sums",
+        "monitor/add.c:4: constant: 1 -> 2: PASSED",
     ]
     # Whatever a sum is compared with, both results are the sum.
     assert last == "seed 3: 2 tried, 1 refused, 1 passed; 0 not compiled, 2 the same"

@@ -14,36 +14,102 @@ RULE = "rule " + "T" + "4"
 WRITER = "static void f(VbDevice *device)\n{\n    %s;\n}\n"
 # A topic of a crate, files of the crate, and what is found in them.
 OF_CRATES = (
-    ("leaks", {"crates/a/src/a.rt": "    mem::forget(frame);\n"}, ["crates/a/src/a.rt:1: mem::forget(frame);"]),
+    (
+        "leaks",
+        {"crates/a/src/a.rt": "    mem::forget(frame);\n"},
+        ["crates/a/src/a.rt:1: mem::forget(frame);"],
+    ),
     ("leaks", {"crates/a/src/a.rt": "    // never mem::forget(frame)\n"}, []),
     ("leaks", {"crates/a/src/tests/a.rt": "    mem::forget(frame);\n"}, []),
-    ("citations", {"crates/a/specs/A.antt": f"-- {RULE}\n"}, [f"crates/a/specs/A.antt:1: -- {RULE}"]),
+    (
+        "citations",
+        {"crates/a/specs/A.antt": f"-- {RULE}\n"},
+        [f"crates/a/specs/A.antt:1: -- {RULE}"],
+    ),
     ("citations", {"crates/a/README.md": "R, S and T\n"}, []),
     ("columns", {"crates/a/src/a.rt": "x" * 101}, ["crates/a/src/a.rt:1: 101 columns"]),
     ("columns", {"crates/a/src/a.rt": "x" * 100}, []),
     ("edits", {**CRATE, "crates/a/must-fail/f-gives_up.edit": EDIT}, []),
-    ("edits", {**CRATE, "crates/a/must-fail/g-gives_up.edit": EDIT},
-     ["crates/a/must-fail/g-gives_up.edit: its name begins with no function of the crate"]),
-    ("edits", {**CRATE, "crates/a/must-fail/f-gives_up.edit": EDIT.replace("true", "false")},
-     ["crates/a/must-fail/f-gives_up.edit: its old text occurs 0 times"]),
-    ("numbers", {"crates/a/specs/A.antt": "f = status ≡ 15\n"},
-     ["crates/a/specs/A.antt:1: READY_STATUS or FAILED_STATUS of vb_virtio: f = status ≡ 15"]),
+    (
+        "edits",
+        {**CRATE, "crates/a/must-fail/g-gives_up.edit": EDIT},
+        ["crates/a/must-fail/g-gives_up.edit: its name begins with no function of the crate"],
+    ),
+    (
+        "edits",
+        {**CRATE, "crates/a/must-fail/f-gives_up.edit": EDIT.replace("true", "false")},
+        ["crates/a/must-fail/f-gives_up.edit: its old text occurs 0 times"],
+    ),
+    (
+        "numbers",
+        {"crates/a/specs/A.antt": "f = status ≡ 15\n"},
+        ["crates/a/specs/A.antt:1: READY_STATUS or FAILED_STATUS of vb_virtio: f = status ≡ 15"],
+    ),
     ("numbers", {"crates/a/specs/A.antt": "f = status ≡ READY_STATUS\n"}, []),
 )
 
 # A topic of all files, these, and what is found in them.
 OF_ALL = (
-    ("strays", {"docs/examples/crates.txt": "a: b\n", "docs/a/src/lib.rt": "", "crates/a/data/b.antt": ""},
-     ["crates/a/data/b.antt", "docs/a/src/lib.rt", "docs/examples/crates.txt"]),
-    ("strays", {"crates.txt": "a: b\n", "crates/a/src/b/lib.rt": "", "crates/a/proofs/b/C.antt": "", "docs/a/src/lib.rt.in": ""}, []),
+    (
+        "strays",
+        {"docs/examples/crates.txt": "a: b\n", "docs/a/src/lib.rt": "", "crates/a/data/b.antt": ""},
+        ["crates/a/data/b.antt", "docs/a/src/lib.rt", "docs/examples/crates.txt"],
+    ),
+    (
+        "strays",
+        {
+            "crates.txt": "a: b\n",
+            "crates/a/src/b/lib.rt": "",
+            "crates/a/proofs/b/C.antt": "",
+            "docs/a/src/lib.rt.in": "",
+        },
+        [],
+    ),
     ("lengths", {"tools/lib/a.py": "\n" * 351}, ["tools/lib/a.py: 351 lines"]),
-    ("lengths", {"tools/lib/a.py": "\n" * 350, "crates/a/src/tests.rt": "\n" * 351, "monitor/tests/a/test_b.py": "\n" * 351}, []),
-    ("writes", {"monitor/backends/guest/a.c": WRITER % "device->status = 3"}, ["monitor/backends/guest/a.c:3: device->status = 3;"]),
-    ("writes", {"monitor/backends/guest/a.c": WRITER % "*device = other"}, ["monitor/backends/guest/a.c:3: *device = other;"]),
-    ("writes", {"monitor/backends/guest/a.c": WRITER % "memset(device, 0, 5)"}, ["monitor/backends/guest/a.c:3: memset(device, 0, 5);"]),
-    ("writes", {"monitor/backends/guest/a.c": WRITER % "return device->status == 3", "monitor/reference/a.h": WRITER % "device->status = 3"}, []),
-    ("floors", {"crates.txt": "# vb_model\nvb_ram: vb_virtio\nvb_c staticlib: vb_ram\nvb_guest: vb_ram vb_model\n"}, []),
-    ("floors", {"crates.txt": "vb_ram: vb_model\nvb_core: vb_ram\nvb_c staticlib: vb_core\n"}, ["crates.txt: vb_ram ships, and needs vb_model"]),
+    (
+        "lengths",
+        {
+            "tools/lib/a.py": "\n" * 350,
+            "crates/a/src/tests.rt": "\n" * 351,
+            "monitor/tests/a/test_b.py": "\n" * 351,
+        },
+        [],
+    ),
+    (
+        "writes",
+        {"monitor/backends/guest/a.c": WRITER % "device->status = 3"},
+        ["monitor/backends/guest/a.c:3: device->status = 3;"],
+    ),
+    (
+        "writes",
+        {"monitor/backends/guest/a.c": WRITER % "*device = other"},
+        ["monitor/backends/guest/a.c:3: *device = other;"],
+    ),
+    (
+        "writes",
+        {"monitor/backends/guest/a.c": WRITER % "memset(device, 0, 5)"},
+        ["monitor/backends/guest/a.c:3: memset(device, 0, 5);"],
+    ),
+    (
+        "writes",
+        {
+            "monitor/backends/guest/a.c": WRITER % "return device->status == 3",
+            "monitor/reference/a.h": WRITER % "device->status = 3",
+        },
+        [],
+    ),
+    (
+        "floors",
+        {
+            "crates.txt": "# vb_model\nvb_ram: vb_virtio\nvb_c staticlib: vb_ram\nvb_guest: vb_ram vb_model\n"
+        },
+        [],
+    ),
+    (
+        "floors",
+        {"crates.txt": "vb_ram: vb_model\nvb_core: vb_ram\nvb_c staticlib: vb_core\n"},
+        ["crates.txt: vb_ram ships, and needs vb_model"],
+    ),
 )
 
 
@@ -91,9 +157,14 @@ def test_a_file_that_clean_deletes(root):
     assert CHECK.cleaned() == ["monitor/made.h"]
 
 
-@pytest.mark.parametrize("script, wanted", (
-    ("true", []), ("echo 'a.h: differs'; exit 1", ["a.h: differs"]), ("exit 1", ["tools/list-codes failed"]),
-))
+@pytest.mark.parametrize(
+    "script, wanted",
+    (
+        ("true", []),
+        ("echo 'a.h: differs'; exit 1", ["a.h: differs"]),
+        ("exit 1", ["tools/list-codes failed"]),
+    ),
+)
 def test_what_another_tool_refuses(root, script, wanted):
     put(root, {"tools/list-codes": f"#!/bin/sh\n{script}\n"})
     os.chmod(root / "tools/list-codes", 0o755)

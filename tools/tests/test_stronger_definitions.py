@@ -46,13 +46,23 @@ pub fn runs_are_short()
 
 FRONT = "IsRun n (event ∷ events)"
 PLANTED = [
-    "6 IsRun: `IsRun n []`: it never holds", "6 IsRun: `IsRun n []`: not where n is (suc n)",
-    *(f"7 IsRun: `{FRONT}`: {it}" for it in (
-        "it never holds", "not where n is (suc n)", "not where event is (Begins a0)", "not where event is Ends", "not where event is Stops",
-        "not where events is (x ∷ xs)",
-    )),
-    "12 IsLast: `pub whole`: it never holds", "12 IsLast: `pub whole`: not where events is (x ∷ xs)",
-    "18 IsBegun: `IsBegun (Begins n)`: it never holds", "18 IsBegun: `IsBegun (Begins n)`: not where n is (suc n)",
+    "6 IsRun: `IsRun n []`: it never holds",
+    "6 IsRun: `IsRun n []`: not where n is (suc n)",
+    *(
+        f"7 IsRun: `{FRONT}`: {it}"
+        for it in (
+            "it never holds",
+            "not where n is (suc n)",
+            "not where event is (Begins a0)",
+            "not where event is Ends",
+            "not where event is Stops",
+            "not where events is (x ∷ xs)",
+        )
+    ),
+    "12 IsLast: `pub whole`: it never holds",
+    "12 IsLast: `pub whole`: not where events is (x ∷ xs)",
+    "18 IsBegun: `IsBegun (Begins n)`: it never holds",
+    "18 IsBegun: `IsBegun (Begins n)`: not where n is (suc n)",
 ]
 
 
@@ -71,13 +81,17 @@ def test_what_is_planted(planted):
 
 
 def test_a_clause_that_never_holds(planted):
-    assert planted[2].text == TREE["specs/Runs.antt"].replace(f"{FRONT} =\n    IsRun n events", f"{FRONT} = ⊥")
+    assert planted[2].text == TREE["specs/Runs.antt"].replace(
+        f"{FRONT} =\n    IsRun n events", f"{FRONT} = ⊥"
+    )
 
 
 def test_a_case_that_never_holds(planted):
     helper = "abbrev pub unless_planted : Event → Type 0 → Type 0\nunless_planted (Planted a0) said = ⊥\nunless_planted it said = said\n\n"
     wanted = TREE["specs/Runs.antt"].replace("pub IsRun :", f"{helper}pub IsRun :")
-    wanted = wanted.replace(f"{FRONT} =\n    IsRun n events", f"{FRONT} = unless_planted event (IsRun n events)")
+    wanted = wanted.replace(
+        f"{FRONT} =\n    IsRun n events", f"{FRONT} = unless_planted event (IsRun n events)"
+    )
     imported = "use Rattle.low.specs.Events.{Begins as Planted}\n"
     assert planted[4].text.replace(imported, "") == wanted
     assert planted[4].text.count(imported) == 1
@@ -88,12 +102,15 @@ def test_a_field_that_never_holds_in_a_case(planted):
     assert "unless_planted (x ∷ xs) said = ⊥\n" in planted[9].text
 
 
-@pytest.mark.parametrize("path, old, new, gone", (
-    ("src/laws.rt", "IsRun 1 events → ", "", "IsRun"),
-    ("src/laws.rt", "→ IsShort events }", "→ IsLast events }", ""),
-    ("src/run.rt", "{ IsShort events }", "{ (IsShort events) × (IsRun 0 events) }", "IsRun"),
-    ("src/run.rt", "{ IsShort events }", "{ IsLast events }", "IsLast"),
-))
+@pytest.mark.parametrize(
+    "path, old, new, gone",
+    (
+        ("src/laws.rt", "IsRun 1 events → ", "", "IsRun"),
+        ("src/laws.rt", "→ IsShort events }", "→ IsLast events }", ""),
+        ("src/run.rt", "{ IsShort events }", "{ (IsShort events) × (IsRun 0 events) }", "IsRun"),
+        ("src/run.rt", "{ IsShort events }", "{ IsLast events }", "IsLast"),
+    ),
+)
 def test_which_are_premises(tmp_path, planted, path, old, new, gone):
     names = {it.name for it in planted}
     file = tmp_path / "crates/low" / path

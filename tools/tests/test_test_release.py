@@ -40,8 +40,18 @@ def test_each_step_is_said_with_its_time(monkeypatch, capsys, debian, others):
     lines = capsys.readouterr().out.splitlines()
     said = [re.fullmatch(rf"Debian {debian}, (.*): (.*), 7 s", it) for it in lines]
     assert all(said), lines
-    first = [("a fresh root", "made"), ("another Debian's QEMU", others), ("the packages of 0.1.0", "made"), ("it boots", "passed"), ("apt-get update", "passed")]
+    first = [
+        ("a fresh root", "made"),
+        ("another Debian's QEMU", others),
+        ("the packages of 0.1.0", "made"),
+        ("it boots", "passed"),
+        ("apt-get update", "passed"),
+    ]
     assert [it.groups() for it in said[:5]] == first
     # What is looked at before and after isn't a step: whether there is a QEMU, and what is purged first.
-    steps = [it for it in system.asked if it not in ("dpkg --purge", "QEMU", "apt-get update", "lintian, bigvasta-host")]
+    steps = [
+        it
+        for it in system.asked
+        if it not in ("dpkg --purge", "QEMU", "apt-get update", "lintian, bigvasta-host")
+    ]
     assert [it[1] for it in said[6:-1]] == steps and len(steps) > 10, lines

@@ -10,7 +10,8 @@ import pytest
 from page_claims import ROOT
 
 TREE = {
-    "crates.txt": "low:\n", "HANDLES": "",
+    "crates.txt": "low:\n",
+    "HANDLES": "",
     "crates/low/src/lib.rt": "#![tactic(auto)]\n\npub mod even;\n",
     "crates/low/src/laws.rt": "pub fn few_are_small()\n    ensures { (n : ℕ) → IsSmall n → IsFew (n + n) n }\n{}\n",
     "crates/low/specs/Lib.antt": "pub mod Even\npub mod Small\n",
@@ -51,7 +52,9 @@ def weaken(tmp_path):
         (tmp_path / path).parent.mkdir(parents=True, exist_ok=True)
         (tmp_path / path).write_text(text, encoding="utf-8")
     for it in ("lib", "weaken-definitions"):
-        (shutil.copytree if it == "lib" else shutil.copy)(f"{ROOT}/tools/{it}", tmp_path / "tools" / it if it == "lib" else tmp_path / "tools")
+        (shutil.copytree if it == "lib" else shutil.copy)(
+            f"{ROOT}/tools/{it}", tmp_path / "tools" / it if it == "lib" else tmp_path / "tools"
+        )
     programs = tmp_path / "programs"
     programs.mkdir()
 
@@ -77,7 +80,11 @@ def weaken(tmp_path):
 
 
 EVEN, FEW, SMALL = "even : n ≡ half + half", "few : n ≤ 256", "IsSmall n = n ≤ 10"
-PLANTED = ["Even.antt:4 IsFew: even: it says nothing", "Even.antt:5 IsFew: few: it says nothing", "Small.antt:4 IsSmall: `IsSmall n`: it says nothing"]
+PLANTED = [
+    "Even.antt:4 IsFew: even: it says nothing",
+    "Even.antt:5 IsFew: few: it says nothing",
+    "Small.antt:4 IsSmall: `IsSmall n`: it says nothing",
+]
 
 
 def test_what_is_planted(weaken):
@@ -86,25 +93,40 @@ def test_what_is_planted(weaken):
 
 def test_all_are_refused(weaken):
     wanted = [f"refused {it}" for it in PLANTED]
-    assert weaken(demands=(EVEN, FEW, SMALL)) == (0, [*wanted, "weaken-definitions: 3 definitions, 3 tried, 0 got through"])
+    assert weaken(demands=(EVEN, FEW, SMALL)) == (
+        0,
+        [*wanted, "weaken-definitions: 3 definitions, 3 tried, 0 got through"],
+    )
 
 
 @pytest.mark.parametrize("number, missing", enumerate((EVEN, FEW, SMALL)))
 def test_one_gets_through(weaken, number, missing):
-    wanted = [f"{'THROUGH' if it == number else 'refused'} {planted}" for it, planted in enumerate(PLANTED)]
+    wanted = [
+        f"{'THROUGH' if it == number else 'refused'} {planted}"
+        for it, planted in enumerate(PLANTED)
+    ]
     demands = [it for it in (EVEN, FEW, SMALL) if it != missing]
-    assert weaken(demands=demands) == (1, [*wanted, "weaken-definitions: 3 definitions, 3 tried, 1 got through"])
+    assert weaken(demands=demands) == (
+        1,
+        [*wanted, "weaken-definitions: 3 definitions, 3 tried, 1 got through"],
+    )
 
 
 def test_the_whole_crate_refuses_what_no_fact_does(weaken):
     wanted = [f"refused {it}" for it in PLANTED]
     last = "weaken-definitions: 3 definitions, 3 tried, {} got through"
     assert weaken(demands=(EVEN, FEW), of_all=(SMALL,)) == (0, [*wanted, last.format(0)])
-    assert weaken("--facts", demands=(EVEN, FEW), of_all=(SMALL,)) == (1, [*wanted[:2], f"THROUGH {PLANTED[2]}", last.format(1)])
+    assert weaken("--facts", demands=(EVEN, FEW), of_all=(SMALL,)) == (
+        1,
+        [*wanted[:2], f"THROUGH {PLANTED[2]}", last.format(1)],
+    )
 
 
 def test_a_crate_that_is_not_proved_as_it_is(weaken):
-    assert weaken(demands=("nothing like it",)) == (1, ["weaken-definitions: low isn't proved as it is: Facts.antt:1:1: error: no"])
+    assert weaken(demands=("nothing like it",)) == (
+        1,
+        ["weaken-definitions: low isn't proved as it is: Facts.antt:1:1: error: no"],
+    )
 
 
 def test_other_definitions(weaken):
@@ -114,13 +136,19 @@ def test_other_definitions(weaken):
     assert (status, sorted(said)) == (0, few + small)
 
 
-STRONGER = [f"Small.antt:4 IsSmall: `IsSmall n`: {it}" for it in ("it never holds", "not where n is (suc n)")]
+STRONGER = [
+    f"Small.antt:4 IsSmall: `IsSmall n`: {it}"
+    for it in ("it never holds", "not where n is (suc n)")
+]
 
 
 def test_stronger_definitions(weaken):
     assert weaken("--stronger", "--list") == (0, STRONGER)
     wanted = [f"refused {it}" for it in STRONGER]
-    assert weaken("--stronger", objects=("eleven", "four")) == (0, [*wanted, "weaken-definitions: 2 definitions, 2 tried, 0 got through"])
+    assert weaken("--stronger", objects=("eleven", "four")) == (
+        0,
+        [*wanted, "weaken-definitions: 2 definitions, 2 tried, 0 got through"],
+    )
 
 
 @pytest.mark.parametrize("objects", ((), ("eleven",), ("neither",), ("one_less",)))

@@ -17,7 +17,12 @@ def ask(asked, request, fields, words):
 
 def run_add(asked):
     """Adds a guest, and prints where its client comes."""
-    ask(asked, "add", {"name": asked.name, **said(parse_terms(asked.words, TERMS))}, lambda it: it["guest"]["socket"])
+    ask(
+        asked,
+        "add",
+        {"name": asked.name, **said(parse_terms(asked.words, TERMS))},
+        lambda it: it["guest"]["socket"],
+    )
 
 
 def run_remove(asked):
@@ -34,16 +39,33 @@ def run_size(asked):
 def add(commands, common):
     """Adds the subcommands."""
     words = commands.add_parser(
-        "add", parents=[common], help="a guest may come; prints its socket",
+        "add",
+        parents=[common],
+        help="a guest may come; prints its socket",
         description="Lets a guest come, and prints the socket to which its VMM connects. bigvasta(1) says what each KEY agrees with it.",
     )
     words.add_argument("name", metavar="NAME")
     words.add_argument("words", metavar="KEY=VALUE", nargs="*", help=TERMS_HELP)
     words.set_defaults(run=run_add, changes=lambda asked: True)
-    words = commands.add_parser("remove", parents=[common], help="ends the service of a guest", description="Ends the service of a guest.")
+    words = commands.add_parser(
+        "remove",
+        parents=[common],
+        help="ends the service of a guest",
+        description="Ends the service of a guest.",
+    )
     words.add_argument("name", metavar="NAME")
     words.set_defaults(run=run_remove, changes=lambda asked: True)
-    for request, what in (("budget", "what all guests may hold together"), ("floor", "what each guest keeps free")):
-        words = commands.add_parser(request, parents=[common], help=f"{what}; and sets it", description=f"Prints {what}, or sets it.")
+    for request, what in (
+        ("budget", "what all guests may hold together"),
+        ("floor", "what each guest keeps free"),
+    ):
+        words = commands.add_parser(
+            request,
+            parents=[common],
+            help=f"{what}; and sets it",
+            description=f"Prints {what}, or sets it.",
+        )
         words.add_argument("size", metavar="SIZE", nargs="?", help="such as 480M")
-        words.set_defaults(run=run_size, request=request, changes=lambda asked: asked.size is not None)
+        words.set_defaults(
+            run=run_size, request=request, changes=lambda asked: asked.size is not None
+        )

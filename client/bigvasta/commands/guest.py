@@ -40,7 +40,9 @@ def run(asked):
 def add(commands, common):
     """Adds the subcommand."""
     words = commands.add_parser(
-        "guest", parents=[common], help="a guest; and changes what is agreed with it",
+        "guest",
+        parents=[common],
+        help="a guest; and changes what is agreed with it",
         description="Shows a guest. With words, changes what is agreed with it: all of them or, where the host refuses one, none.",
     )
     words.add_argument("name", metavar="NAME")

@@ -28,7 +28,13 @@ def event_line(event):
     clock = time.strftime("%H:%M:%S", time.localtime(event["time"]))
     if "decision" in event:
         return f"{clock} {decision_line(event['decision'])}"
-    words = [event["event"], event.get("guest"), event.get("state"), event.get("waits_for"), event.get("reason")]
+    words = [
+        event["event"],
+        event.get("guest"),
+        event.get("state"),
+        event.get("waits_for"),
+        event.get("reason"),
+    ]
     if "waits" in event:
         words.append(f"after {seconds(event['waits'])}")
     if "budget" in event:
@@ -53,7 +59,11 @@ def show(decision, is_json):
     if is_json:
         say(json.dumps(decision))
     else:
-        say(f"{decision['lost']} decisions aren't kept any longer" if "lost" in decision else decision_line(decision))
+        say(
+            f"{decision['lost']} decisions aren't kept any longer"
+            if "lost" in decision
+            else decision_line(decision)
+        )
 
 
 def show_past(path, asked):
@@ -82,9 +92,16 @@ def run(asked):
 def add(commands, common):
     """Adds the subcommand."""
     words = commands.add_parser(
-        "log", parents=[common], help="what the host decided, and why",
+        "log",
+        parents=[common],
+        help="what the host decided, and why",
         description="Prints what the host decided, and why: the targets in MiB, OLD>NEW where one changed.",
     )
-    words.add_argument("-f", "--follow", action="store_true", help="and what happens from now on: guests that come, go, wait, ..")
+    words.add_argument(
+        "-f",
+        "--follow",
+        action="store_true",
+        help="and what happens from now on: guests that come, go, wait, ..",
+    )
     words.add_argument("--since", type=int, default=0, metavar="N", help="from this decision on")
     words.set_defaults(run=run)

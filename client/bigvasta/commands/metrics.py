@@ -23,7 +23,9 @@ def load():
     try:
         import prometheus_client
     except ImportError:
-        raise Usage("metrics want prometheus_client: apt-get install python3-prometheus-client") from None
+        raise Usage(
+            "metrics want prometheus_client: apt-get install python3-prometheus-client"
+        ) from None
     from bigvasta.collector import Collector
 
     return prometheus_client, Collector
@@ -48,8 +50,14 @@ def run(asked):
 def add(commands, common):
     """Adds the subcommand."""
     words = commands.add_parser(
-        "metrics", parents=[common], help="the host's metrics, for Prometheus",
+        "metrics",
+        parents=[common],
+        help="the host's metrics, for Prometheus",
         description="Serves the metrics over HTTP at /metrics; without --listen prints them once. Wants python3-prometheus-client.",
     )
-    words.add_argument("--listen", metavar="HOST:PORT", help="such as localhost:9750; a HOST that is left out is localhost")
+    words.add_argument(
+        "--listen",
+        metavar="HOST:PORT",
+        help="such as localhost:9750; a HOST that is left out is localhost",
+    )
     words.set_defaults(run=run)

@@ -34,29 +34,92 @@ def run(asked):
 def add(commands, _):
     """Adds the subcommand, which asks no host."""
     words = commands.add_parser(
-        "plan", help="which budget a host needs, by a recorded day", epilog=EXAMPLE, formatter_class=argparse.RawDescriptionHelpFormatter,
+        "plan",
+        help="which budget a host needs, by a recorded day",
+        epilog=EXAMPLE,
+        formatter_class=argparse.RawDescriptionHelpFormatter,
         description="Replays a recorded day of a host's guests under budgets, through the library that decides for a host, and names the\n"
         "smallest budget at which guests wait no longer than they may. Wants python3-pandas; --draw wants python3-matplotlib.",
     )
-    words.add_argument("file", metavar="FILE", nargs="?", help="the recorded day, as CSV or as Prometheus hands it out")
-    words.add_argument("--budgets", metavar="A..B", help="the budgets to try, such as 2G..8G; by default those that may serve")
-    words.add_argument("--steps", type=int, default=STEPS, metavar="N", help=f"how many steps a range has ({STEPS})")
-    words.add_argument("--floor", default="12M", metavar="SIZE", help="what each guest keeps free (12M)")
-    words.add_argument("--wait-seconds", type=float, default=60.0, metavar="S", help="how long a guest may wait in a day (60)")
     words.add_argument(
-        "--check", action="store_true", help="replay what the guests of a strict host asked for and gave, and compare what they were granted"
+        "file",
+        metavar="FILE",
+        nargs="?",
+        help="the recorded day, as CSV or as Prometheus hands it out",
     )
-    words.add_argument("--json", action="store_true", help="print the plan as an object: bytes and seconds")
+    words.add_argument(
+        "--budgets",
+        metavar="A..B",
+        help="the budgets to try, such as 2G..8G; by default those that may serve",
+    )
+    words.add_argument(
+        "--steps",
+        type=int,
+        default=STEPS,
+        metavar="N",
+        help=f"how many steps a range has ({STEPS})",
+    )
+    words.add_argument(
+        "--floor", default="12M", metavar="SIZE", help="what each guest keeps free (12M)"
+    )
+    words.add_argument(
+        "--wait-seconds",
+        type=float,
+        default=60.0,
+        metavar="S",
+        help="how long a guest may wait in a day (60)",
+    )
+    words.add_argument(
+        "--check",
+        action="store_true",
+        help="replay what the guests of a strict host asked for and gave, and compare what they were granted",
+    )
+    words.add_argument(
+        "--json", action="store_true", help="print the plan as an object: bytes and seconds"
+    )
     words.add_argument("--draw", metavar="FILE", help="draw it, too, into a file such as day.svg")
     words.add_argument("--library", metavar="FILE", help="the library, libvb.so")
-    words.add_argument("--make", type=int, metavar="GUESTS", help="print a day of this number of guests; of a fleet: its guests, in place of FILE")
+    words.add_argument(
+        "--make",
+        type=int,
+        metavar="GUESTS",
+        help="print a day of this number of guests; of a fleet: its guests, in place of FILE",
+    )
     words.add_argument("--seed", type=int, default=1, metavar="N", help="which day is made (1)")
-    words.add_argument("--hours", type=float, default=24.0, metavar="H", help="how long the day is that is made (24)")
-    fleet = words.add_argument_group("a fleet, whose guests come to the first host that may still promise them their memory")
+    words.add_argument(
+        "--hours",
+        type=float,
+        default=24.0,
+        metavar="H",
+        help="how long the day is that is made (24)",
+    )
+    fleet = words.add_argument_group(
+        "a fleet, whose guests come to the first host that may still promise them their memory"
+    )
     fleet.add_argument("--fleet", type=int, metavar="HOSTS", help="how many hosts there are")
     fleet.add_argument("--budget", metavar="SIZE", help="the budget of each host")
-    fleet.add_argument("--promises", default=PROMISES, metavar="A..B", help=f"how many times a host may promise its budget, to try ({PROMISES})")
-    fleet.add_argument("--places", type=int, default=PLACES, metavar="N", help=f"how many guests a host has at most ({PLACES})")
-    fleet.add_argument("--processes", type=int, metavar="N", help="replay on this number of processors; by default on all")
-    fleet.add_argument("--scheduler", metavar="tcp://HOST:PORT", help="replay on the workers of a Dask scheduler; wants python3-distributed")
+    fleet.add_argument(
+        "--promises",
+        default=PROMISES,
+        metavar="A..B",
+        help=f"how many times a host may promise its budget, to try ({PROMISES})",
+    )
+    fleet.add_argument(
+        "--places",
+        type=int,
+        default=PLACES,
+        metavar="N",
+        help=f"how many guests a host has at most ({PLACES})",
+    )
+    fleet.add_argument(
+        "--processes",
+        type=int,
+        metavar="N",
+        help="replay on this number of processors; by default on all",
+    )
+    fleet.add_argument(
+        "--scheduler",
+        metavar="tcp://HOST:PORT",
+        help="replay on the workers of a Dask scheduler; wants python3-distributed",
+    )
     words.set_defaults(run=run)

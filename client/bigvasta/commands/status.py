@@ -12,7 +12,9 @@ COLUMNS = ("guest", "state", "memory", "held", "loan", "target", "balloon", "spa
 
 def row(guest):
     """Returns the columns of a guest."""
-    sizes = (mebibytes(guest[it]) for it in ("memory", "held", "loan", "target", "ballooned", "spare"))
+    sizes = (
+        mebibytes(guest[it]) for it in ("memory", "held", "loan", "target", "ballooned", "spare")
+    )
     return (guest["name"], guest["state"], *sizes, wait_of(guest))
 
 
@@ -30,7 +32,9 @@ def table(rows):
 def summary(host):
     """Returns the line about the host."""
     parts = [f"{it} {mebibytes(host[it])}" for it in ("budget", "held", "lent", "missing")]
-    counts = [f"{host['guests']} guests"] + [f"{host[it]} {it}" for it in ("waiting", "silent", "uncooperative") if host[it]]
+    counts = [f"{host['guests']} guests"] + [
+        f"{host[it]} {it}" for it in ("waiting", "silent", "uncooperative") if host[it]
+    ]
     return f"{', '.join(parts)} MiB; {', '.join(counts)}; version {host['version']}"
 
 
@@ -51,13 +55,22 @@ def run(asked):
     elif asked.names:
         say(*(it["name"] for it in answer["guests"]))
     else:
-        say(summary(answer["host"]), *table([COLUMNS, *map(row, answer["guests"])]), *others(answer["host"], answer["guests"]))
+        say(
+            summary(answer["host"]),
+            *table([COLUMNS, *map(row, answer["guests"])]),
+            *others(answer["host"], answer["guests"]),
+        )
 
 
 def add(commands, common):
     """Adds the subcommand."""
     words = commands.add_parser(
-        "status", parents=[common], help="the host and its guests, in MiB", description="Shows the host and its guests. Columns are in MiB.",
+        "status",
+        parents=[common],
+        help="the host and its guests, in MiB",
+        description="Shows the host and its guests. Columns are in MiB.",
     )
-    words.add_argument("--names", action="store_true", help="print the names of the guests alone, one a line")
+    words.add_argument(
+        "--names", action="store_true", help="print the names of the guests alone, one a line"
+    )
     words.set_defaults(run=run)

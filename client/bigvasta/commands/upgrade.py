@@ -37,7 +37,11 @@ def upgrade_host(path):
         before = host.ask("status")
         host.ask("upgrade")
         host.ends()
-    after = look(path, time.monotonic() + LIMIT, lambda answer: all(it["process"] for it in served(answer).values()))
+    after = look(
+        path,
+        time.monotonic() + LIMIT,
+        lambda answer: all(it["process"] for it in served(answer).values()),
+    )
     return before, after
 
 
@@ -50,7 +54,11 @@ def renew(path, guest):
                 host.ask("renew", name=name)
         except Refused:
             return None
-        answer = look(path, min(until, time.monotonic() + ASK_EVERY), lambda it: served(it).get(name, guest)["process"] not in (0, guest["process"]))
+        answer = look(
+            path,
+            min(until, time.monotonic() + ASK_EVERY),
+            lambda it: served(it).get(name, guest)["process"] not in (0, guest["process"]),
+        )
         now = served(answer).get(name)
     return now
 
@@ -82,7 +90,9 @@ def run(asked):
 def add(commands, common):
     """Adds the subcommand."""
     words = commands.add_parser(
-        "upgrade", parents=[common], help="the host and its guests' processes become the programs that are installed now",
+        "upgrade",
+        parents=[common],
+        help="the host and its guests' processes become the programs that are installed now",
         description="Has the host and its guests' processes become the programs that are installed now, while guests live on. Prints the versions "
         "before and after.",
     )

@@ -22,7 +22,11 @@ class Course(NamedTuple):
     def apart(self):
         """Returns how many looks the two are apart at most: neither grants a page earlier or later than the other by more."""
         looks = len(self.granted)
-        return next(it for it in range(looks + 1) if within(self.granted, self.replayed, it) and within(self.replayed, self.granted, it))
+        return next(
+            it
+            for it in range(looks + 1)
+            if within(self.granted, self.replayed, it) and within(self.replayed, self.granted, it)
+        )
 
 
 class Check(NamedTuple):
@@ -46,15 +50,27 @@ class Guest:
 
     def __init__(self, name, number, look):
         self.name, self.number, self.look = name, number, look
-        self.owes, self.asks, self.asked = 0, deque([look.asked] if look.asked else ()), look.granted
-        self.total, self.granted, self.replayed, self.waited, self.replay_waited = look.granted, [], [], 0.0, 0.0
+        self.owes, self.asks, self.asked = (
+            0,
+            deque([look.asked] if look.asked else ()),
+            look.granted,
+        )
+        self.total, self.granted, self.replayed, self.waited, self.replay_waited = (
+            look.granted,
+            [],
+            [],
+            0.0,
+            0.0,
+        )
 
     def follow(self, look, at):
         """Notes what has happened since the look before."""
         before, self.look = self.look, look
         given = (look.granted - before.granted) - (look.loan - before.loan)
         if look.granted < before.granted or given < 0:
-            raise Usage(f"{self.name} at {at:.12g}: its loan grows by more than it was granted: a guest that isn't strict can't be compared")
+            raise Usage(
+                f"{self.name} at {at:.12g}: its loan grows by more than it was granted: a guest that isn't strict can't be compared"
+            )
         self.owes += given
         done = max(look.granted - before.wanted(), 0)
         left = look.wanted() - before.wanted() - done
@@ -120,7 +136,11 @@ class Follower(Lender):
         """A guest asks for its next part, once it has got those before: one that the host has granted until now, or one that waits there, too; and for
         no more pages than these."""
         loan = self.loans[guest.number]
-        if loan.asked or not guest.asks or (not waits and guest.asked + guest.asks[0] > guest.look.granted):
+        if (
+            loan.asked
+            or not guest.asks
+            or (not waits and guest.asked + guest.asks[0] > guest.look.granted)
+        ):
             return False
         # What it gave between its asks may be wanted first.
         part = min(guest.asks[0], loan.pages - loan.lent, most)
@@ -163,13 +183,19 @@ class Follower(Lender):
 
     def rest(self, before, frames):
         """Has all be done that can be on these budgets, of the look before and of now: what the host has granted until now was asked for before what waits
-        there, and who has waited longest has asked first. How the host has parted what it granted isn't recorded: first it is what there is room for."""
+        there, and who has waited longest has asked first. How the host has parted what it granted isn't recorded: first it is what there is room for.
+        """
         guests = sorted(self.guests.values(), key=lambda it: -it.look.waiting)
         for waits, fits in ((False, True), (False, False), (True, False)):
             going = True
             while going:
                 going = any([self.give(it) for it in guests])
-                going |= any([self.ask(it, waits, self.room(frames) if fits else it.look.size) for it in guests])
+                going |= any(
+                    [
+                        self.ask(it, waits, self.room(frames) if fits else it.look.size)
+                        for it in guests
+                    ]
+                )
                 going |= not waits and before > frames and self.grant_before(before)
                 going |= self.grant(frames)
 
@@ -195,7 +221,10 @@ def check(library, moments):
         before = moment.frames
         follower.note(seconds)
         all_guests |= follower.guests
-    courses = [Course(it.name, it.granted, it.replayed, it.waited, it.replay_waited) for it in all_guests.values()]
+    courses = [
+        Course(it.name, it.granted, it.replayed, it.waited, it.replay_waited)
+        for it in all_guests.values()
+    ]
     return Check(min(steps, default=0), courses)
 
 
@@ -203,17 +232,30 @@ def lines(found):
     """Returns a line for each guest, and one that says whether the two agree."""
     yield f"{'guest':<16}{'granted':>9}{'replayed':>10}{'waited':>9}{'replayed':>10}{'apart':>8}"
     for it in found.courses:
-        granted, replayed = (f"{(course[-1] - course[0]) * PAGE / (1 << 20):.1f}" for course in (it.granted, it.replayed))
+        granted, replayed = (
+            f"{(course[-1] - course[0]) * PAGE / (1 << 20):.1f}"
+            for course in (it.granted, it.replayed)
+        )
         yield f"{it.name:<16}{granted:>9}{replayed:>10}{it.waited:>9.1f}{it.replay_waited:>10.1f}{it.apart() * found.look:>8.1f}"
-    verdict = "the replay grants the same" if found.agrees() else "the replay differs: it doesn't grant the same"
+    verdict = (
+        "the replay grants the same"
+        if found.agrees()
+        else "the replay differs: it doesn't grant the same"
+    )
     yield f"{verdict}, within {found.look:.3g} s, the time between two looks"
 
 
 def document(found):
     """Returns the same as an object: sizes in bytes, times in seconds."""
     guests = [
-        {"guest": it.name, "granted": (it.granted[-1] - it.granted[0]) * PAGE, "replayed": (it.replayed[-1] - it.replayed[0]) * PAGE,
-         "waited": it.waited, "replay_waited": it.replay_waited, "apart": it.apart() * found.look}
+        {
+            "guest": it.name,
+            "granted": (it.granted[-1] - it.granted[0]) * PAGE,
+            "replayed": (it.replayed[-1] - it.replayed[0]) * PAGE,
+            "waited": it.waited,
+            "replay_waited": it.replay_waited,
+            "apart": it.apart() * found.look,
+        }
         for it in found.courses
     ]
     return {"look": found.look, "agrees": found.agrees(), "guests": guests}

@@ -6,7 +6,20 @@ import os
 import re
 import sys
 
-from bigvasta.plan import checking, days, drawing, fleet, fleet_tables, lending, library, making, reading, runners, search, tables
+from bigvasta.plan import (
+    checking,
+    days,
+    drawing,
+    fleet,
+    fleet_tables,
+    lending,
+    library,
+    making,
+    reading,
+    runners,
+    search,
+    tables,
+)
 from bigvasta.plan.lender import Terms
 from bigvasta.sizes import PAGE, parse_size
 from bigvasta.statuses import DONE, REFUSED, Usage
@@ -28,7 +41,10 @@ def hundredths_of(text, name):
     """Returns a promise, such as 1.85, in hundredths of a budget."""
     found = re.fullmatch(r"(\d{1,3})(?:\.(\d{1,2}))?", text, re.ASCII)
     value = int(found[1]) * fleet.WHOLE + int((found[2] or "").ljust(2, "0")) if found else 0
-    demand(0 < value <= MOST_PROMISE * fleet.WHOLE, f"{name}: {text!r} isn't from 0.01 to {MOST_PROMISE}, with two digits after the point")
+    demand(
+        0 < value <= MOST_PROMISE * fleet.WHOLE,
+        f"{name}: {text!r} isn't from 0.01 to {MOST_PROMISE}, with two digits after the point",
+    )
     return value
 
 
@@ -72,15 +88,25 @@ def floor_of(asked):
 
 def plan_host(asked):
     """Returns the plan of a host."""
-    demand(not (asked.budget or asked.scheduler or asked.processes), "plan: --budget, --processes and --scheduler are for a --fleet")
-    floor, budgets = floor_of(asked), asked.budgets and range_of(asked.budgets, "--budgets", pages_of)
+    demand(
+        not (asked.budget or asked.scheduler or asked.processes),
+        "plan: --budget, --processes and --scheduler are for a --fleet",
+    )
+    floor, budgets = floor_of(asked), asked.budgets and range_of(
+        asked.budgets, "--budgets", pages_of
+    )
     day = reading.read(asked.file)
-    return search.plan(library.load(asked.library), day, floor, asked.wait_seconds, budgets, asked.steps)
+    return search.plan(
+        library.load(asked.library), day, floor, asked.wait_seconds, budgets, asked.steps
+    )
 
 
 def runner_of(asked):
     """Returns what runs the tasks of a fleet."""
-    demand(not (asked.scheduler and asked.processes), "plan: --processes are of this machine, and --scheduler has workers of its own")
+    demand(
+        not (asked.scheduler and asked.processes),
+        "plan: --processes are of this machine, and --scheduler has workers of its own",
+    )
     if asked.scheduler:
         return runners.Scheduler(asked.scheduler, sys.stderr)
     count = len(os.sched_getaffinity(0)) if asked.processes is None else asked.processes
@@ -90,11 +116,19 @@ def runner_of(asked):
 
 def fleet_of(asked):
     """Returns the hosts of a fleet, and the promises to try."""
-    demand(asked.budget is not None and asked.budgets is None, "plan: a fleet has a --budget, which each of its hosts has, and no --budgets")
+    demand(
+        asked.budget is not None and asked.budgets is None,
+        "plan: a fleet has a --budget, which each of its hosts has, and no --budgets",
+    )
     demand_number(asked.fleet, 1, MOST_HOSTS, "fleet", " hosts")
     demand_number(asked.places, 1, MOST_PLACES, "places")
-    frames, ends = pages_of(asked.budget, "--budget"), range_of(asked.promises, "--promises", hundredths_of)
-    demand(frames * ends[1] // fleet.WHOLE <= days.MOST_PAGES, f"--promises: {asked.promises} times {asked.budget} isn't below 16T")
+    frames, ends = pages_of(asked.budget, "--budget"), range_of(
+        asked.promises, "--promises", hundredths_of
+    )
+    demand(
+        frames * ends[1] // fleet.WHOLE <= days.MOST_PAGES,
+        f"--promises: {asked.promises} times {asked.budget} isn't below 16T",
+    )
     path = library.path_of(asked.library)
     library.load(path)
     return fleet.Fleet(asked.fleet, asked.places, path, Terms(frames, floor_of(asked))), ends
@@ -114,8 +148,19 @@ def plan_fleet(asked):
 
 def run_check(asked):
     """Prints how a replay of a strict host's day compares with what the host did; returns the exit status."""
-    others = (asked.make, asked.fleet, asked.budgets, asked.budget, asked.draw, asked.scheduler, asked.processes)
-    demand(asked.file is not None and all(it is None for it in others), "plan: --check wants a FILE alone, of which it takes the budget")
+    others = (
+        asked.make,
+        asked.fleet,
+        asked.budgets,
+        asked.budget,
+        asked.draw,
+        asked.scheduler,
+        asked.processes,
+    )
+    demand(
+        asked.file is not None and all(it is None for it in others),
+        "plan: --check wants a FILE alone, of which it takes the budget",
+    )
     found = checking.check(library.load(asked.library), lending.read_lending(asked.file))
     say(*([json.dumps(checking.document(found))] if asked.json else checking.lines(found)))
     return DONE if found.agrees() else REFUSED
@@ -125,10 +170,16 @@ def run(asked):
     """Prints the plan of a recorded day, or a day that is made; returns the exit status."""
     if asked.check:
         return run_check(asked)
-    demand((asked.file is None) != (asked.make is None), "plan: what is wanted is a FILE, or --make GUESTS")
+    demand(
+        (asked.file is None) != (asked.make is None),
+        "plan: what is wanted is a FILE, or --make GUESTS",
+    )
     if asked.make is not None and asked.fleet is None:
         return run_make(asked)
-    demand(math.isfinite(asked.wait_seconds) and asked.wait_seconds >= 0, f"--wait-seconds: {asked.wait_seconds} isn't from 0 on")
+    demand(
+        math.isfinite(asked.wait_seconds) and asked.wait_seconds >= 0,
+        f"--wait-seconds: {asked.wait_seconds} isn't from 0 on",
+    )
     demand_number(asked.steps, 1, MOST_STEPS, "steps")
     if asked.draw:
         drawing.load()

@@ -114,9 +114,13 @@ class Recording:
         name, seconds, pages = line.text("guest"), line.seconds(), line.memory()
         used = -(-used_by(line, pages * PAGE) // PAGE)
         if pages != self.pages.setdefault(name, pages):
-            line.refuse(f"size: {name} had {self.pages[name] * PAGE} bytes before, and {pages * PAGE} now")
+            line.refuse(
+                f"size: {name} had {self.pages[name] * PAGE} bytes before, and {pages * PAGE} now"
+            )
         if name in self.ends and seconds <= self.ends[name]:
-            line.refuse(f"seconds: {seconds:.12g} isn't after {self.ends[name]:.12g}, the time of {name} before")
+            line.refuse(
+                f"seconds: {seconds:.12g} isn't after {self.ends[name]:.12g}, the time of {name} before"
+            )
         add_use(self.uses.setdefault(name, []), seconds, used)
         self.ends[name], self.lines[name] = seconds, line
 
@@ -127,4 +131,6 @@ class Recording:
         for name, line in self.lines.items():
             if self.ends[name] == self.uses[name][0].seconds:
                 line.refuse(f"{name} has this row alone: a guest's last row says when it goes")
-        return day_of([Recorded(it, self.pages[it], tuple(self.uses[it]), self.ends[it]) for it in self.pages])
+        return day_of(
+            [Recorded(it, self.pages[it], tuple(self.uses[it]), self.ends[it]) for it in self.pages]
+        )

@@ -31,7 +31,11 @@ class Made(NamedTuple):
     def stays(self):
         """Returns when each guest is there, by its number."""
         made = {it: making.Made(self.seed, it, self.hours) for it in self.numbers}
-        return {number: Stay(it.size // making.PAGE, it.start, it.end) for number, it in made.items() if it.start < it.end}
+        return {
+            number: Stay(it.size // making.PAGE, it.start, it.end)
+            for number, it in made.items()
+            if it.start < it.end
+        }
 
     def part(self, numbers):
         """Returns some of them."""
@@ -115,11 +119,19 @@ def together(answers):
     """Returns the answer of hosts together: sums, and of what was worst the worst."""
     worst = max(answers, key=lambda it: it.worst_waited)
     return Answer(
-        sum(it.budget for it in answers), sum(it.promised for it in answers), sum(it.guests for it in answers),
-        math.fsum(it.present for it in answers), math.fsum(it.waited for it in answers),
-        tuple(itertools.chain.from_iterable(it.waits for it in answers)), worst.worst_guest, worst.worst_waited,
-        sum(it.shorts for it in answers), math.fsum(it.short for it in answers), max(it.lacked for it in answers),
-        sum(it.moved for it in answers), sum(it.decisions for it in answers),
+        sum(it.budget for it in answers),
+        sum(it.promised for it in answers),
+        sum(it.guests for it in answers),
+        math.fsum(it.present for it in answers),
+        math.fsum(it.waited for it in answers),
+        tuple(itertools.chain.from_iterable(it.waits for it in answers)),
+        worst.worst_guest,
+        worst.worst_waited,
+        sum(it.shorts for it in answers),
+        math.fsum(it.short for it in answers),
+        max(it.lacked for it in answers),
+        sum(it.moved for it in answers),
+        sum(it.decisions for it in answers),
     )
 
 
@@ -138,19 +150,32 @@ class Planner:
         """Returns the guests of each host by its number, in the order of the hosts, and those that find none."""
         fleet = self.fleet
         frames = fleet.terms.frames * hundredths // WHOLE
-        hosts, away = place(Promises(load(fleet.library), fleet.hosts, frames, fleet.places), self.stays)
+        hosts, away = place(
+            Promises(load(fleet.library), fleet.hosts, frames, fleet.places), self.stays
+        )
         if not hosts:
-            raise Usage(f"plan: no host may promise enough for any guest, by {hundredths / WHOLE:.2f} times the budget")
+            raise Usage(
+                f"plan: no host may promise enough for any guest, by {hundredths / WHOLE:.2f} times the budget"
+            )
         return dict(sorted(hosts.items())), away
 
     def try_all(self, promises):
         """Returns what the fleet says under each of these promises."""
         placed = [self.placed(it) for it in promises]
         keys = [(number, host) for number, (hosts, _) in enumerate(placed) for host in hosts]
-        tasks = (Task(__version__, self.fleet.library, self.fleet.terms, self.source.part(placed[number][0][host])) for number, host in keys)
+        tasks = (
+            Task(
+                __version__,
+                self.fleet.library,
+                self.fleet.terms,
+                self.source.part(placed[number][0][host]),
+            )
+            for number, host in keys
+        )
         answers = dict(zip(keys, self.runner.run_all(run_task, tasks)))
         return [
-            answer_of(promise, {host: answers[number, host] for host in hosts}, away) for number, (promise, (hosts, away)) in enumerate(zip(promises, placed))
+            answer_of(promise, {host: answers[number, host] for host in hosts}, away)
+            for number, (promise, (hosts, away)) in enumerate(zip(promises, placed))
         ]
 
 

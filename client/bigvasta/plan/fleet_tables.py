@@ -11,7 +11,12 @@ LEGEND = """promise: what a host may promise, by its budget; hosts: how many hav
 
 def row(answer):
     """Returns the columns of an answer."""
-    return f"{answer.promise():.2f}", str(len(answer.hosts)), str(answer.away), *tables.figures(answer.total)
+    return (
+        f"{answer.promise():.2f}",
+        str(len(answer.hosts)),
+        str(answer.away),
+        *tables.figures(answer.total),
+    )
 
 
 def conclusion(plan, limit):
@@ -29,19 +34,34 @@ def lines(plan, limit):
     budget = next(iter(first.hosts.values())).budget
     head = f"{first.total.guests + first.away} guests, hosts of {tables.in_mib(budget)} MiB"
     legend = [LEGEND.strip(), *tables.LEGEND.splitlines()[1:]]
-    return [head, "", *tables.table([COLUMNS, *map(row, plan.answers)]), "", *legend, "", conclusion(plan, limit)]
+    return [
+        head,
+        "",
+        *tables.table([COLUMNS, *map(row, plan.answers)]),
+        "",
+        *legend,
+        "",
+        conclusion(plan, limit),
+    ]
 
 
 def plain(answer):
     """Returns an answer as an object: of all hosts together, and of each."""
     hosts = [{"host": number + 1, **tables.plain(it)} for number, it in answer.hosts.items()]
-    return {"promise": answer.promise(), "away": answer.away, "together": tables.plain(answer.total), "hosts": hosts}
+    return {
+        "promise": answer.promise(),
+        "away": answer.away,
+        "together": tables.plain(answer.total),
+        "hosts": hosts,
+    }
 
 
 def document(plan, limit):
     """Returns the plan as an object."""
     budget = next(iter(plan.answers[0].hosts.values())).budget
     return {
-        "wait_seconds": limit, "budget": budget * PAGE, "promise": None if plan.best is None else plan.best.promise(),
+        "wait_seconds": limit,
+        "budget": budget * PAGE,
+        "promise": None if plan.best is None else plan.best.promise(),
         "replays": [plain(it) for it in plan.answers],
     }

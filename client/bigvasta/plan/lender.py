@@ -30,15 +30,32 @@ class Lender:
 
     def __init__(self, library, sizes, terms):
         count = len(sizes)
-        self.library, self.sizes, self.terms, self.count, self.now = library, sizes, terms, count, 0.0
+        self.library, self.sizes, self.terms, self.count, self.now = (
+            library,
+            sizes,
+            terms,
+            count,
+            0.0,
+        )
         self.loans, self.needs, self.spares = (Loan * count)(), (Need * count)(), (Need * count)()
         self.targets = (ctypes.c_uint32 * count)()
         # The same memory as columns.
         table = numpy.ctypeslib.as_array(self.loans)
-        self.asked, self.ballooned, self.wanted = table["asked"], table["ballooned"], numpy.ctypeslib.as_array(self.targets)
+        self.asked, self.ballooned, self.wanted = (
+            table["asked"],
+            table["ballooned"],
+            numpy.ctypeslib.as_array(self.targets),
+        )
         self.low = terms.floor - terms.floor // SLACK_PART
         self.used, self.runs, self.since = [0] * count, numpy.zeros(count, bool), [None] * count
-        self.waits, self.waited, self.moved, self.decisions, self.missing, self.anew = [], [0.0] * count, 0, 0, 0, True
+        self.waits, self.waited, self.moved, self.decisions, self.missing, self.anew = (
+            [],
+            [0.0] * count,
+            0,
+            0,
+            0,
+            True,
+        )
 
     # ---- the library's calls
 
@@ -128,17 +145,23 @@ class Lender:
     def decide(self):
         """Keeps the targets that serve, or has them decided anew."""
         library, frames, count = self.library, self.terms.frames, self.count
-        if not self.anew and not library.vb_needs_targets(self.targets, count, self.needs, count, frames):
+        if not self.anew and not library.vb_needs_targets(
+            self.targets, count, self.needs, count, frames
+        ):
             self.missing = 0
             return
-        answer = library.vb_loan_targets(frames, self.loans, count, self.spares, count, self.targets, count)
+        answer = library.vb_loan_targets(
+            frames, self.loans, count, self.spares, count, self.targets, count
+        )
         self.missing = answer.missing if answer.code == SHORT else 0
         self.decisions += 1
         self.anew = False
 
     def movers(self):
         """Returns the guests that run, wait for nothing, and don't have what the host wants in their balloons."""
-        return (self.runs & (self.asked == 0) & (self.ballooned != self.wanted)).nonzero()[0].tolist()
+        return (
+            (self.runs & (self.asked == 0) & (self.ballooned != self.wanted)).nonzero()[0].tolist()
+        )
 
     def room(self):
         """Returns how many frames nobody has or asks for."""
@@ -146,7 +169,8 @@ class Lender:
 
     def obey(self, guest):
         """A guest gives pages up to its target. One that uses more than it has asks for that, and waits for it. Any other takes what is above its
-        target as far as there is room, so that it doesn't wait. Returns whether it does one of these."""
+        target as far as there is room, so that it doesn't wait. Returns whether it does one of these.
+        """
         loan = self.loans[guest]
         missing = self.targets[guest] - loan.ballooned
         if missing > 0:

@@ -51,9 +51,15 @@ def pages(line, cell):
 
 def look_of(line):
     """Returns what a row says of a guest."""
-    look = Look(line.memory(), *(pages(line, it) for it in ("loan", "asked", "granted")), line.seconds("waiting"))
+    look = Look(
+        line.memory(),
+        *(pages(line, it) for it in ("loan", "asked", "granted")),
+        line.seconds("waiting"),
+    )
     if look.loan + look.asked > look.size:
-        line.refuse(f"loan and asked are {look.loan + look.asked} pages, and the guest has {look.size}")
+        line.refuse(
+            f"loan and asked are {look.loan + look.asked} pages, and the guest has {look.size}"
+        )
     return look
 
 
@@ -88,7 +94,9 @@ def read_lending(path):
     if len(hosts) != 1:
         raise Usage(f"{path}: there are {len(hosts)} hosts, and one is wanted")
     budgets = table_of(path, "the host", series.pop(Key(hosts[0], ""), {}), BUDGET)
-    found = {at: Moment(at, pages(line, "budget"), {}) for at, line in rows_of(path, "the host", budgets)}
+    found = {
+        at: Moment(at, pages(line, "budget"), {}) for at, line in rows_of(path, "the host", budgets)
+    }
     for name, table in tables_of(path, series, MEMORY | LENDING).items():
         add_guest(found, name, rows_of(path, name, table))
     return [found[it] for it in sorted(found)]
@@ -105,7 +113,9 @@ def own_of(path):
         seconds = after.seconds - moment.seconds
         present += seconds * len(moment.guests)
         waited += seconds * sum(it.asked > 0 for it in moment.guests.values())
-    budget, promised = moments[0].frames, max(sum(look.size for look in it.guests.values()) for it in moments)
+    budget, promised = moments[0].frames, max(
+        sum(look.size for look in it.guests.values()) for it in moments
+    )
     if present == 0 or any(it.frames != budget for it in moments):
         return None
     return Own(budget, promised / budget, waited / present * DAY)

@@ -15,7 +15,10 @@ HERE = os.path.dirname(os.path.realpath(__file__))
 # Where the library is looked for: where a package puts it, and where `make -C monitor shared` does.
 PLACES = (
     "/usr/lib/bigvasta/libvb.so",
-    *(os.path.normpath(os.path.join(HERE, "../../../monitor/out", it, "libvb.so")) for it in ("library", "reference")),
+    *(
+        os.path.normpath(os.path.join(HERE, "../../../monitor/out", it, "libvb.so"))
+        for it in ("library", "reference")
+    ),
 )
 
 
@@ -23,8 +26,14 @@ class Loan(ctypes.Structure):
     """VbLoan."""
 
     _fields_ = [
-        ("pages", ctypes.c_uint32), ("ballooned", ctypes.c_uint32), ("lent", ctypes.c_uint32), ("asked", ctypes.c_uint32),
-        ("turn", ctypes.c_uint64), ("spare", ctypes.c_uint32), ("uncounted", ctypes.c_uint16), ("line", ctypes.c_uint16),
+        ("pages", ctypes.c_uint32),
+        ("ballooned", ctypes.c_uint32),
+        ("lent", ctypes.c_uint32),
+        ("asked", ctypes.c_uint32),
+        ("turn", ctypes.c_uint64),
+        ("spare", ctypes.c_uint32),
+        ("uncounted", ctypes.c_uint16),
+        ("line", ctypes.c_uint16),
     ]
 
 
@@ -70,7 +79,9 @@ def path_of(path=None):
     """Returns the file of the library: this one, or the first place that has one."""
     paths = [path] if path else [it for it in PLACES if os.path.exists(it)]
     if not paths:
-        raise Usage("plan: the library isn't there: make -C monitor shared makes it, --library FILE names another")
+        raise Usage(
+            "plan: the library isn't there: make -C monitor shared makes it, --library FILE names another"
+        )
     return os.path.abspath(paths[0])
 
 

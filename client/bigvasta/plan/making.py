@@ -93,7 +93,11 @@ def guests(count, seed, hours):
 
 def make(count, seed, hours):
     """Yields the lines of a day of this number of guests, as a recording has them."""
-    rows = [(at, guest.name, guest.size, available) for _, guest in guests(count, seed, hours) for at, available in guest.rows()]
+    rows = [
+        (at, guest.name, guest.size, available)
+        for _, guest in guests(count, seed, hours)
+        for at, available in guest.rows()
+    ]
     rows.sort(key=lambda it: it[0])
     yield "guest,seconds,size,available"
     for at, name, size, available in rows:

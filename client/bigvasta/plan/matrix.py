@@ -25,7 +25,8 @@ class Key(NamedTuple):
 
 def used_by_metrics(line, size):
     """Returns the bytes that a guest uses: those that are neither available nor in its balloon. These two are looked at one after the
-    other, so they may be more than its memory together. A page at least is used: metrics don't say that a guest is reset."""
+    other, so they may be more than its memory together. A page at least is used: metrics don't say that a guest is reset.
+    """
     return max(size - line.part("available", size) - line.part("ballooned", size), PAGE)
 
 
@@ -36,9 +37,13 @@ def result_of(path, text):
     except (ValueError, RecursionError) as fault:
         raise Usage(f"{path}: this is no JSON: {fault}") from None
     if answer.get("status") != "success":
-        raise Usage(f"{path}: this is no answer of success: {answer.get('error', 'it has no status')}")
+        raise Usage(
+            f"{path}: this is no answer of success: {answer.get('error', 'it has no status')}"
+        )
     data = answer.get("data")
-    kind, series = (data.get(it) if isinstance(data, dict) else None for it in ("resultType", "result"))
+    kind, series = (
+        data.get(it) if isinstance(data, dict) else None for it in ("resultType", "result")
+    )
     if kind != "matrix" or not isinstance(series, list):
         raise Usage(f"{path}: the result is {kind!r}, and no matrix, which query_range answers")
     return series
@@ -47,14 +52,20 @@ def result_of(path, text):
 def point(place, found):
     """Returns the moment and the text of a value."""
     pair = found if isinstance(found, list) and len(found) == 2 else (None, None)
-    if type(pair[0]) not in (int, float) or not math.isfinite(pair[0]) or not isinstance(pair[1], str):
+    if (
+        type(pair[0]) not in (int, float)
+        or not math.isfinite(pair[0])
+        or not isinstance(pair[1], str)
+    ):
         raise Usage(f"{place}: {json.dumps(found)} is no pair of a time and a value")
     return float(pair[0]), pair[1]
 
 
 def labels_of(place, found):
     """Returns the metric of a series, whose it is, and its values."""
-    labels, values = (found.get(it) if isinstance(found, dict) else None for it in ("metric", "values"))
+    labels, values = (
+        found.get(it) if isinstance(found, dict) else None for it in ("metric", "values")
+    )
     if not isinstance(labels, dict) or not isinstance(values, list) or not values:
         raise Usage(f"{place} has no labels, or no values")
     metric, guest = labels.get("__name__"), labels.get("guest")
@@ -108,7 +119,9 @@ def demand_steps(path, tables):
     step = min((it.min() for it in apart.values() if len(it)), default=0)
     for name, its in apart.items():
         for at, seconds in its[its > step + TOLERANCE].items():
-            raise Usage(f"{path}: {name} at {at:.12g}: there is a hole of {seconds:.12g} s before it, where values are {step:.12g} s apart")
+            raise Usage(
+                f"{path}: {name} at {at:.12g}: there is a hole of {seconds:.12g} s before it, where values are {step:.12g} s apart"
+            )
 
 
 def tables_of(path, series, cells):
@@ -128,5 +141,8 @@ def read_matrix(path, text):
     recording = Recording()
     for name, table in tables_of(path, series_by_key(path, result_of(path, text)), CELLS).items():
         for at, cells in zip(table.index, table.to_dict("records")):
-            recording.add(Line(f"{path}: {name} at {at:.12g}", {"guest": name, "seconds": str(at), **cells}), used_by_metrics)
+            recording.add(
+                Line(f"{path}: {name} at {at:.12g}", {"guest": name, "seconds": str(at), **cells}),
+                used_by_metrics,
+            )
     return recording

@@ -38,7 +38,9 @@ class Promises:
             return None
         library, loans, place = self.library, self.loans[host], self.vacant[host][-1]
         if library.vb_loan_arrive(loans, self.places, place, pages, 0) != OK:
-            raise Unclear(f"plan: the library lets no guest of {pages} pages come to a vacant place")
+            raise Unclear(
+                f"plan: the library lets no guest of {pages} pages come to a vacant place"
+            )
         if library.vb_loan_grant(self.frames, loans, self.places).code != OK:
             library.vb_loan_leave(loans, self.places, place)
             return None
@@ -66,7 +68,11 @@ class Promises:
 def place(promises, stays):
     """Returns the numbers of the guests of each host, and of those that find none. At a moment guests go before others come."""
     hosts, away, here = {}, [], {}
-    events = [(at, comes, number) for number, it in stays.items() for at, comes in ((it.start, 1), (it.end, 0))]
+    events = [
+        (at, comes, number)
+        for number, it in stays.items()
+        for at, comes in ((it.start, 1), (it.end, 0))
+    ]
     for _, comes, number in sorted(events):
         if not comes:
             if number in here:

@@ -37,7 +37,9 @@ def measure_of(place, names):
             raise Usage(f"{place}: there is no column {name}")
     measures = [it for it in MEASURES if it in names]
     if len(measures) != 1:
-        raise Usage(f"{place}: there has to be a column used or a column available, and not {'both' if measures else 'neither'}")
+        raise Usage(
+            f"{place}: there has to be a column used or a column available, and not {'both' if measures else 'neither'}"
+        )
     return MEASURES[measures[0]]
 
 
@@ -61,7 +63,9 @@ def read(path):
     try:
         with open(path, encoding="utf-8", newline="") as file:
             text = file.read()
-        recording = read_matrix(path, text) if text.lstrip().startswith("{") else read_table(path, text)
+        recording = (
+            read_matrix(path, text) if text.lstrip().startswith("{") else read_table(path, text)
+        )
     except OSError as fault:
         raise Usage(f"{path}: {fault.strerror or fault}") from None
     except (csv.Error, UnicodeDecodeError) as fault:

@@ -15,18 +15,18 @@ class Answer(NamedTuple):
     """What a replay under a budget says. Sizes are in pages, times in seconds."""
 
     budget: int
-    promised: int           # the sizes of the guests that were there at once, at most
+    promised: int  # the sizes of the guests that were there at once, at most
     guests: int
-    present: float          # how long guests were there, of all guests together
-    waited: float           # how long asks waited of that
-    waits: tuple            # of each ask, how long it waited: 0 where it was granted at once
-    worst_guest: str        # who waited longest in all, and how long
+    present: float  # how long guests were there, of all guests together
+    waited: float  # how long asks waited of that
+    waits: tuple  # of each ask, how long it waited: 0 where it was granted at once
+    worst_guest: str  # who waited longest in all, and how long
     worst_waited: float
-    shorts: int             # how often the host became short
-    short: float            # how long it was short
-    lacked: int             # by how much it was short at worst
-    moved: int              # into balloons and out of them
-    decisions: int          # how often targets were decided
+    shorts: int  # how often the host became short
+    short: float  # how long it was short
+    lacked: int  # by how much it was short at worst
+    moved: int  # into balloons and out of them
+    decisions: int  # how often targets were decided
 
     def share(self):
         """Returns which part of the time asks waited."""
@@ -46,7 +46,9 @@ class Answer(NamedTuple):
 
     def quantile(self, share):
         """Returns how long this share of the asks waited at most (nearest rank)."""
-        return float(numpy.quantile(self.waits, share, method="inverted_cdf")) if self.waits else 0.0
+        return (
+            float(numpy.quantile(self.waits, share, method="inverted_cdf")) if self.waits else 0.0
+        )
 
 
 class Shortness:
@@ -91,7 +93,9 @@ def happen(lender, events):
 
 def promised_by(day):
     """Returns the most pages that guests have together which are there at once."""
-    steps = sorted((at, sign * it.pages) for it in day.guests for at, sign in ((it.start, 1), (it.end, -1)))
+    steps = sorted(
+        (at, sign * it.pages) for it in day.guests for at, sign in ((it.start, 1), (it.end, -1))
+    )
     now = most = 0
     for _, pages in steps:
         now += pages
@@ -101,7 +105,11 @@ def promised_by(day):
 
 def replay(library, day, terms, looks=()):
     """Returns what a day says under these terms. At `looks` nothing happens: a host that looks there decides the same."""
-    lender, short, events = Lender(library, [it.pages for it in day.guests], terms), Shortness(), events_of(day)
+    lender, short, events = (
+        Lender(library, [it.pages for it in day.guests], terms),
+        Shortness(),
+        events_of(day),
+    )
     lender.now = day.start
     lender.begin([(guest, pages) for kind, guest, pages in events.get(day.start, ()) if kind == 1])
     for at in sorted({*events, *(it for it in looks if day.start <= it <= day.end)}):
@@ -113,6 +121,17 @@ def replay(library, day, terms, looks=()):
         short.see(lender)
     worst = max(range(len(day.guests)), key=lender.waited.__getitem__)
     return Answer(
-        terms.frames, promised_by(day), len(day.guests), math.fsum(it.end - it.start for it in day.guests), math.fsum(lender.waits),
-        tuple(lender.waits), day.guests[worst].name, lender.waited[worst], short.times, short.seconds, short.worst, lender.moved, lender.decisions,
+        terms.frames,
+        promised_by(day),
+        len(day.guests),
+        math.fsum(it.end - it.start for it in day.guests),
+        math.fsum(lender.waits),
+        tuple(lender.waits),
+        day.guests[worst].name,
+        lender.waited[worst],
+        short.times,
+        short.seconds,
+        short.worst,
+        lender.moved,
+        lender.decisions,
     )

@@ -42,7 +42,11 @@ class Processes:
         """Returns the answers of all tasks."""
         pool = concurrent.futures.ProcessPoolExecutor(self.count, initializer=end_with_parent)
         try:
-            return gather({pool.submit(run, it): number for number, it in enumerate(tasks)}, concurrent.futures.as_completed, self.out)
+            return gather(
+                {pool.submit(run, it): number for number, it in enumerate(tasks)},
+                concurrent.futures.as_completed,
+                self.out,
+            )
         except concurrent.futures.BrokenExecutor:
             raise Unclear("plan: one of its processes was ended, as by a lack of memory") from None
         finally:
@@ -69,7 +73,9 @@ class Scheduler:
         try:
             client = self.dask.Client(self.address, timeout=ANSWER_LIMIT)
         except (OSError, TimeoutError):
-            raise Away(f"--scheduler: who answers at {self.address} doesn't speak as a Dask scheduler, in {ANSWER_LIMIT} s") from None
+            raise Away(
+                f"--scheduler: who answers at {self.address} doesn't speak as a Dask scheduler, in {ANSWER_LIMIT} s"
+            ) from None
         try:
             client.wait_for_workers(1, timeout=WORKER_LIMIT)
         except (OSError, TimeoutError):
@@ -81,11 +87,19 @@ class Scheduler:
         """Returns the answers of all tasks."""
         with self.connect() as client:
             try:
-                return gather({client.submit(run, it, pure=False): number for number, it in enumerate(tasks)}, self.dask.as_completed, self.out)
+                return gather(
+                    {client.submit(run, it, pure=False): number for number, it in enumerate(tasks)},
+                    self.dask.as_completed,
+                    self.out,
+                )
             except ModuleNotFoundError as fault:
-                raise Usage(f"--scheduler: a worker lacks the module {fault.name}: it needs the packages that this machine has") from None
+                raise Usage(
+                    f"--scheduler: a worker lacks the module {fault.name}: it needs the packages that this machine has"
+                ) from None
             except self.dask.KilledWorker:
-                raise Unclear("--scheduler: the workers that had a task were killed, one after the other") from None
+                raise Unclear(
+                    "--scheduler: the workers that had a task were killed, one after the other"
+                ) from None
             except (OSError, TimeoutError, concurrent.futures.CancelledError):
                 raise Away(f"--scheduler: {self.address} went away") from None
 

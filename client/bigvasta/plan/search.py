@@ -18,7 +18,9 @@ class Plan(NamedTuple):
 
 def spread(first, last, steps):
     """Returns whole numbers at equal distances, the ends among them."""
-    return sorted({first + (last - first) * it // steps for it in range(steps + 1)}, reverse=last < first)
+    return sorted(
+        {first + (last - first) * it // steps for it in range(steps + 1)}, reverse=last < first
+    )
 
 
 def tightest(answers, limit):
@@ -48,4 +50,6 @@ def plan(library, day, floor, limit, budgets, steps):
     """Tries the budgets of a range; without one those that may serve."""
     promised = promised_by(day)
     ends = budgets or (max(promised // LEAST_PART, 1), promised)
-    return search(lambda frames: [replay(library, day, Terms(it, floor)) for it in frames], ends, steps, limit)
+    return search(
+        lambda frames: [replay(library, day, Terms(it, floor)) for it in frames], ends, steps, limit
+    )

@@ -19,8 +19,13 @@ def in_mib(pages):
 def figures(answer):
     """Returns the columns of what was waited, lacked and moved."""
     return (
-        f"{100 * answer.share():.3f}%", f"{answer.wait_a_day():.1f}", *(f"{answer.quantile(it):.1f}" for it in (0.5, 0.99, 1)),
-        str(answer.shorts), f"{answer.short:.0f}", in_mib(answer.lacked), in_mib(answer.moved),
+        f"{100 * answer.share():.3f}%",
+        f"{answer.wait_a_day():.1f}",
+        *(f"{answer.quantile(it):.1f}" for it in (0.5, 0.99, 1)),
+        str(answer.shorts),
+        f"{answer.short:.0f}",
+        in_mib(answer.lacked),
+        in_mib(answer.moved),
     )
 
 
@@ -53,26 +58,52 @@ def lines(plan, limit, own):
     first = plan.answers[0]
     head = f"{first.guests} guests, {in_mib(first.promised)} MiB promised at once, {first.present / 3600:.1f} hours of guests"
     last = [*([own_line(own)] if own else []), conclusion(plan, limit)]
-    return [head, "", *table([COLUMNS, *map(row, plan.answers)]), "", *LEGEND.splitlines(), "", *last]
+    return [
+        head,
+        "",
+        *table([COLUMNS, *map(row, plan.answers)]),
+        "",
+        *LEGEND.splitlines(),
+        "",
+        *last,
+    ]
 
 
 def plain(answer):
     """Returns an answer as an object: sizes in bytes, times in seconds."""
     return {
-        "budget": answer.budget * PAGE, "promised": answer.promised * PAGE, "guests": answer.guests, "present": answer.present,
-        "waited": answer.waited, "waited_share": answer.share(), "waited_a_day": answer.wait_a_day(),
-        "asks": len(answer.waits), "asks_that_waited": sum(it > 0 for it in answer.waits),
-        "median": answer.quantile(0.5), "p99": answer.quantile(0.99), "worst": answer.quantile(1),
-        "worst_guest": answer.worst_guest, "worst_guest_waited": answer.worst_waited,
-        "shorts": answer.shorts, "short_seconds": answer.short, "short_by": answer.lacked * PAGE,
-        "moved": answer.moved * PAGE, "decisions": answer.decisions,
+        "budget": answer.budget * PAGE,
+        "promised": answer.promised * PAGE,
+        "guests": answer.guests,
+        "present": answer.present,
+        "waited": answer.waited,
+        "waited_share": answer.share(),
+        "waited_a_day": answer.wait_a_day(),
+        "asks": len(answer.waits),
+        "asks_that_waited": sum(it > 0 for it in answer.waits),
+        "median": answer.quantile(0.5),
+        "p99": answer.quantile(0.99),
+        "worst": answer.quantile(1),
+        "worst_guest": answer.worst_guest,
+        "worst_guest_waited": answer.worst_waited,
+        "shorts": answer.shorts,
+        "short_seconds": answer.short,
+        "short_by": answer.lacked * PAGE,
+        "moved": answer.moved * PAGE,
+        "decisions": answer.decisions,
     }
 
 
 def document(plan, limit, own):
     """Returns the plan as an object."""
-    host = own and {"budget": own.budget * PAGE, "promise": own.promise, "waited_a_day": own.wait_a_day}
+    host = own and {
+        "budget": own.budget * PAGE,
+        "promise": own.promise,
+        "waited_a_day": own.wait_a_day,
+    }
     return {
-        "wait_seconds": limit, "budget": None if plan.best is None else plan.best.budget * PAGE, "host": host,
+        "wait_seconds": limit,
+        "budget": None if plan.best is None else plan.best.budget * PAGE,
+        "host": host,
         "replays": [plain(it) for it in plan.answers],
     }

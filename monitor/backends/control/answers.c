@@ -27,37 +27,46 @@ static json_t *answer_terms(const struct guest_terms *terms)
 {
     char words[MOST_LIMIT_WORDS];
     const char *its = terms->limit.kind == LIMIT_NONE ? NULL : limit_words(&terms->limit, words);
-    return json_pack("{s:o, s:o, s:o, s:b, s:o, s:s?}", "least", part_bytes(terms->least), "most", limit(terms->most), "priority",
-                     count(terms->priority), "strict", terms->strict, "overhead", part_bytes(terms->overhead), "limit", its);
+    return json_pack("{s:o, s:o, s:o, s:b, s:o, s:s?}", "least", part_bytes(terms->least), "most",
+                     limit(terms->most), "priority", count(terms->priority), "strict",
+                     terms->strict, "overhead", part_bytes(terms->overhead), "limit", its);
 }
 
 static json_t *answer_guest_counters(const struct guest_view *guest)
 {
-    return json_pack("{s:o, s:o, s:o, s:o, s:o, s:o, s:o, s:o, s:o, s:o, s:o, s:o, s:o, s:o}", "inflated", part_bytes(guest->inflated),
-                     "deflated", part_bytes(guest->deflated), "granted", part_bytes(guest->granted), "reported", part_bytes(guest->reported), "taken", part_bytes(guest->taken),
-                     "discarded", part_bytes(guest->discarded), "skipped", part_bytes(guest->skipped), "statistics", count(guest->statistics),
-                     "told", count(guest->told), "chains", count(guest->chains), "kicks", count(guest->kicks), "clients",
-                     count(guest->clients), "lost", count(guest->lost), "limit_failures", count(guest->limit_failures));
+    return json_pack("{s:o, s:o, s:o, s:o, s:o, s:o, s:o, s:o, s:o, s:o, s:o, s:o, s:o, s:o}",
+                     "inflated", part_bytes(guest->inflated), "deflated",
+                     part_bytes(guest->deflated), "granted", part_bytes(guest->granted), "reported",
+                     part_bytes(guest->reported), "taken", part_bytes(guest->taken), "discarded",
+                     part_bytes(guest->discarded), "skipped", part_bytes(guest->skipped),
+                     "statistics", count(guest->statistics), "told", count(guest->told), "chains",
+                     count(guest->chains), "kicks", count(guest->kicks), "clients",
+                     count(guest->clients), "lost", count(guest->lost), "limit_failures",
+                     count(guest->limit_failures));
 }
 
 static json_t *answer_guest_memory(const struct guest_view *guest)
 {
-    return json_pack("{s:o, s:o, s:o, s:o, s:o, s:o, s:o, s:o, s:o, s:o, s:o, s:o}", "memory", part_bytes(guest->pages), "held",
-                     kibibytes(guest->held_kib), "loan", part_bytes(guest->loan), "asked", part_bytes(guest->asked), "limit", part_bytes(guest->limit), "excess",
-                     part_bytes(guest->excess), "target",
-                     part_bytes(guest->target), "ballooned", part_bytes(guest->ballooned), "actual", part_bytes(guest->actual), "free",
-                     part_bytes(guest->free), "available", part_bytes(guest->available), "spare", part_bytes(guest->spare));
+    return json_pack("{s:o, s:o, s:o, s:o, s:o, s:o, s:o, s:o, s:o, s:o, s:o, s:o}", "memory",
+                     part_bytes(guest->pages), "held", kibibytes(guest->held_kib), "loan",
+                     part_bytes(guest->loan), "asked", part_bytes(guest->asked), "limit",
+                     part_bytes(guest->limit), "excess", part_bytes(guest->excess), "target",
+                     part_bytes(guest->target), "ballooned", part_bytes(guest->ballooned), "actual",
+                     part_bytes(guest->actual), "free", part_bytes(guest->free), "available",
+                     part_bytes(guest->available), "spare", part_bytes(guest->spare));
 }
 
 json_t *answer_guest(const struct host *host, unsigned number)
 {
     struct guest_view guest;
     host_see_guest(host, number, &guest);
-    json_t *answer = json_pack("{s:s, s:s, s:i, s:s, s:s, s:s, s:f, s:b, s:b, s:b, s:f, s:f, s:o, s:o}", "name", guest.name, "socket",
-                               guest.path, "process", (int)guest.process, "version", guest.version, "state", guest_state_word(guest.state), "waits_for",
-                               guest_wait_word(guest.waits_for), "waits", guest.waits, "answers", guest.answers, "reports",
-                               guest.reports, "cooperates", guest.cooperates, "silent", guest.silent, "process_silent",
-                               guest.process_silent, "terms", answer_terms(&guest.terms), "counters", answer_guest_counters(&guest));
+    json_t *answer = json_pack(
+        "{s:s, s:s, s:i, s:s, s:s, s:s, s:f, s:b, s:b, s:b, s:f, s:f, s:o, s:o}", "name",
+        guest.name, "socket", guest.path, "process", (int)guest.process, "version", guest.version,
+        "state", guest_state_word(guest.state), "waits_for", guest_wait_word(guest.waits_for),
+        "waits", guest.waits, "answers", guest.answers, "reports", guest.reports, "cooperates",
+        guest.cooperates, "silent", guest.silent, "process_silent", guest.process_silent, "terms",
+        answer_terms(&guest.terms), "counters", answer_guest_counters(&guest));
     return part_update(answer, answer_guest_memory(&guest));
 }
 
@@ -73,16 +82,19 @@ json_t *answer_guests(const struct host *host)
 
 static json_t *answer_host_counters(const struct host_view *view)
 {
-    return json_pack("{s:o, s:o, s:o, s:o, s:o, s:o, s:o, s:o, s:o, s:o}", "looks", count(view->looks), "above", count(view->above),
-                     "peak", kibibytes(view->peak_kib), "decisions", count(view->decisions), "changed", count(view->changed),
-                     "shorts", count(view->shorts), "admitted", count(view->admitted), "refused", count(view->refused), "gone",
+    return json_pack("{s:o, s:o, s:o, s:o, s:o, s:o, s:o, s:o, s:o, s:o}", "looks",
+                     count(view->looks), "above", count(view->above), "peak",
+                     kibibytes(view->peak_kib), "decisions", count(view->decisions), "changed",
+                     count(view->changed), "shorts", count(view->shorts), "admitted",
+                     count(view->admitted), "refused", count(view->refused), "gone",
                      count(view->gone), "dropped", count(view->dropped));
 }
 
 static json_t *answer_control_counters(const struct control_counters *its)
 {
-    return json_pack("{s:o, s:o, s:o, s:o, s:o, s:o}", "clients", count(its->clients), "accepted", count(its->accepted), "dropped",
-                     count(its->dropped), "turned_away", count(its->turned_away), "requests", count(its->requests), "refused",
+    return json_pack("{s:o, s:o, s:o, s:o, s:o, s:o}", "clients", count(its->clients), "accepted",
+                     count(its->accepted), "dropped", count(its->dropped), "turned_away",
+                     count(its->turned_away), "requests", count(its->requests), "refused",
                      count(its->refused));
 }
 
@@ -105,31 +117,40 @@ static json_t *answer_measures(void)
         gone = part_set(gone, gone_reason_word(i), count(its->gone[i]));
     for (unsigned i = WAS_GRANTED + 1; i < WAIT_ENDS; i++)
         ungranted = part_set(ungranted, wait_end_word(i), count(its->ungranted[i]));
-    return json_pack("{s:o, s:o, s:o, s:o, s:o, s:f, s:o}", "waits", answer_durations(&its->waits), "ungranted", ungranted, "decisions",
-                     answer_durations(&its->decisions), "turns", answer_durations(&its->turns), "processor", answer_durations(&its->processor), "above", its->above, "gone", gone);
+    return json_pack("{s:o, s:o, s:o, s:o, s:o, s:f, s:o}", "waits", answer_durations(&its->waits),
+                     "ungranted", ungranted, "decisions", answer_durations(&its->decisions),
+                     "turns", answer_durations(&its->turns), "processor",
+                     answer_durations(&its->processor), "above", its->above, "gone", gone);
 }
 
 json_t *answer_host(const struct control *control, const struct host *host)
 {
     struct host_view view;
     host_see(host, &view);
-    return json_pack("{s:s, s:s, s:i, s:o, s:o, s:o, s:o, s:o, s:o, s:i, s:i, s:i, s:b, s:f, s:o, s:o, s:o, s:o}", "version", VB_VERSION,
-                     "folder", view.folder, "guests", (int)view.guests, "budget", part_bytes(view.budget), "floor", part_bytes(view.floor),
-                     "step", count(view.step), "held", kibibytes(view.held_kib), "lent", part_bytes(view.lent), "missing",
-                     part_bytes(view.short_by), "waiting", (int)view.waiting, "silent", (int)view.silent, "uncooperative",
-                     (int)view.uncooperative, "strict", view.strict, "period", (double)view.period / 1000, "counters",
-                     answer_host_counters(&view), "control", answer_control_counters(&control->sockets[MAY_CHANGE].counters), "status",
-                     answer_control_counters(&control->sockets[MAY_LOOK].counters), "measures", answer_measures());
+    return json_pack("{s:s, s:s, s:i, s:o, s:o, s:o, s:o, s:o, s:o, s:i, s:i, s:i, s:b, s:f, s:o, "
+                     "s:o, s:o, s:o}",
+                     "version", VB_VERSION, "folder", view.folder, "guests", (int)view.guests,
+                     "budget", part_bytes(view.budget), "floor", part_bytes(view.floor), "step",
+                     count(view.step), "held", kibibytes(view.held_kib), "lent",
+                     part_bytes(view.lent), "missing", part_bytes(view.short_by), "waiting",
+                     (int)view.waiting, "silent", (int)view.silent, "uncooperative",
+                     (int)view.uncooperative, "strict", view.strict, "period",
+                     (double)view.period / 1000, "counters", answer_host_counters(&view), "control",
+                     answer_control_counters(&control->sockets[MAY_CHANGE].counters), "status",
+                     answer_control_counters(&control->sockets[MAY_LOOK].counters), "measures",
+                     answer_measures());
 }
 
 json_t *answer_log(const struct host *host, uint64_t since, uint64_t limit)
 {
     struct host_view view;
     host_see(host, &view);
-    uint64_t kept = journal_begin(host), next = since > kept ? since : kept, lost = since < kept ? kept - since : 0;
+    uint64_t kept = journal_begin(host), next = since > kept ? since : kept,
+             lost = since < kept ? kept - since : 0;
     json_t *decisions = json_array();
     for (; decisions && next < view.decisions && json_array_size(decisions) < limit; next++)
         decisions = part_append(decisions, answer_decision(host, next));
     next = next < view.decisions ? next : view.decisions;
-    return json_pack("{s:b, s:o, s:o, s:o}", "ok", 1, "decisions", decisions, "next", count(next), "lost", count(lost));
+    return json_pack("{s:b, s:o, s:o, s:o}", "ok", 1, "decisions", decisions, "next", count(next),
+                     "lost", count(lost));
 }

@@ -1,4 +1,5 @@
-/* What the host has, as JSON: memory in bytes, time in seconds. Each is NULL where there is no memory for it. */
+/* What the host has, as JSON: memory in bytes, time in seconds. Each is NULL where there is no
+ * memory for it. */
 #ifndef CONTROL_ANSWERS_H
 #define CONTROL_ANSWERS_H
 #include "control.h"
@@ -14,8 +15,8 @@ json_t *answer_guest(const struct host *host, unsigned number);
 /* All guests, in their order. */
 json_t *answer_guests(const struct host *host);
 
-/* Decisions from this number on, at most `limit`: `decisions`; `next`, where to go on; `lost`, how many of them aren't kept any
- * longer. */
+/* Decisions from this number on, at most `limit`: `decisions`; `next`, where to go on; `lost`, how
+ * many of them aren't kept any longer. */
 json_t *answer_log(const struct host *host, uint64_t since, uint64_t limit);
 
 /* The decision of this number; NULL where it isn't kept. */

@@ -87,7 +87,8 @@ static void put(struct control_client *client, const char *bytes, size_t length)
 
 char *client_text(const json_t *object, const char *rest, size_t *length)
 {
-    char *text = object ? json_dumps(object, JSON_COMPACT | JSON_REAL_PRECISION(MOST_DIGITS)) : NULL;
+    char *text =
+        object ? json_dumps(object, JSON_COMPACT | JSON_REAL_PRECISION(MOST_DIGITS)) : NULL;
     size_t own = text ? strlen(text) : 0, more = rest ? strlen(rest) : 0;
     char *line = text ? realloc(text, own + more + 1) : NULL;
     if (!line) {

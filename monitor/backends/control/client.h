@@ -9,15 +9,16 @@ struct control_client {
     int socket;
     enum control_rights rights; /* those of the socket at which it came */
     char request[MOST_REQUEST];
-    size_t came;                /* bytes of requests that came and aren't served */
-    char *unread;               /* what the client hasn't read, or NULL */
+    size_t came;  /* bytes of requests that came and aren't served */
+    char *unread; /* what the client hasn't read, or NULL */
     size_t unread_bytes, unread_room;
-    uint32_t waits_for;         /* the events of its socket that are waited for */
-    const char *rest;           /* fields of its answer after those of an object, as text without the first brace; NULL: none */
-    bool follows;               /* it has asked for events */
-    bool ends;                  /* nothing more is read of it; what came is answered yet */
-    bool overrun;               /* it left more unread than there is room for */
-    bool gone;                  /* it can't be sent anything any longer */
+    uint32_t waits_for; /* the events of its socket that are waited for */
+    const char *rest;   /* fields of its answer after those of an object, as text without the first
+                           brace; NULL: none */
+    bool follows;       /* it has asked for events */
+    bool ends;          /* nothing more is read of it; what came is answered yet */
+    bool overrun;       /* it left more unread than there is room for */
+    bool gone;          /* it can't be sent anything any longer */
 };
 
 /* A client with this file, which is its own from now on; NULL where there is no memory. */
@@ -26,10 +27,12 @@ struct control_client *client_new(int socket, enum control_rights rights);
 /* Closes its file, and frees it. */
 void client_free(struct control_client *client);
 
-/* An object as a line, with the fields after its own, which may be NULL; its bytes in `*length`. NULL where there is no memory. */
+/* An object as a line, with the fields after its own, which may be NULL; its bytes in `*length`.
+ * NULL where there is no memory. */
 char *client_text(const json_t *object, const char *rest, size_t *length);
 
-/* Sends a line, as far as the client reads; what is left is kept for it. NULL: there was no memory for it. */
+/* Sends a line, as far as the client reads; what is left is kept for it. NULL: there was no memory
+ * for it. */
 void client_send_text(struct control_client *client, const char *text, size_t length);
 
 /* Sends an object as a line, with the rest of its answer. Takes the object, which may be NULL. */
@@ -44,7 +47,8 @@ bool client_is_served(const struct control_client *client);
 /* Reads what has come; at its end nothing more is read. */
 void client_read(struct control_client *client);
 
-/* The next whole line without its end, or NULL; `*length` are its bytes. It stays until client_next_line. */
+/* The next whole line without its end, or NULL; `*length` are its bytes. It stays until
+ * client_next_line. */
 const char *client_line(const struct control_client *client, size_t *length);
 void client_next_line(struct control_client *client);
 

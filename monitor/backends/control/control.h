@@ -1,5 +1,5 @@
-/* The control socket of a host, and the one that only shows it: any number of clients, a JSON object a line both ways, and nobody is
- * waited for. docs/CONTROL.md is the protocol. */
+/* The control socket of a host, and the one that only shows it: any number of clients, a JSON
+ * object a line both ways, and nobody is waited for. docs/CONTROL.md is the protocol. */
 #ifndef CONTROL_H
 #define CONTROL_H
 #include <stdbool.h>
@@ -8,26 +8,32 @@
 
 struct host;
 
-/* The version of the protocol; the most bytes of a request with its end of line, and of what a client hasn't read; the most clients of
- * a socket. */
-enum { CONTROL_VERSION = 1, MOST_REQUEST = 4096, MOST_UNREAD = 256 << 10, MOST_CONTROL_CLIENTS = 256 };
+/* The version of the protocol; the most bytes of a request with its end of line, and of what a
+ * client hasn't read; the most clients of a socket. */
+enum {
+    CONTROL_VERSION = 1,
+    MOST_REQUEST = 4096,
+    MOST_UNREAD = 256 << 10,
+    MOST_CONTROL_CLIENTS = 256
+};
 
-/* Seconds of a processor's, after which no more requests are answered in a turn, and no more events told. */
+/* Seconds of a processor's, after which no more requests are answered in a turn, and no more events
+ * told. */
 #define CONTROL_SECONDS 0.001
 
 /* What the clients of a socket may do: change the host, and look at it; or look alone. */
 enum control_rights { MAY_CHANGE, MAY_LOOK, CONTROL_SOCKETS };
 
 struct control_options {
-    const char *path;           /* of the socket */
+    const char *path; /* of the socket */
     mode_t mode;
-    gid_t group;                /* (gid_t)-1: the group of the process */
-    int listener;               /* a socket that listens there already; -1: none */
-    bool stays;                 /* the socket is for another process once this one has ended */
+    gid_t group;  /* (gid_t)-1: the group of the process */
+    int listener; /* a socket that listens there already; -1: none */
+    bool stays;   /* the socket is for another process once this one has ended */
 };
 
 struct control_counters {
-    uint64_t clients;           /* that are connected now */
+    uint64_t clients; /* that are connected now */
     uint64_t accepted;
     uint64_t dropped;           /* clients whose answers or events they left unread */
     uint64_t turned_away;       /* clients that came as one too many */
@@ -39,27 +45,27 @@ struct control_client;
 /* One of the sockets, with its clients. */
 struct control_socket {
     enum control_rights rights;
-    int listener, waits;        /* waits: that of all sockets; -1: none */
+    int listener, waits; /* waits: that of all sockets; -1: none */
     const struct control_options *options;
     struct control_client *clients[MOST_CONTROL_CLIENTS];
     struct control_counters counters;
-    bool rests;                 /* no file was left for a client that came: none is taken until the next look */
+    bool rests; /* no file was left for a client that came: none is taken until the next look */
 };
 
 /* The fields of a status, as they were made last. */
 struct made_status {
-    char *text;                 /* NULL: they weren't made yet */
-    double paid_until;          /* when making them will have taken no more than its part of the time */
-    bool is_old;                /* a client has asked for a change since */
+    char *text;        /* NULL: they weren't made yet */
+    double paid_until; /* when making them will have taken no more than its part of the time */
+    bool is_old;       /* a client has asked for a change since */
 };
 
 struct control {
-    int waits;                  /* an epoll file, which is ready once there is something to serve; -1: none */
+    int waits; /* an epoll file, which is ready once there is something to serve; -1: none */
     struct control_socket sockets[CONTROL_SOCKETS];
-    struct events *events;      /* what the followers know */
-    bool is_behind;             /* they are still to be told of something that the last look has found */
+    struct events *events; /* what the followers know */
+    bool is_behind;        /* they are still to be told of something that the last look has found */
     struct made_status status;
-    bool has_acted;             /* in this turn a client that may change the host was answered */
+    bool has_acted; /* in this turn a client that may change the host was answered */
 };
 
 /* The word for a socket by what its clients may do: control or status. */
@@ -74,8 +80,8 @@ bool control_open(struct control *control, const struct control_options options[
 /* Drops all clients, and removes the sockets. */
 void control_close(struct control *control);
 
-/* Takes clients that wait, and serves requests, one of each client in turn, until a call's processor time is spent or a request may
- * have changed the host. */
+/* Takes clients that wait, and serves requests, one of each client in turn, until a call's
+ * processor time is spent or a request may have changed the host. */
 void control_serve(struct control *control, struct host *host);
 
 /* Once in each turn of the host's loop: tells followers what has happened since the last call. */

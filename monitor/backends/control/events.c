@@ -23,15 +23,15 @@ struct seen {
     enum guest_state state;
     enum guest_wait waits_for;
     double waits;
-    uint64_t ended;             /* how many of its waits had ended */
+    uint64_t ended; /* how many of its waits had ended */
     bool cooperates, answers;
-    bool here;                  /* the host still has it */
+    bool here; /* the host still has it */
 };
 
 struct events {
     uint64_t next, decisions;
     uint32_t budget;
-    unsigned next_guest;        /* at which the next look begins */
+    unsigned next_guest; /* at which the next look begins */
     unsigned count;
     struct seen seen[MOST_SEEN];
 };
@@ -68,11 +68,13 @@ static void tell_clients(const struct control_socket *its, const char *line, siz
             client_send_text(its->clients[i], line, length);
 }
 
-/* Tells each follower of an event, with more fields, which it takes. Where there is no line of them, the followers are dropped. */
+/* Tells each follower of an event, with more fields, which it takes. Where there is no line of
+ * them, the followers are dropped. */
 static void tell_more(struct control *control, const char *event, const char *guest, json_t *more)
 {
-    json_t *line = json_pack("{s:i, s:s, s:I, s:f, s:s*}", "version", CONTROL_VERSION, "event", event, "number",
-                             (json_int_t)control->events->next++, "time", seconds_now(), "guest", guest);
+    json_t *line = json_pack("{s:i, s:s, s:I, s:f, s:s*}", "version", CONTROL_VERSION, "event",
+                             event, "number", (json_int_t)control->events->next++, "time",
+                             seconds_now(), "guest", guest);
     line = part_update(line, more);
     size_t length = 0;
     char *text = client_text(line, NULL, &length);
@@ -103,38 +105,48 @@ static struct seen *seen_or_new(struct control *control, const struct guest_view
     if (seen || events->count == MOST_SEEN)
         return seen;
     seen = &events->seen[events->count++];
-    *seen = (struct seen){.state = GUEST_ABSENT, .waits_for = WAITS_FOR_NOTHING, .cooperates = true};
+    *seen =
+        (struct seen){.state = GUEST_ABSENT, .waits_for = WAITS_FOR_NOTHING, .cooperates = true};
     snprintf(seen->name, sizeof seen->name, "%s", guest->name);
     tell(control, "added", guest->name);
     return seen;
 }
 
-static void tell_state(struct control *control, const struct seen *seen, const struct guest_view *guest)
+static void tell_state(struct control *control, const struct seen *seen,
+                       const struct guest_view *guest)
 {
     bool was_here = seen->state != GUEST_ABSENT, is_here = guest->state != GUEST_ABSENT;
     if (was_here != is_here)
         tell(control, is_here ? "arrived" : "gone", guest->name);
     if (is_here && guest->state != seen->state)
-        tell_more(control, "state", guest->name, json_pack("{s:s}", "state", guest_state_word(guest->state)));
+        tell_more(control, "state", guest->name,
+                  json_pack("{s:s}", "state", guest_state_word(guest->state)));
 }
 
-/* Tells how the wait has ended of which was told that it began. Where the guest has ended none since, another one has its name now. */
-static void tell_end_of_wait(struct control *control, const struct seen *seen, enum guest_wait now, const struct ended_wait *ended)
+/* Tells how the wait has ended of which was told that it began. Where the guest has ended none
+ * since, another one has its name now. */
+static void tell_end_of_wait(struct control *control, const struct seen *seen, enum guest_wait now,
+                             const struct ended_wait *ended)
 {
     bool has_ended = ended->number > seen->ended;
     if (seen->waits_for == WAITS_FOR_NOTHING || (!has_ended && now == seen->waits_for))
         return;
     tell_more(control, wait_end_word(has_ended ? ended->how : WAS_WITHDRAWN), seen->name,
-              json_pack("{s:s, s:f}", "waits_for", guest_wait_word(seen->waits_for), "waits", has_ended ? ended->seconds : seen->waits));
+              json_pack("{s:s, s:f}", "waits_for", guest_wait_word(seen->waits_for), "waits",
+                        has_ended ? ended->seconds : seen->waits));
 }
 
-static void tell_wait(struct control *control, const struct seen *seen, const struct guest_view *guest)
+static void tell_wait(struct control *control, const struct seen *seen,
+                      const struct guest_view *guest)
 {
-    if (guest->waits_for != WAITS_FOR_NOTHING && (guest->ended.number != seen->ended || guest->waits_for != seen->waits_for))
-        tell_more(control, "waits", guest->name, json_pack("{s:s}", "waits_for", guest_wait_word(guest->waits_for)));
+    if (guest->waits_for != WAITS_FOR_NOTHING &&
+        (guest->ended.number != seen->ended || guest->waits_for != seen->waits_for))
+        tell_more(control, "waits", guest->name,
+                  json_pack("{s:s}", "waits_for", guest_wait_word(guest->waits_for)));
 }
 
-static void tell_manners(struct control *control, const struct seen *seen, const struct guest_view *guest)
+static void tell_manners(struct control *control, const struct seen *seen,
+                         const struct guest_view *guest)
 {
     if (seen->cooperates && !guest->cooperates)
         tell(control, "uncooperative", guest->name);
@@ -188,7 +200,8 @@ static bool may_tell(const struct look *look)
 }
 
 /* Looks at guests, from the one at which the last look has stopped; the others are still there. */
-static void look_at_guests(struct control *control, const struct host *host, const struct look *look, unsigned count)
+static void look_at_guests(struct control *control, const struct host *host,
+                           const struct look *look, unsigned count)
 {
     unsigned *next = &look->events->next_guest;
     for (unsigned i = 0; i < count; i++) {
@@ -204,14 +217,18 @@ static void look_at_guests(struct control *control, const struct host *host, con
     }
 }
 
-/* Tells decisions once all guests were looked at, and those that are next wait for the next look. */
-static void tell_decisions(struct control *control, const struct host *host, const struct look *look, uint64_t end)
+/* Tells decisions once all guests were looked at, and those that are next wait for the next
+  * look. */
+static void tell_decisions(struct control *control, const struct host *host,
+                           const struct look *look, uint64_t end)
 {
     struct events *events = control->events;
     uint64_t kept = journal_begin(host);
     events->decisions = events->decisions < kept ? kept : events->decisions;
-    for (unsigned i = 0; i < MOST_DECISIONS_OF_LOOK && events->decisions < end && may_tell(look); i++)
-        tell_more(control, "decision", NULL, json_pack("{s:o}", "decision", answer_decision(host, events->decisions++)));
+    for (unsigned i = 0; i < MOST_DECISIONS_OF_LOOK && events->decisions < end && may_tell(look);
+         i++)
+        tell_more(control, "decision", NULL,
+                  json_pack("{s:o}", "decision", answer_decision(host, events->decisions++)));
 }
 
 void events_look(struct control *control, const struct host *host)

@@ -27,18 +27,21 @@ static json_t *unknown_field(const json_t *request, const struct field *fields)
 {
     const char *name;
     json_t *value;
-    json_object_foreach((json_t *)request, name, value) {
+    json_object_foreach((json_t *)request, name, value)
+    {
         if (!is_known(name, fields))
             return request_refusal("unknown-field", name, "this request has no such field");
     }
     return NULL;
 }
 
-/* Whether a number is that of whole pages, as many as 32 bits count but the last number, which says that there is no limit. */
+/* Whether a number is that of whole pages, as many as 32 bits count but the last number, which says
+ * that there is no limit. */
 static bool is_pages(const json_t *value)
 {
     json_int_t bytes = json_integer_value(value);
-    return json_is_integer(value) && bytes >= 0 && bytes % PAGE_BYTES == 0 && bytes / PAGE_BYTES < UINT32_MAX;
+    return json_is_integer(value) && bytes >= 0 && bytes % PAGE_BYTES == 0 &&
+           bytes / PAGE_BYTES < UINT32_MAX;
 }
 
 /* Why a value is no limit of the kernel's; NULL: it is one. */
@@ -53,7 +56,8 @@ static const char *kernel_limit_fault(const json_t *value, struct guest_limit *l
 static json_t *wrong_field(const json_t *value, const struct field *field)
 {
     static const char pages[] = "a whole number of bytes in pages of 4096, up to 17592186036224";
-    uint64_t number = json_integer_value(value) < 0 ? UINT64_MAX : (uint64_t)json_integer_value(value);
+    uint64_t number =
+        json_integer_value(value) < 0 ? UINT64_MAX : (uint64_t)json_integer_value(value);
     struct guest_limit limit;
     const char *fault;
     switch (field->kind) {
@@ -62,17 +66,20 @@ static json_t *wrong_field(const json_t *value, const struct field *field)
     case FIELD_BYTES:
         return is_pages(value) ? NULL : request_refusal("bad-field", field->name, "%s", pages);
     case FIELD_LIMIT:
-        return is_pages(value) || json_is_null(value) ? NULL : request_refusal("bad-field", field->name, "%s, or null", pages);
+        return is_pages(value) || json_is_null(value)
+                   ? NULL
+                   : request_refusal("bad-field", field->name, "%s, or null", pages);
     case FIELD_BOOLEAN:
-        return json_is_boolean(value) ? NULL : request_refusal("bad-field", field->name, "true or false");
+        return json_is_boolean(value) ? NULL
+                                      : request_refusal("bad-field", field->name, "true or false");
     case FIELD_KERNEL_LIMIT:
         fault = kernel_limit_fault(value, &limit);
         return fault ? request_refusal("bad-field", field->name, "%s", fault) : NULL;
     default:
         if (json_is_integer(value) && number >= field->least && number <= field->most)
             return NULL;
-        return request_refusal("bad-field", field->name, "a whole number from %llu to %llu", (unsigned long long)field->least,
-                               (unsigned long long)field->most);
+        return request_refusal("bad-field", field->name, "a whole number from %llu to %llu",
+                               (unsigned long long)field->least, (unsigned long long)field->most);
     }
 }
 

@@ -7,9 +7,16 @@
 
 #include "../host/limit.h"
 
-/* A name; bytes that are whole pages; the same or null, for no limit; a whole number; true or false; words of the kernel's limit, or
- * null for none. */
-enum field_kind { FIELD_NAME, FIELD_BYTES, FIELD_LIMIT, FIELD_NUMBER, FIELD_BOOLEAN, FIELD_KERNEL_LIMIT };
+/* A name; bytes that are whole pages; the same or null, for no limit; a whole number; true or
+ * false; words of the kernel's limit, or null for none. */
+enum field_kind {
+    FIELD_NAME,
+    FIELD_BYTES,
+    FIELD_LIMIT,
+    FIELD_NUMBER,
+    FIELD_BOOLEAN,
+    FIELD_KERNEL_LIMIT
+};
 
 /* Whether a request, or a field of it, changes the host or shows it. */
 enum effect { SHOWS, CHANGES };
@@ -17,14 +24,15 @@ enum effect { SHOWS, CHANGES };
 enum { MOST_FIELDS = 8, PAGE_BYTES = 4096 };
 
 struct field {
-    const char *name;           /* NULL: no field */
+    const char *name; /* NULL: no field */
     enum field_kind kind;
     bool needed;
     enum effect effect;
-    uint64_t least, most;       /* of a number */
+    uint64_t least, most; /* of a number */
 };
 
-/* NULL where a request has the fields that it needs, no unknown ones, and in each what may be there; else the answer that refuses it. */
+/* NULL where a request has the fields that it needs, no unknown ones, and in each what may be
+ * there; else the answer that refuses it. */
 json_t *fields_refusal(const json_t *request, const struct field fields[MOST_FIELDS]);
 
 /* The first of these fields that a request has and that changes the host; NULL: none. */
@@ -33,7 +41,8 @@ const char *field_that_changes(const json_t *request, const struct field fields[
 /* Whether a request has a field. */
 bool field_is_there(const json_t *request, const char *name);
 
-/* What is in a field that is there: a name; pages of FIELD_BYTES and FIELD_LIMIT, where null is UINT32_MAX; a number. */
+/* What is in a field that is there: a name; pages of FIELD_BYTES and FIELD_LIMIT, where null is
+ * UINT32_MAX; a number. */
 const char *field_name(const json_t *request, const char *name);
 uint32_t field_pages(const json_t *request, const char *name);
 uint64_t field_number(const json_t *request, const char *name);

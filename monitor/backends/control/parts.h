@@ -7,7 +7,8 @@
 /* Pages, as bytes. */
 json_t *part_bytes(uint64_t pages);
 
-/* The array with one more part, and the object with one of this name, or with all those of another one. Each takes what it is called with. */
+/* The array with one more part, and the object with one of this name, or with all those of another
+ * one. Each takes what it is called with. */
 json_t *part_append(json_t *array, json_t *part);
 json_t *part_set(json_t *object, const char *name, json_t *part);
 json_t *part_update(json_t *object, json_t *others);

@@ -25,7 +25,7 @@ struct asked {
 
 struct kind {
     const char *name;
-    enum effect effect;         /* SHOWS: its fields may yet change the host */
+    enum effect effect; /* SHOWS: its fields may yet change the host */
     json_t *(*answer)(const struct asked *asked);
     struct field fields[MOST_FIELDS];
 };
@@ -38,7 +38,8 @@ json_t *request_refusal(const char *code, const char *field, const char *format,
     vsnprintf(words, sizeof words, format, parts);
     va_end(parts);
     json_t *text = json_string(words);
-    json_t *error = json_pack("{s:s, s:o}", "code", code, "text", text ? text : json_string("words that are no UTF-8"));
+    json_t *error = json_pack("{s:s, s:o}", "code", code, "text",
+                              text ? text : json_string("words that are no UTF-8"));
     if (field)
         json_object_set_new(error, "field", json_string(field));
     return json_pack("{s:b, s:o}", "ok", 0, "error", error);
@@ -88,7 +89,8 @@ static bool changes_terms(const json_t *fields)
     return false;
 }
 
-/* Changes what a request asks for of a guest; NULL, or why not: then it is as it was, and nothing is decided anew. */
+/* Changes what a request asks for of a guest; NULL, or why not: then it is as it was, and nothing
+ * is decided anew. */
 static const char *change(const struct asked *asked, const struct guest_view *guest)
 {
     const json_t *fields = asked->fields;
@@ -142,7 +144,8 @@ static json_t *add(const struct asked *asked)
 static json_t *remove_guest(const struct asked *asked)
 {
     const char *name = field_name(asked->fields, "name");
-    return host_find(asked->host, name) < 0 ? no_guest(name) : outcome(host_remove(asked->host, name));
+    return host_find(asked->host, name) < 0 ? no_guest(name)
+                                            : outcome(host_remove(asked->host, name));
 }
 
 static json_t *upgrade(const struct asked *asked)
@@ -161,9 +164,12 @@ static json_t *renew(const struct asked *asked)
 }
 
 /* Sets a number of pages of the host's where the request has one, and answers what it is then. */
-static json_t *host_pages(const struct asked *asked, const char *name, const char *(*set)(struct host *, uint32_t))
+static json_t *host_pages(const struct asked *asked, const char *name,
+                          const char *(*set)(struct host *, uint32_t))
 {
-    const char *fault = field_is_there(asked->fields, "bytes") ? set(asked->host, field_pages(asked->fields, "bytes")) : NULL;
+    const char *fault = field_is_there(asked->fields, "bytes")
+                            ? set(asked->host, field_pages(asked->fields, "bytes"))
+                            : NULL;
     struct host_view view;
     host_see(asked->host, &view);
     uint64_t pages = !strcmp(name, "budget") ? view.budget : view.floor;
@@ -196,21 +202,32 @@ static json_t *follow(const struct asked *asked)
     return json_pack("{s:b, s:I}", "ok", 1, "next", (json_int_t)events_next(asked->control));
 }
 
-#define TERMS                                                                                                                       \
-    {"least", FIELD_BYTES, .effect = CHANGES}, {"most", FIELD_LIMIT, .effect = CHANGES}, {"strict", FIELD_BOOLEAN, .effect = CHANGES}, \
-        {"priority", FIELD_NUMBER, .effect = CHANGES, .least = 0, .most = UINT32_MAX},                                                 \
-        {"overhead", FIELD_BYTES, .effect = CHANGES}, {"limit", FIELD_KERNEL_LIMIT, .effect = CHANGES}
+#define TERMS                                                                                      \
+    {"least", FIELD_BYTES, .effect = CHANGES}, {"most", FIELD_LIMIT, .effect = CHANGES},           \
+        {"strict", FIELD_BOOLEAN, .effect = CHANGES},                                              \
+        {"priority", FIELD_NUMBER, .effect = CHANGES, .least = 0, .most = UINT32_MAX},             \
+        {"overhead", FIELD_BYTES, .effect = CHANGES},                                              \
+    {                                                                                              \
+        "limit", FIELD_KERNEL_LIMIT, .effect = CHANGES                                             \
+    }
 
 static const struct kind kinds[] = {
     {"status", SHOWS, status, {{0}}},
-    {"guest", SHOWS, guest, {{"name", FIELD_NAME, .needed = true}, TERMS, {"target", FIELD_BYTES, .effect = CHANGES}}},
+    {"guest",
+     SHOWS,
+     guest,
+     {{"name", FIELD_NAME, .needed = true}, TERMS, {"target", FIELD_BYTES, .effect = CHANGES}}},
     {"add", CHANGES, add, {{"name", FIELD_NAME, .needed = true}, TERMS}},
     {"remove", CHANGES, remove_guest, {{"name", FIELD_NAME, .needed = true}}},
     {"upgrade", CHANGES, upgrade, {{0}}},
     {"renew", CHANGES, renew, {{"name", FIELD_NAME, .needed = true}}},
     {"budget", SHOWS, budget, {{"bytes", FIELD_BYTES, .effect = CHANGES}}},
     {"floor", SHOWS, set_floor, {{"bytes", FIELD_BYTES, .effect = CHANGES}}},
-    {"log", SHOWS, decisions, {{"since", FIELD_NUMBER, .most = INT64_MAX}, {"limit", FIELD_NUMBER, .least = 1, .most = MOST_DECISIONS_OF_ANSWER}}},
+    {"log",
+     SHOWS,
+     decisions,
+     {{"since", FIELD_NUMBER, .most = INT64_MAX},
+      {"limit", FIELD_NUMBER, .least = 1, .most = MOST_DECISIONS_OF_ANSWER}}},
     {"events", SHOWS, follow, {{0}}},
 };
 
@@ -219,19 +236,25 @@ static json_t *change_refusal(const struct asked *asked, const struct kind *kind
 {
     if (asked->client->rights == MAY_CHANGE)
         return NULL;
-    const char *field = kind->effect == CHANGES ? "request" : field_that_changes(asked->fields, kind->fields);
-    return field ? request_refusal("read-only", field, "%s changes the host, which this socket only shows",
-                                   kind->effect == CHANGES ? kind->name : field) : NULL;
+    const char *field =
+        kind->effect == CHANGES ? "request" : field_that_changes(asked->fields, kind->fields);
+    return field ? request_refusal("read-only", field,
+                                   "%s changes the host, which this socket only shows",
+                                   kind->effect == CHANGES ? kind->name : field)
+                 : NULL;
 }
 
-/* Refuses a version that isn't spoken, and an id that is neither a string nor a whole number; else NULL. */
+/* Refuses a version that isn't spoken, and an id that is neither a string nor a whole number; else
+ * NULL. */
 static json_t *common_refusal(const json_t *fields)
 {
     const json_t *version = json_object_get(fields, "version"), *id = json_object_get(fields, "id");
     if (!version)
-        return request_refusal("missing-field", "version", "a request says the version of the protocol: %d", CONTROL_VERSION);
+        return request_refusal("missing-field", "version",
+                               "a request says the version of the protocol: %d", CONTROL_VERSION);
     if (!json_is_integer(version) || json_integer_value(version) != CONTROL_VERSION)
-        return request_refusal("version", "version", "version %d is spoken, and no other", CONTROL_VERSION);
+        return request_refusal("version", "version", "version %d is spoken, and no other",
+                               CONTROL_VERSION);
     if (id && !json_is_string(id) && !json_is_integer(id))
         return request_refusal("bad-field", "id", "a string or a whole number");
     return NULL;
@@ -251,7 +274,8 @@ static json_t *answer(struct asked *asked)
             continue;
         refusal = change_refusal(asked, &kinds[i]);
         refusal = refusal ? refusal : fields_refusal(asked->fields, kinds[i].fields);
-        asked->control->has_acted = !refusal && asked->client->rights == MAY_CHANGE && kinds[i].answer != status;
+        asked->control->has_acted =
+            !refusal && asked->client->rights == MAY_CHANGE && kinds[i].answer != status;
         asked->control->status.is_old |= asked->control->has_acted;
         return refusal ? refusal : kinds[i].answer(asked);
     }
@@ -262,13 +286,17 @@ static json_t *answer(struct asked *asked)
 
 json_t *request_headed(const json_t *fields, json_t *answer)
 {
-    json_t *id = json_object_get(fields, "id"), *whole = json_pack("{s:i}", "version", CONTROL_VERSION);
+    json_t *id = json_object_get(fields, "id"),
+           *whole = json_pack("{s:i}", "version", CONTROL_VERSION);
     if (json_is_string(id) || json_is_integer(id))
         json_object_set(whole, "id", id);
-    return part_update(whole, answer ? answer : request_refusal("internal", NULL, "the host couldn't make its answer"));
+    return part_update(
+        whole,
+        answer ? answer : request_refusal("internal", NULL, "the host couldn't make its answer"));
 }
 
-json_t *request_answer(struct control *control, struct control_client *client, struct host *host, const char *line, size_t length)
+json_t *request_answer(struct control *control, struct control_client *client, struct host *host,
+                       const char *line, size_t length)
 {
     json_error_t fault;
     json_t *fields = json_loadb(line, length, JSON_REJECT_DUPLICATES, &fault);

@@ -14,7 +14,8 @@
 #include <sys/epoll.h>
 #include <sys/socket.h>
 
-/* Files that are served in a turn at most; what an event is about: a client's place at a socket, or the listener, which is after those. */
+/* Files that are served in a turn at most; what an event is about: a client's place at a socket, or
+ * the listener, which is after those. */
 enum { MOST_READY = 64, LISTENER = MOST_CONTROL_CLIENTS, PLACES };
 
 const char *control_socket_word(enum control_rights rights)
@@ -31,7 +32,8 @@ bool control_names(const char *path)
 }
 
 /* Waits for these events of a file, which has a place at a socket. */
-static bool wait_for(const struct control_socket *its, int operation, int file, uint32_t events, unsigned place)
+static bool wait_for(const struct control_socket *its, int operation, int file, uint32_t events,
+                     unsigned place)
 {
     struct epoll_event event = {.events = events, .data.u32 = its->rights * PLACES + place};
     return epoll_ctl(its->waits, operation, file, &event) == 0;
@@ -50,8 +52,10 @@ bool control_open(struct control *control, const struct control_options options[
 {
     *control = (struct control){.events = events_new(), .waits = epoll_create1(EPOLL_CLOEXEC)};
     for (unsigned i = 0; i < CONTROL_SOCKETS; i++)
-        control->sockets[i] = (struct control_socket){.listener = -1, .waits = control->waits, .options = &options[i], .rights = i};
-    bool good = (control->events && control->waits >= 0) || say_fault("control sockets: %s", strerror(errno));
+        control->sockets[i] = (struct control_socket){
+            .listener = -1, .waits = control->waits, .options = &options[i], .rights = i};
+    bool good = (control->events && control->waits >= 0) ||
+                say_fault("control sockets: %s", strerror(errno));
     for (unsigned i = 0; i < CONTROL_SOCKETS && good; i++)
         good = open_socket(&control->sockets[i]);
     if (!good)
@@ -91,11 +95,12 @@ static bool has_line(const struct control_client *client)
     return client_line(client, &length) != NULL;
 }
 
-/* What is waited for of a client: requests while it may send some; and room for what is unread, or for answers to requests
- * that are there already. */
+/* What is waited for of a client: requests while it may send some; and room for what is unread, or
+ * for answers to requests that are there already. */
 static uint32_t events_of(const struct control_client *client)
 {
-    return (client->ends ? 0 : EPOLLIN) | (client->unread_bytes > 0 || has_line(client) ? EPOLLOUT : 0);
+    return (client->ends ? 0 : EPOLLIN) |
+           (client->unread_bytes > 0 || has_line(client) ? EPOLLOUT : 0);
 }
 
 /* Goes on waiting for a client, or takes its place away. */
@@ -111,7 +116,8 @@ static void settle(struct control_socket *its, unsigned place)
     }
     its->counters.dropped += client->overrun;
     its->counters.clients--;
-    /* A process that begins just now has the file for a moment, too: closing it alone isn't the end of its events. */
+    /* A process that begins just now has the file for a moment, too: closing it alone isn't the end
+     * of its events. */
     wait_for(its, EPOLL_CTL_DEL, client->socket, 0, place);
     client_free(client);
     its->clients[place] = NULL;
@@ -121,7 +127,8 @@ static void settle(struct control_socket *its, unsigned place)
 static void turn_away(struct control_socket *its, int socket)
 {
     struct control_client one = {.socket = socket};
-    json_t *why = request_refusal("too-many-clients", NULL, "%d clients are connected already", MOST_CONTROL_CLIENTS);
+    json_t *why = request_refusal("too-many-clients", NULL, "%d clients are connected already",
+                                  MOST_CONTROL_CLIENTS);
     client_send(&one, request_headed(NULL, why));
     its->counters.turned_away++;
     file_close(socket);
@@ -133,7 +140,8 @@ static bool seat(struct control_socket *its, int socket)
     unsigned place = 0;
     while (place < MOST_CONTROL_CLIENTS && its->clients[place])
         place++;
-    struct control_client *client = place < MOST_CONTROL_CLIENTS ? client_new(socket, its->rights) : NULL;
+    struct control_client *client =
+        place < MOST_CONTROL_CLIENTS ? client_new(socket, its->rights) : NULL;
     if (!client)
         return false;
     client->waits_for = EPOLLIN;
@@ -145,7 +153,8 @@ static bool seat(struct control_socket *its, int socket)
     return true;
 }
 
-/* Takes a client that waits, if there is one. Where no file is left for it, it waits until the next look. */
+/* Takes a client that waits, if there is one. Where no file is left for it, it waits until the next
+ * look. */
 static void take(struct control_socket *its)
 {
     int socket = accept4(its->listener, NULL, NULL, SOCK_CLOEXEC | SOCK_NONBLOCK);
@@ -156,7 +165,8 @@ static void take(struct control_socket *its)
     }
     if (errno == EAGAIN || errno == ECONNABORTED || errno == EINTR)
         return;
-    complain("a client of the %s socket can't come: %s", control_socket_word(its->rights), strerror(errno));
+    complain("a client of the %s socket can't come: %s", control_socket_word(its->rights),
+             strerror(errno));
     its->rests = wait_for(its, EPOLL_CTL_MOD, its->listener, 0, LISTENER);
 }
 
@@ -166,12 +176,14 @@ static void refuse_long_line(struct control_socket *its, struct control_client *
     its->counters.requests++;
     its->counters.refused++;
     client_stop(client);
-    json_t *why = request_refusal("too-long", NULL, "a request has at most %d bytes with its end of line", MOST_REQUEST);
+    json_t *why = request_refusal(
+        "too-long", NULL, "a request has at most %d bytes with its end of line", MOST_REQUEST);
     client_send(client, request_headed(NULL, why));
 }
 
 /* Answers the next request of a client that is there whole. */
-static void answer_line(struct control *control, struct control_socket *its, struct control_client *client, struct host *host)
+static void answer_line(struct control *control, struct control_socket *its,
+                        struct control_client *client, struct host *host)
 {
     size_t length;
     const char *line = client_is_served(client) ? client_line(client, &length) : NULL;
@@ -208,14 +220,16 @@ void control_serve(struct control *control, struct host *host)
     struct epoll_event ready;
     double end = loop_processor_seconds() + CONTROL_SECONDS;
     control->has_acted = false;
-    for (unsigned served = 0; served < MOST_READY && epoll_wait(control->waits, &ready, 1, 0) == 1; served++) {
+    for (unsigned served = 0; served < MOST_READY && epoll_wait(control->waits, &ready, 1, 0) == 1;
+         served++) {
         serve(control, &ready, host);
         if (control->has_acted || loop_processor_seconds() >= end)
             break;
     }
 }
 
-/* Takes clients again where no file was left for one, and settles what the events that were told leave. */
+/* Takes clients again where no file was left for one, and settles what the events that were told
+ * leave. */
 static void look(struct control_socket *its)
 {
     if (its->rests)

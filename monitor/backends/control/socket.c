@@ -25,14 +25,15 @@ static bool bind_to(int listener, const struct control_options *options)
     mode_t before = umask(0777);
     int bound = bind(listener, (struct sockaddr *)&address, sizeof address);
     umask(before);
-    if (bound < 0 || (options->group != (gid_t)-1 && chown(options->path, (uid_t)-1, options->group)))
+    if (bound < 0 ||
+        (options->group != (gid_t)-1 && chown(options->path, (uid_t)-1, options->group)))
         return false;
     return chmod(options->path, options->mode) == 0;
 }
 
 int socket_listen(const struct control_options *options)
 {
-    if (strlen(options->path) >= sizeof ((struct sockaddr_un *)0)->sun_path)
+    if (strlen(options->path) >= sizeof((struct sockaddr_un *)0)->sun_path)
         return errno = ENAMETOOLONG, -1;
     socket_remove(options->path);
     int listener = socket(AF_UNIX, SOCK_STREAM | SOCK_CLOEXEC | SOCK_NONBLOCK, 0);

@@ -7,7 +7,8 @@
 
 #include <stdlib.h>
 
-/* Statuses take one part of the time in STATUS_PARTS, and may take that of PAID_AHEAD seconds at once. */
+/* Statuses take one part of the time in STATUS_PARTS, and may take that of PAID_AHEAD seconds at
+ * once. */
 enum { STATUS_PARTS = 20, PAID_AHEAD = 1 };
 
 /* Whether they are to be made again: nothing was, they are old, or it is paid for. */
@@ -21,14 +22,16 @@ static void make(struct control *control, const struct host *host)
     struct made_status *status = &control->status;
     double begin = loop_processor_seconds(), now = loop_seconds();
     size_t length;
-    json_t *object = json_pack("{s:o, s:o}", "host", answer_host(control, host), "guests", answer_guests(host));
+    json_t *object =
+        json_pack("{s:o, s:o}", "host", answer_host(control, host), "guests", answer_guests(host));
     free(status->text);
     status->text = client_text(object, NULL, &length);
     json_decref(object);
     if (status->text)
         status->text[length - 1] = 0; /* in place of the end of the line */
     status->is_old = false;
-    status->paid_until = (status->paid_until > now ? status->paid_until : now) + (loop_processor_seconds() - begin) * STATUS_PARTS;
+    status->paid_until = (status->paid_until > now ? status->paid_until : now) +
+                         (loop_processor_seconds() - begin) * STATUS_PARTS;
 }
 
 const char *status_text(struct control *control, const struct host *host)

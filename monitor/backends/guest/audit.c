@@ -1,5 +1,5 @@
-/* Looks at a device while it serves, from the guest's bytes alone. It reads rings and requests by itself, in order of
- * the positions on the ring, as the device serves them. */
+/* Looks at a device while it serves, from the guest's bytes alone. It reads rings and requests by
+ * itself, in order of the positions on the ring, as the device serves them. */
 #include "audit.h"
 #include "ring_layout.h"
 #include "../../tests/mutants/wrong_device.h"
@@ -17,11 +17,11 @@ struct descriptor {
 };
 
 static struct {
-    uint16_t available, used;               /* the indexes before a service */
-    uint8_t *may_be_hole[MOST_REGIONS];     /* a byte for each page of a region */
+    uint16_t available, used;           /* the indexes before a service */
+    uint8_t *may_be_hole[MOST_REGIONS]; /* a byte for each page of a region */
     uint64_t faults, services, entries, named;
     char first[160];
-    struct backend *telling;                /* whose request was named, and isn't used yet */
+    struct backend *telling; /* whose request was named, and isn't used yet */
     uint32_t kind;
 } audit;
 
@@ -69,7 +69,8 @@ static uint16_t word_at(const struct backend *backend, uint64_t address)
 static const VbQueue *queue_of(const struct backend *backend, uint32_t kind)
 {
     const VbDevice *device = &backend->balloon.state.device;
-    const VbQueue *queues[] = {&device->inflate, &device->deflate, &device->statistics, &device->report, &device->hint};
+    const VbQueue *queues[] = {&device->inflate, &device->deflate, &device->statistics,
+                               &device->report, &device->hint};
     return kind < VB_NO_KIND && queues[kind]->size > 0 ? queues[kind] : NULL;
 }
 
@@ -88,16 +89,20 @@ void audit_before(struct backend *backend, unsigned number)
     audit.available = word_at(backend, queue->avail + RING_INDEX_AT);
 }
 
-/* Whether the entry at this position of the used ring is the one at this position of the available ring. */
-static void check_entry(struct backend *backend, unsigned number, const VbQueue *queue, uint16_t position)
+/* Whether the entry at this position of the used ring is the one at this position of the available
+ * ring. */
+static void check_entry(struct backend *backend, unsigned number, const VbQueue *queue,
+                        uint16_t position)
 {
     uint32_t entry[2];
     unsigned at = position % queue->size;
     uint16_t head = word_at(backend, queue->avail + RING_HEADER_SIZE + AVAIL_ENTRY_SIZE * at);
-    read_guest(backend, queue->used + RING_HEADER_SIZE + USED_ELEMENT_SIZE * at, entry, sizeof entry);
+    read_guest(backend, queue->used + RING_HEADER_SIZE + USED_ELEMENT_SIZE * at, entry,
+               sizeof entry);
     audit.entries++;
     if (entry[0] != head)
-        fault("queue %u: used element %u has id %" PRIu32 ", and %u was taken", number, position, entry[0], head);
+        fault("queue %u: used element %u has id %" PRIu32 ", and %u was taken", number, position,
+              entry[0], head);
     if (entry[1] != 0)
         fault("queue %u: used element %u has length %" PRIu32, number, position, entry[1]);
 }
@@ -107,15 +112,20 @@ void audit_after(struct backend *backend, unsigned number)
     const VbQueue *queue = queue_at(backend, number);
     if (!queue)
         return;
-    uint16_t used = word_at(backend, queue->used + RING_INDEX_AT), available = word_at(backend, queue->avail + RING_INDEX_AT);
-    uint16_t given = (uint16_t)(used - audit.used), stood = (uint16_t)(audit.available - audit.used);
+    uint16_t used = word_at(backend, queue->used + RING_INDEX_AT),
+             available = word_at(backend, queue->avail + RING_INDEX_AT);
+    uint16_t given = (uint16_t)(used - audit.used),
+             stood = (uint16_t)(audit.available - audit.used);
     uint32_t kind = vb_kind(&backend->balloon.state.device, number);
-    bool leaves = kind == VB_STATISTICS || kind == VB_HINT; /* a buffer is kept, and a turn ends after a hint of many pages */
+    bool leaves =
+        kind == VB_STATISTICS ||
+        kind == VB_HINT; /* a buffer is kept, and a turn ends after a hint of many pages */
     audit.services++;
     if (given > (uint16_t)(available - audit.used))
         fault("queue %u: the used index is %u, and %u were available", number, used, available);
     else if (given < stood && !leaves)
-        fault("queue %u: the used index is %u, and %u were available before", number, used, audit.available);
+        fault("queue %u: the used index is %u, and %u were available before", number, used,
+              audit.available);
     else
         for (uint16_t i = 0; i < given; i++)
             check_entry(backend, number, queue, (uint16_t)(audit.used + i));
@@ -124,7 +134,8 @@ void audit_after(struct backend *backend, unsigned number)
 /* Whether the pages that are told now stay. */
 static bool keeps(const struct balloon *balloon)
 {
-    return balloon->keeps_pages || (audit.kind == VB_HINT && !balloon->state.device.settings.discards_hints);
+    return balloon->keeps_pages ||
+           (audit.kind == VB_HINT && !balloon->state.device.settings.discards_hints);
 }
 
 /* Notes that pages may be holes from now on; they have to be, after their discarding. */
@@ -134,13 +145,16 @@ static void name_pages(struct backend *backend, uint64_t address, uint64_t lengt
         const struct balloon_region *region = &backend->memory.regions[i];
         if (address < region->guest || address - region->guest >= region->length)
             continue;
-        uint64_t in = address - region->guest, page = in / BALLOON_PAGE, count = length / BALLOON_PAGE;
-        for (uint64_t k = 0; audit.may_be_hole[i] && k < count && page + k < region->length / BALLOON_PAGE; k++)
+        uint64_t in = address - region->guest, page = in / BALLOON_PAGE,
+                 count = length / BALLOON_PAGE;
+        for (uint64_t k = 0;
+             audit.may_be_hole[i] && k < count && page + k < region->length / BALLOON_PAGE; k++)
             audit.may_be_hole[i][page + k] = 1;
         audit.named += count;
         off_t at = (off_t)(region->offset + in), data = lseek(region->fd, at, SEEK_DATA);
         if (data >= 0 && data < at + (off_t)length && !keeps(&backend->balloon))
-            fault("page 0x%" PRIx64 " was named, and isn't discarded before its request is used", address / BALLOON_PAGE);
+            fault("page 0x%" PRIx64 " was named, and isn't discarded before its request is used",
+                  address / BALLOON_PAGE);
     }
 }
 
@@ -173,7 +187,8 @@ void audit_use(void)
     unsigned position = word_at(backend, queue->used + RING_INDEX_AT) % queue->size;
     uint16_t next = word_at(backend, queue->avail + RING_HEADER_SIZE + AVAIL_ENTRY_SIZE * position);
     for (unsigned i = 0; (piece.flags & 1) && i < queue->size; i++) {
-        read_guest(backend, queue->table + DESCRIPTOR_SIZE * (uint64_t)(next % queue->size), &piece, sizeof piece);
+        read_guest(backend, queue->table + DESCRIPTOR_SIZE * (uint64_t)(next % queue->size), &piece,
+                   sizeof piece);
         if (kind == VB_INFLATE)
             name_numbers(backend, &piece);
         else
@@ -196,7 +211,8 @@ static void look_at_holes(const struct balloon_region *region, uint8_t *may_be_h
             if (note)
                 may_be_hole[page] = 1;
             else if (!may_be_hole[page])
-                fault("page 0x%" PRIx64 " became a hole, and wasn't named", region->guest / BALLOON_PAGE + page);
+                fault("page 0x%" PRIx64 " became a hole, and wasn't named",
+                      region->guest / BALLOON_PAGE + page);
         }
     }
 }
@@ -225,7 +241,9 @@ bool audit_line(struct backend *backend, const char *line)
     for (unsigned i = 0; i < backend->memory.count; i++)
         if (audit.may_be_hole[i])
             look_at_holes(&backend->memory.regions[i], audit.may_be_hole[i], false);
-    printf("audit faults %" PRIu64 " services %" PRIu64 " entries %" PRIu64 " named %" PRIu64 " first %s\n", audit.faults,
-           audit.services, audit.entries, audit.named, audit.faults ? audit.first : "none");
+    printf("audit faults %" PRIu64 " services %" PRIu64 " entries %" PRIu64 " named %" PRIu64
+           " first %s\n",
+           audit.faults, audit.services, audit.entries, audit.named,
+           audit.faults ? audit.first : "none");
     return true;
 }

@@ -1,5 +1,6 @@
-/* What a build for tests looks at, besides: whether each used element is what was taken, and whether only pages that
- * the guest named became holes. Its code is apart from what it looks at. In the product none of it is there. */
+/* What a build for tests looks at, besides: whether each used element is what was taken, and
+ * whether only pages that the guest named became holes. Its code is apart from what it looks at. In
+ * the product none of it is there. */
 #ifndef AUDIT_H
 #define AUDIT_H
 #include "backend.h"

@@ -40,15 +40,19 @@ static void hear_statistics(void *context, const VbStatistic *figures, uint32_t 
 bool backend_start(struct backend *backend, const struct options *options)
 {
     /* Where memory ends is known when the client hands it over. */
-    VbSettings settings = {
-        .memory_end = 2 * BALLOON_PAGE, .offered = options->features | (options->hints ? VB_F_FREE_PAGE_HINT : 0),
-        .skips_bad_pages = !options->strict, .holds_deflates = options->holds, .needs_must_tell = options->holds,
-        .discards_hints = options->discards_hints};
+    VbSettings settings = {.memory_end = 2 * BALLOON_PAGE,
+                           .offered =
+                               options->features | (options->hints ? VB_F_FREE_PAGE_HINT : 0),
+                           .skips_bad_pages = !options->strict,
+                           .holds_deflates = options->holds,
+                           .needs_must_tell = options->holds,
+                           .discards_hints = options->discards_hints};
     backend->options = options;
     backend->socket = backend->listener = backend->channel = -1;
     rings_clear(backend);
     if (balloon_init(&backend->balloon, backend->memory.regions, 0, settings) != VB_OK)
-        return refuse("the device can't offer the features 0x%llx", (unsigned long long)options->features);
+        return refuse("the device can't offer the features 0x%llx",
+                      (unsigned long long)options->features);
     backend->balloon.most_chains = MOST_CHAINS;
     backend->balloon.most_pages = MOST_PAGES;
     backend->balloon.context = backend;
@@ -84,7 +88,8 @@ void backend_tell_change(struct backend *backend)
 void backend_look(struct backend *backend)
 {
     uint32_t actual = backend->balloon.state.device.actual;
-    if (backend_is_ready(backend) && balloon_is_off_target(&backend->balloon) && actual == backend->seen)
+    if (backend_is_ready(backend) && balloon_is_off_target(&backend->balloon) &&
+        actual == backend->seen)
         backend_tell_change(backend);
     backend->seen = actual;
 }
@@ -93,6 +98,7 @@ void backend_look(struct backend *backend)
 static const char *rule_words(uint32_t rule)
 {
     static const char *const words[] = {
+        /* clang-format off */
         /* tools/list-codes: rules, from here */
         [1] = "the head is no descriptor of the queue",
         [2] = "a next field names no descriptor of the queue",
@@ -105,8 +111,10 @@ static const char *rule_words(uint32_t rule)
         [9] = "no such page",
         [10] = "a reserved page",
         /* tools/list-codes: rules, to here */
+        /* clang-format on */
     };
-    return rule < sizeof words / sizeof words[0] && words[rule] ? words[rule] : "no rule that is known";
+    return rule < sizeof words / sizeof words[0] && words[rule] ? words[rule]
+                                                                : "no rule that is known";
 }
 
 /* Tells of the used buffers of a result. */
@@ -123,7 +131,8 @@ static bool interrupt(struct backend *backend, const struct balloon_result *resu
     return true;
 }
 
-/* What a queue of this kind has done to the set of ballooned pages: inflates put pages in, deflates take them out. */
+/* What a queue of this kind has done to the set of ballooned pages: inflates put pages in, deflates
+ * take them out. */
 static void count_marks(struct backend *backend, uint32_t kind, uint32_t marked)
 {
     uint32_t before = backend->ballooned;
@@ -131,7 +140,8 @@ static void count_marks(struct backend *backend, uint32_t kind, uint32_t marked)
         backend->ballooned += marked;
     if (kind == VB_DEFLATE)
         backend->ballooned -= marked;
-    backend->counters.taken += counters_taken(before, backend->ballooned, backend->balloon.state.device.target);
+    backend->counters.taken +=
+        counters_taken(before, backend->ballooned, backend->balloon.state.device.target);
 }
 
 bool backend_finish(struct backend *backend, uint32_t kind, const struct balloon_result *result)
@@ -140,14 +150,17 @@ bool backend_finish(struct backend *backend, uint32_t kind, const struct balloon
     backend->hints.late += result->late;
     count_marks(backend, kind, (uint32_t)result->marked);
     if (result->error)
-        remark(backend, "%llu pages can't be discarded: %s", (unsigned long long)result->kept, strerror(result->error));
+        remark(backend, "%llu pages can't be discarded: %s", (unsigned long long)result->kept,
+               strerror(result->error));
     if (result->held && backend->held)
         backend->held(backend, result->held_pages);
     if (!interrupt(backend, result))
         return false;
     if (result->code == VB_BROKEN)
-        return refuse("the guest's bytes break a rule: %s (rule %u)", rule_words(result->rule), result->rule);
-    return result->code == VB_OK || result->code == VB_NOTHING || refuse("a request is answered %u", result->code);
+        return refuse("the guest's bytes break a rule: %s (rule %u)", rule_words(result->rule),
+                      result->rule);
+    return result->code == VB_OK || result->code == VB_NOTHING ||
+           refuse("a request is answered %u", result->code);
 }
 
 bool backend_give(struct backend *backend)

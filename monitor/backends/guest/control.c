@@ -14,8 +14,9 @@ static void print_counters(const struct backend *backend)
 {
     const VbDevice *device = &backend->balloon.state.device;
     const struct counters *it = &backend->counters;
-    printf("target %" PRIu32 " actual %" PRIu32 " status %u held_kib %" PRIu64 " end %" PRIu64, device->target,
-           device->actual, device->status, memory_held(&backend->memory), device->settings.memory_end / BALLOON_PAGE);
+    printf("target %" PRIu32 " actual %" PRIu32 " status %u held_kib %" PRIu64 " end %" PRIu64,
+           device->target, device->actual, device->status, memory_held(&backend->memory),
+           device->settings.memory_end / BALLOON_PAGE);
     COUNTERS(PRINT_COUNTER)
     HINT_COUNTERS(PRINT_HINTS)
     putchar('\n');
@@ -64,7 +65,8 @@ static void set_target(struct backend *backend, const char *number)
     puts("ok");
 }
 
-int control_read(struct control_line *line, int (*obey)(void *context, const char *line), void *context)
+int control_read(struct control_line *line, int (*obey)(void *context, const char *line),
+                 void *context)
 {
     ssize_t got = read(STDIN_FILENO, line->bytes + line->length, sizeof line->bytes - line->length);
     line->ended = got == 0;
@@ -100,6 +102,7 @@ int control_obey(struct backend *backend, const char *line)
     else if (!strcmp(line, "ask"))
         served = ask(backend);
     else if (!hints_line(backend, line) && !audit_line(backend, line))
-        puts("error: target PAGES, counters, statistics, ask, hint start, hint stop, hint done or quit");
+        puts("error: target PAGES, counters, statistics, ask, hint start, hint stop, hint done or "
+             "quit");
     return served ? 1 : -1;
 }

@@ -19,9 +19,11 @@ bool read_socket(const char *word, void *at)
     uint64_t number;
     int *file = at, type;
     socklen_t size = sizeof type;
-    if (*file >= 0 || !read_number(word, 10, INT_MAX, &number) || getsockopt((int)number, SOL_SOCKET, SO_TYPE, &type, &size) || type != SOCK_STREAM)
+    if (*file >= 0 || !read_number(word, 10, INT_MAX, &number) ||
+        getsockopt((int)number, SOL_SOCKET, SO_TYPE, &type, &size) || type != SOCK_STREAM)
         return false;
     *file = (int)number;
     int flags = fcntl(*file, F_GETFL);
-    return flags >= 0 && fcntl(*file, F_SETFL, flags | O_NONBLOCK) == 0 && fcntl(*file, F_SETFD, FD_CLOEXEC) == 0;
+    return flags >= 0 && fcntl(*file, F_SETFL, flags | O_NONBLOCK) == 0 &&
+           fcntl(*file, F_SETFD, FD_CLOEXEC) == 0;
 }

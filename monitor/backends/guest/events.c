@@ -17,8 +17,8 @@
 #include <sys/uio.h>
 #include <unistd.h>
 
-/* Microseconds after which a call is broken off that was to come back at once. TRIES: a look at an eventfd is made anew where
- * somebody else has read it meanwhile. */
+/* Microseconds after which a call is broken off that was to come back at once. TRIES: a look at an
+ * eventfd is made anew where somebody else has read it meanwhile. */
 enum { MOMENT = 1000, TRIES = 4 };
 
 void event_close(struct event *event)
@@ -28,7 +28,8 @@ void event_close(struct event *event)
     *event = NO_EVENT;
 }
 
-/* Whether a file is an eventfd, by its name in /proc: a file that has a path begins with a slash there. */
+/* Whether a file is an eventfd, by its name in /proc: a file that has a path begins with a slash
+ * there. */
 static bool is_eventfd(int file)
 {
     static const char name[] = "anon_inode:[eventfd]";
@@ -42,8 +43,8 @@ bool is_stream(int file)
 {
     int family = 0, type = 0;
     socklen_t size = sizeof family;
-    return !getsockopt(file, SOL_SOCKET, SO_DOMAIN, &family, &size) && family == AF_UNIX
-        && !getsockopt(file, SOL_SOCKET, SO_TYPE, &type, &size) && type == SOCK_STREAM;
+    return !getsockopt(file, SOL_SOCKET, SO_DOMAIN, &family, &size) && family == AF_UNIX &&
+           !getsockopt(file, SOL_SOCKET, SO_TYPE, &type, &size) && type == SOCK_STREAM;
 }
 
 static bool is_pipe(int file)
@@ -70,7 +71,8 @@ static void break_off(int number)
     (void)number;
 }
 
-/* Breaks off whatever waits from now on, again and again, until `moment_ends`: by a signal. False where it can't. */
+/* Breaks off whatever waits from now on, again and again, until `moment_ends`: by a signal. False
+ * where it can't. */
 static bool moment_begins(void)
 {
     static const struct itimerval soon = {{0, MOMENT}, {0, MOMENT}};
@@ -88,8 +90,8 @@ static void moment_ends(void)
         complain("a timer doesn't end: %s", strerror(errno));
 }
 
-/* Writes a number without waiting, whatever the other end has made of the file's flags, or writes meanwhile: 1; 0 where there
- * is no room; -1 at a fault. */
+/* Writes a number without waiting, whatever the other end has made of the file's flags, or writes
+ * meanwhile: 1; 0 where there is no room; -1 at a fault. */
 static int write_now(int file, uint64_t number)
 {
     if (!has_room(file))
@@ -102,8 +104,8 @@ static int write_now(int file, uint64_t number)
     return outcome;
 }
 
-/* Reads an eventfd without waiting, whatever the other end has made of its flags, or reads meanwhile: 1; 0 where there is
- * nothing; -1 at a fault. */
+/* Reads an eventfd without waiting, whatever the other end has made of its flags, or reads
+ * meanwhile: 1; 0 where there is nothing; -1 at a fault. */
 static int read_now(int file, uint64_t *number)
 {
     struct iovec part = {number, sizeof *number};
@@ -111,8 +113,8 @@ static int read_now(int file, uint64_t *number)
     return got > 0 ? 1 : got < 0 && would_wait() ? 0 : -1;
 }
 
-/* Whether a read of an eventfd takes all that was told, and not one of it: it has two more when it is read, and gets back what it
- * had. */
+/* Whether a read of an eventfd takes all that was told, and not one of it: it has two more when it
+ * is read, and gets back what it had. */
 static bool reads_all(int file)
 {
     for (unsigned i = 0; i < TRIES; i++) {
@@ -126,7 +128,8 @@ static bool reads_all(int file)
     return false;
 }
 
-/* Whether an eventfd has nothing more to read once it was read. Before Linux 6.5 only a trial shows it. */
+/* Whether an eventfd has nothing more to read once it was read. Before Linux 6.5 only a trial shows
+ * it. */
 static bool comes_to_rest(int file)
 {
     int semaphore = file_number(file, "eventfd-semaphore:");
@@ -159,7 +162,8 @@ bool event_take_kick(struct event *event, int file)
 
 bool event_take_call(struct event *event, int file)
 {
-    return take(event, file, (is_eventfd(file) || is_pipe(file) || is_stream(file)) && unblock(file));
+    return take(event, file,
+                (is_eventfd(file) || is_pipe(file) || is_stream(file)) && unblock(file));
 }
 
 int event_read(const struct event *event)

@@ -12,11 +12,12 @@ static VbDevice *device_of(struct backend *backend)
 
 enum outcome get_features(struct backend *backend, struct message *message)
 {
-    return answer_u64(backend, message, device_of(backend)->settings.offered | HAS_PROTOCOL_FEATURES);
+    return answer_u64(backend, message,
+                      device_of(backend)->settings.offered | HAS_PROTOCOL_FEATURES);
 }
 
-/* The features represent all that comes before them. A client may send them twice before its queues run: the last ones
- * count. */
+/* The features represent all that comes before them. A client may send them twice before its queues
+ * run: the last ones count. */
 enum outcome set_features(struct backend *backend, struct message *message)
 {
     uint64_t features = message_u64(message, 0);
@@ -27,7 +28,8 @@ enum outcome set_features(struct backend *backend, struct message *message)
     uint32_t answer = rings_negotiate(backend, features);
     if (answer == 0)
         return DONE;
-    remark(backend, "the features 0x%" PRIx64 " are answered %" PRIu32, features & ~HAS_PROTOCOL_FEATURES, answer);
+    remark(backend, "the features 0x%" PRIx64 " are answered %" PRIu32,
+           features & ~HAS_PROTOCOL_FEATURES, answer);
     return FAILED;
 }
 
@@ -39,8 +41,9 @@ static bool end_session(struct backend *backend)
     return rings_reset(backend) && slots_forget(backend);
 }
 
-/* A session begins: where a device is plugged again over one connection, its memory and its queues are told anew. QEMU
- * negotiates protocol features and hands over its channel before that, so these stay. */
+/* A session begins: where a device is plugged again over one connection, its memory and its queues
+ * are told anew. QEMU negotiates protocol features and hands over its channel before that, so these
+ * stay. */
 enum outcome set_owner(struct backend *backend, struct message *message)
 {
     (void)message;
@@ -52,8 +55,8 @@ enum outcome set_owner(struct backend *backend, struct message *message)
 /* What this backend offers. */
 static uint64_t protocol_features(const struct backend *backend)
 {
-    uint64_t features = MQ_FEATURE | REPLY_ACK_FEATURE | BACKEND_REQ_FEATURE | CONFIG_FEATURE | RESET_DEVICE_FEATURE
-        | IN_BAND_FEATURE | MEM_SLOTS_FEATURE | STATUS_FEATURE;
+    uint64_t features = MQ_FEATURE | REPLY_ACK_FEATURE | BACKEND_REQ_FEATURE | CONFIG_FEATURE |
+                        RESET_DEVICE_FEATURE | IN_BAND_FEATURE | MEM_SLOTS_FEATURE | STATUS_FEATURE;
     return backend->options->events ? features & ~IN_BAND_FEATURE : features;
 }
 
@@ -93,8 +96,8 @@ enum outcome get_status(struct backend *backend, struct message *message)
     return answer_u64(backend, message, backend->told.status);
 }
 
-/* Stops all rings where the driver resets the device. They may be told again as they were, and go on: a client stops its
- * device like this, too. */
+/* Stops all rings where the driver resets the device. They may be told again as they were, and go
+ * on: a client stops its device like this, too. */
 static enum outcome halt(struct backend *backend)
 {
     rings_halt(backend);
@@ -134,8 +137,9 @@ enum outcome reset_owner(struct backend *backend, struct message *message)
 /* Whether the message has room for the bytes that it says. */
 static bool has_bytes(const struct message *message, uint32_t size)
 {
-    return size == message->size - HEAD_OF_CONFIG || refuse("%u bytes of the configuration, in a message with %u", size,
-                                                            message->size - HEAD_OF_CONFIG);
+    return size == message->size - HEAD_OF_CONFIG ||
+           refuse("%u bytes of the configuration, in a message with %u", size,
+                  message->size - HEAD_OF_CONFIG);
 }
 
 enum outcome get_config(struct backend *backend, struct message *message)

@@ -11,7 +11,8 @@
 static void unmap(const struct balloon_region *region)
 {
     if (munmap(region->host, region->length))
-        complain("%llu bytes of memory can't be unmapped: %s", (unsigned long long)region->length, strerror(errno));
+        complain("%llu bytes of memory can't be unmapped: %s", (unsigned long long)region->length,
+                 strerror(errno));
     file_close(region->fd);
 }
 
@@ -32,8 +33,9 @@ static bool overlap(uint64_t one, uint64_t length, uint64_t other, uint64_t its)
 static bool has_room(const struct guest_memory *memory, const struct region_place *place)
 {
     for (unsigned i = 0; i < memory->count; i++)
-        if (overlap(place->guest, place->size, memory->regions[i].guest, memory->regions[i].length)
-            || overlap(place->user, place->size, memory->user[i], memory->regions[i].length))
+        if (overlap(place->guest, place->size, memory->regions[i].guest,
+                    memory->regions[i].length) ||
+            overlap(place->user, place->size, memory->user[i], memory->regions[i].length))
             return false;
     return memory->count < MOST_REGIONS;
 }
@@ -42,44 +44,52 @@ static bool has_room(const struct guest_memory *memory, const struct region_plac
 static bool is_range(const struct region_place *place)
 {
     uint64_t end;
-    return place->size > 0 && (place->guest | place->size) % BALLOON_PAGE == 0
-        && !__builtin_add_overflow(place->guest, place->size, &end)
-        && !__builtin_add_overflow(place->user, place->size, &end)
-        && !__builtin_add_overflow(place->offset, place->size, &end) && end <= INT64_MAX;
+    return place->size > 0 && (place->guest | place->size) % BALLOON_PAGE == 0 &&
+           !__builtin_add_overflow(place->guest, place->size, &end) &&
+           !__builtin_add_overflow(place->user, place->size, &end) &&
+           !__builtin_add_overflow(place->offset, place->size, &end) && end <= INT64_MAX;
 }
 
 /* Whether a file has all bytes of a region. */
 static bool has_bytes(int file, const struct region_place *place)
 {
     struct stat its;
-    return !fstat(file, &its) && S_ISREG(its.st_mode) && place->offset + place->size <= (uint64_t)its.st_size;
+    return !fstat(file, &its) && S_ISREG(its.st_mode) &&
+           place->offset + place->size <= (uint64_t)its.st_size;
 }
 
-/* Whether nobody but the kernel is waited for at an access: memory without a disk, or a plain file on a disk of its own. A file
- * of FUSE, or one of another machine, has its pages when somebody else likes. */
+/* Whether nobody but the kernel is waited for at an access: memory without a disk, or a plain file
+ * on a disk of its own. A file of FUSE, or one of another machine, has its pages when somebody else
+ * likes. */
 static bool is_at_hand(const struct statfs *its)
 {
-    static const unsigned long known[] = {
-        TMPFS_MAGIC, HUGETLBFS_MAGIC, RAMFS_MAGIC, EXT4_SUPER_MAGIC, XFS_SUPER_MAGIC, BTRFS_SUPER_MAGIC, F2FS_SUPER_MAGIC};
+    static const unsigned long known[] = {TMPFS_MAGIC,      HUGETLBFS_MAGIC, RAMFS_MAGIC,
+                                          EXT4_SUPER_MAGIC, XFS_SUPER_MAGIC, BTRFS_SUPER_MAGIC,
+                                          F2FS_SUPER_MAGIC};
     for (unsigned i = 0; i < sizeof known / sizeof known[0]; i++)
         if ((unsigned long)its->f_type == known[i])
             return true;
-    complain("a region's file is on a file system of type 0x%lx, whose pages may have to be waited for", (unsigned long)its->f_type);
+    complain(
+        "a region's file is on a file system of type 0x%lx, whose pages may have to be waited for",
+        (unsigned long)its->f_type);
     return false;
 }
 
-/* Whether a region is whole pages of its file, which are large in one of hugetlbfs: `page_size`, else 0. */
-static bool is_whole(const struct region_place *place, const struct statfs *its, uint64_t *page_size)
+/* Whether a region is whole pages of its file, which are large in one of hugetlbfs: `page_size`,
+ * else 0. */
+static bool is_whole(const struct region_place *place, const struct statfs *its,
+                     uint64_t *page_size)
 {
     *page_size = its->f_type == HUGETLBFS_MAGIC ? (uint64_t)its->f_bsize : 0;
     if (*page_size == 0 || (place->size | place->offset) % *page_size == 0)
         return true;
-    complain("a region of %llu bytes isn't whole pages of %llu", (unsigned long long)place->size, (unsigned long long)*page_size);
+    complain("a region of %llu bytes isn't whole pages of %llu", (unsigned long long)place->size,
+             (unsigned long long)*page_size);
     return false;
 }
 
-/* Maps a region's file, which can't be cut off from now on where it is a memfd that lets itself be sealed; MAP_FAILED where it
- * can't. */
+/* Maps a region's file, which can't be cut off from now on where it is a memfd that lets itself be
+ * sealed; MAP_FAILED where it can't. */
 static uint8_t *map(const struct region_place *place, int file, uint64_t *page_size)
 {
     struct statfs its;
@@ -102,7 +112,8 @@ bool memory_add(struct guest_memory *memory, struct region_place place, int file
         return false;
     }
     memory->user[memory->count] = place.user;
-    memory->regions[memory->count++] = (struct balloon_region){place.guest, place.size, at, file, place.offset, page_size};
+    memory->regions[memory->count++] =
+        (struct balloon_region){place.guest, place.size, at, file, place.offset, page_size};
     return true;
 }
 
@@ -110,7 +121,8 @@ bool memory_remove(struct guest_memory *memory, struct region_place place)
 {
     for (unsigned i = 0; i < memory->count; i++) {
         const struct balloon_region *region = &memory->regions[i];
-        if (region->guest != place.guest || region->length != place.size || memory->user[i] != place.user)
+        if (region->guest != place.guest || region->length != place.size ||
+            memory->user[i] != place.user)
             continue;
         unmap(region);
         memory->count--;
@@ -121,7 +133,8 @@ bool memory_remove(struct guest_memory *memory, struct region_place place)
     return false;
 }
 
-bool memory_map(struct guest_memory *memory, const struct region_place *places, const int *files, unsigned count)
+bool memory_map(struct guest_memory *memory, const struct region_place *places, const int *files,
+                unsigned count)
 {
     bool good = true;
     memory_clear(memory);
@@ -145,7 +158,8 @@ bool memory_of_user(const struct guest_memory *memory, uint64_t user, uint64_t *
 static const struct balloon_region *region_of(const struct guest_memory *memory, uint64_t guest)
 {
     for (unsigned i = 0; i < memory->count; i++)
-        if (guest >= memory->regions[i].guest && guest - memory->regions[i].guest < memory->regions[i].length)
+        if (guest >= memory->regions[i].guest &&
+            guest - memory->regions[i].guest < memory->regions[i].length)
             return &memory->regions[i];
     return NULL;
 }
@@ -182,7 +196,8 @@ static bool seen_before(const struct guest_memory *memory, unsigned number, cons
 {
     struct stat other;
     for (unsigned i = 0; i < number; i++)
-        if (!fstat(memory->regions[i].fd, &other) && other.st_dev == file->st_dev && other.st_ino == file->st_ino)
+        if (!fstat(memory->regions[i].fd, &other) && other.st_dev == file->st_dev &&
+            other.st_ino == file->st_ino)
             return true;
     return false;
 }

@@ -12,23 +12,25 @@ struct region_place {
 
 struct guest_memory {
     struct balloon_region regions[MOST_REGIONS];
-    uint64_t user[MOST_REGIONS];    /* where each is in the client */
+    uint64_t user[MOST_REGIONS]; /* where each is in the client */
     unsigned count;
 };
 
 /* Unmaps all regions and closes their files. */
 void memory_clear(struct guest_memory *memory);
 
-/* Maps one more region. Takes the file; false where it can't be mapped: it isn't whole pages of its file, it wraps, there is one
- * at these addresses of the guest or of the client, its file ends before, or isn't a memfd, one of tmpfs or hugetlbfs, or a plain
- * file; or there are MOST_REGIONS. */
+/* Maps one more region. Takes the file; false where it can't be mapped: it isn't whole pages of its
+ * file, it wraps, there is one at these addresses of the guest or of the client, its file ends
+ * before, or isn't a memfd, one of tmpfs or hugetlbfs, or a plain file; or there are
+  * MOST_REGIONS. */
 bool memory_add(struct guest_memory *memory, struct region_place place, int file);
 
 /* Unmaps the region of this place, wherever it begins in its file; false where there is none. */
 bool memory_remove(struct guest_memory *memory, struct region_place place);
 
 /* Maps these regions in place of those before. Takes the files; false where one can't be mapped. */
-bool memory_map(struct guest_memory *memory, const struct region_place *places, const int *files, unsigned count);
+bool memory_map(struct guest_memory *memory, const struct region_place *places, const int *files,
+                unsigned count);
 
 /* The guest's address of an address in the client; false where it lies in no region. */
 bool memory_of_user(const struct guest_memory *memory, uint64_t user, uint64_t *address);

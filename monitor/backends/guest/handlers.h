@@ -4,17 +4,20 @@
 #include "backend.h"
 #include "vhost_user.h"
 
-enum outcome answer_bytes(struct backend *backend, const struct message *message, const void *body, size_t size);
+enum outcome answer_bytes(struct backend *backend, const struct message *message, const void *body,
+                          size_t size);
 enum outcome answer_u64(struct backend *backend, const struct message *message, uint64_t value);
 
 typedef enum outcome handler(struct backend *backend, struct message *message);
 
 /* features.c */
-handler get_features, set_features, set_owner, get_protocol_features, set_protocol_features, get_queue_num, set_channel;
+handler get_features, set_features, set_owner, get_protocol_features, set_protocol_features,
+    get_queue_num, set_channel;
 handler get_status, set_status, reset_device, reset_owner, get_config, set_config;
 
 /* ring_messages.c */
-handler set_vring_num, set_vring_addr, set_vring_base, get_vring_base, set_vring_kick, set_vring_call, set_vring_err;
+handler set_vring_num, set_vring_addr, set_vring_base, get_vring_base, set_vring_kick,
+    set_vring_call, set_vring_err;
 handler set_vring_enable, vring_kick;
 
 /* slots.c */

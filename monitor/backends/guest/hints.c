@@ -42,6 +42,7 @@ void hints_go_on(struct backend *backend, VbBalloon before)
     VbSettings settings = backend->balloon.state.device.settings;
     uint32_t then;
     settings.memory_end = before.device.settings.memory_end;
-    if (memcmp(&settings, &before.device.settings, sizeof settings) == 0 && vb_set_status(&before, 0, &then) == 0)
+    if (memcmp(&settings, &before.device.settings, sizeof settings) == 0 &&
+        vb_set_status(&before, 0, &then) == 0)
         backend->balloon.state = before;
 }

@@ -7,12 +7,12 @@
 
 struct backend;
 
-/* Obeys a line of the control pipe that begins, stops or ends a round, with one line on standard output; false where it is another
- * line. */
+/* Obeys a line of the control pipe that begins, stops or ends a round, with one line on standard
+ * output; false where it is another line. */
 bool hints_line(struct backend *backend, const char *line);
 
-/* Goes on from a device of another process, which was reset since: where it had these options, the ids of rounds go on after its own, and
- * else anew. */
+/* Goes on from a device of another process, which was reset since: where it had these options, the
+ * ids of rounds go on after its own, and else anew. */
 void hints_go_on(struct backend *backend, VbBalloon before);
 
 #endif

@@ -1,6 +1,6 @@
 #include "inbox.h"
 
-enum { HEAD = sizeof ((struct inbox *)0)->head };
+enum { HEAD = sizeof((struct inbox *)0)->head };
 
 /* Takes note of a head that is there whole; false where no message begins so. */
 static bool read_head(struct inbox *inbox)

@@ -17,8 +17,8 @@
 #include <sys/wait.h>
 #include <unistd.h>
 
-/* Where the memfd is, and from which number on files are that are to be closed after those of the memory. MOST_TRIES: processes that end one
- * after the other before they have served a turn. */
+/* Where the memfd is, and from which number on files are that are to be closed after those of the
+ * memory. MOST_TRIES: processes that end one after the other before they have served a turn. */
 enum { KEPT_FILE = 190, HIGH_FILE = 200, MOST_TRIES = 3, MOST_LINE = 24 };
 
 static const char goes_on_word[] = "--goes-on";
@@ -27,9 +27,9 @@ struct keeper {
     const struct options *options;
     char **words;
     struct kept *kept;
-    bool ends;                  /* a signal has told it to */
+    bool ends; /* a signal has told it to */
     unsigned tries;
-    uint32_t turns;             /* as the last process began */
+    uint32_t turns; /* as the last process began */
 };
 
 /* Moves a file up, so that the files of the memory are closed before it as the process ends. */
@@ -42,13 +42,15 @@ static int move_up(int file, int least)
     return moved;
 }
 
-/* Maps what is kept in the memfd; NULL where it can't, or where it isn't of this program's layout. */
+/* Maps what is kept in the memfd; NULL where it can't, or where it isn't of this program's
+  * layout. */
 static struct kept *map(void)
 {
     struct kept *kept = mmap(NULL, sizeof *kept, PROT_READ | PROT_WRITE, MAP_SHARED, KEPT_FILE, 0);
     if (kept == MAP_FAILED)
         return NULL;
-    mlock(kept, offsetof(struct kept, set)); /* what the kernel writes into it as it reads a message has to have its place */
+    mlock(kept, offsetof(struct kept, set)); /* what the kernel writes into it as it reads a message
+                                                has to have its place */
     return kept;
 }
 
@@ -63,7 +65,8 @@ static struct kept *make(void)
 /* Takes the client that waits, whose bytes are counted from now on; -1 where it has gone again. */
 static int accept_client(void)
 {
-    int count = COUNT_BEGINS, client = accept4(CLIENT_FILE, NULL, NULL, SOCK_CLOEXEC | SOCK_NONBLOCK);
+    int count = COUNT_BEGINS,
+        client = accept4(CLIENT_FILE, NULL, NULL, SOCK_CLOEXEC | SOCK_NONBLOCK);
     file_close(CLIENT_FILE);
     if (client >= 0 && setsockopt(client, SOL_SOCKET, SO_PEEK_OFF, &count, sizeof count))
         complain("bytes of a client can't be counted: %s", strerror(errno));
@@ -83,7 +86,8 @@ static bool take_client(struct keeper *keeper)
     state->notes.later = move_up(LATER_FILE, HIGH_FILE);
     state->notes.end = process_end();
     /* Once more: who connects is told this process's number by the kernel. */
-    if (listen(state->notes.later, 1) || state->notes.end < 0 || !outbox_begin(&keeper->kept->outbox))
+    if (listen(state->notes.later, 1) || state->notes.end < 0 ||
+        !outbox_begin(&keeper->kept->outbox))
         return false;
     state->socket = accept_client();
     return true;
@@ -109,7 +113,8 @@ static void close_others(const struct kept *kept)
     close_range(next, ~0U, 0);
 }
 
-/* Has no part of the lender's standard error any longer: what a process says goes to the lender by its channel. */
+/* Has no part of the lender's standard error any longer: what a process says goes to the lender by
+ * its channel. */
 static bool leave_standard_error(void)
 {
     int file = open("/dev/null", O_WRONLY | O_CLOEXEC);
@@ -139,7 +144,8 @@ static int await(struct keeper *keeper, pid_t process)
     sigset_t signals;
     int status = 0;
     sigemptyset(&signals);
-    sigaddset(&signals, SIGCHLD), sigaddset(&signals, SIGTERM), sigaddset(&signals, SIGINT), sigaddset(&signals, SIGHUP);
+    sigaddset(&signals, SIGCHLD), sigaddset(&signals, SIGTERM), sigaddset(&signals, SIGINT),
+        sigaddset(&signals, SIGHUP);
     while (waitpid(process, &status, WNOHANG) == 0) {
         int number = sigwaitinfo(&signals, NULL);
         if (number <= 0 || number == SIGCHLD)
@@ -161,10 +167,12 @@ static bool suits(const struct keeper *keeper)
         execl(keeper->words[0], keeper->words[0], "--layout", layout, (char *)NULL);
         _exit(1);
     }
-    return process > 0 && waitpid(process, &status, 0) == process && WIFEXITED(status) && WEXITSTATUS(status) == 0;
+    return process > 0 && waitpid(process, &status, 0) == process && WIFEXITED(status) &&
+           WEXITSTATUS(status) == 0;
 }
 
-/* Becomes the program that is there now, with the files that are kept; comes back where it can't. */
+/* Becomes the program that is there now, with the files that are kept; comes back where it
+  * can't. */
 static void become(const struct keeper *keeper)
 {
     int files[MOST_KEPT_FILES + 1];
@@ -197,7 +205,8 @@ static bool goes_on(struct keeper *keeper, int status)
         kept->renews = false;
         return true;
     }
-    return WIFSIGNALED(status) && WTERMSIG(status) != SIGSYS && !keeper->ends && keeper->tries < MOST_TRIES;
+    return WIFSIGNALED(status) && WTERMSIG(status) != SIGSYS && !keeper->ends &&
+           keeper->tries < MOST_TRIES;
 }
 
 /* Ends as the process has ended that served the client. */
@@ -215,7 +224,8 @@ static bool begin(struct keeper *keeper)
 {
     pid_t lender = getppid();
     sigset_t ends;
-    if (keeper->options->ends_with_lender && (prctl(PR_SET_PDEATHSIG, SIGTERM) || getppid() != lender))
+    if (keeper->options->ends_with_lender &&
+        (prctl(PR_SET_PDEATHSIG, SIGTERM) || getppid() != lender))
         return false;
     process_allow_files(HIGH_FILE + FILES_OF_GUEST);
     sigemptyset(&ends), sigaddset(&ends, SIGCHLD);
@@ -226,7 +236,8 @@ static bool begin(struct keeper *keeper)
     keeper->kept = map();
     if (keeper->kept)
         keeper->kept->renews = keeper->kept->stays = false;
-    return keeper->kept && keeper->kept->layout == KEPT_LAYOUT && keeper->kept->bytes == sizeof *keeper->kept;
+    return keeper->kept && keeper->kept->layout == KEPT_LAYOUT &&
+           keeper->kept->bytes == sizeof *keeper->kept;
 }
 
 int keeper_run(const struct options *options, char **words)

@@ -16,7 +16,8 @@ void kept_clear(struct kept *kept)
     kept->layout = KEPT_LAYOUT;
     kept->bytes = sizeof *kept;
     kept->outbox.ends[0] = kept->outbox.ends[1] = -1;
-    state->socket = state->channel = state->notes.channel = state->notes.later = state->notes.end = -1;
+    state->socket = state->channel = state->notes.channel = state->notes.later = state->notes.end =
+        -1;
     for (unsigned number = 0; number < QUEUES; number++)
         state->rings[number] = (struct ring){.kick = NO_EVENT, .call = NO_EVENT, .fault = NO_EVENT};
 }
@@ -26,7 +27,8 @@ static void save_memory(const struct backend *backend, struct kept_state *state)
     const struct guest_memory *memory = &backend->memory;
     for (unsigned i = 0; i < memory->count; i++) {
         const struct balloon_region *region = &memory->regions[i];
-        state->regions[i] = (struct kept_region){{region->guest, region->length, memory->user[i], region->offset}, region->fd};
+        state->regions[i] = (struct kept_region){
+            {region->guest, region->length, memory->user[i], region->offset}, region->fd};
     }
     state->region_count = memory->count;
     state->set_words = backend->balloon.ballooned_words;
@@ -67,7 +69,8 @@ static bool restore_memory(struct lent *lent, const struct kept_state *state)
     for (unsigned i = 0; good && i < state->region_count; i++)
         good = memory_add(&backend->memory, state->regions[i].place, state->regions[i].file);
     if (good && state->region_count > 0)
-        good = balloon_set_regions(balloon, backend->memory.regions, backend->memory.count) == VB_OK;
+        good =
+            balloon_set_regions(balloon, backend->memory.regions, backend->memory.count) == VB_OK;
     if (!good)
         return refuse("the guest's memory can't be mapped by another process");
     marks_regain(backend, &lent->marks, state->set_words);
@@ -104,7 +107,8 @@ bool kept_restore(struct lent *lent)
     backend->remarks = state->remarks;
     memcpy(backend->figures, state->figures, sizeof backend->figures);
     backend->figure_count = state->figure_count < MOST_TAGS ? state->figure_count : MOST_TAGS;
-    if (!restore_memory(lent, state) || !rings_regain(backend, &state->told, state->rings, state->notes.ready_then))
+    if (!restore_memory(lent, state) ||
+        !rings_regain(backend, &state->told, state->rings, state->notes.ready_then))
         return false;
     balloon_set_target(&backend->balloon, state->target_pages);
     configuration_write(device, ACTUAL_AT, state->actual_pages);
@@ -145,7 +149,8 @@ unsigned kept_files(const struct kept *kept, int files[MOST_KEPT_FILES])
     const struct kept_state *state = kept_state(kept);
     const struct files *beside = &kept->inbox.message.files;
     bool is_to_be_handled = kept->inbox.number == state->messages && state->outcome == UNHANDLED;
-    const int others[] = {state->socket, state->channel, state->notes.channel, state->notes.later, state->notes.end, kept->outbox.ends[0],
+    const int others[] = {state->socket,       state->channel,   state->notes.channel,
+                          state->notes.later,  state->notes.end, kept->outbox.ends[0],
                           kept->outbox.ends[1]};
     unsigned count = 0;
     for (unsigned i = 0; i < sizeof others / sizeof others[0]; i++)
@@ -156,7 +161,8 @@ unsigned kept_files(const struct kept *kept, int files[MOST_KEPT_FILES])
         add(files, &count, beside->numbers[i]);
     for (unsigned number = 0; number < QUEUES; number++) {
         const struct ring *ring = &state->rings[number];
-        add(files, &count, ring->kick.file), add(files, &count, ring->call.file), add(files, &count, ring->fault.file);
+        add(files, &count, ring->kick.file), add(files, &count, ring->call.file),
+            add(files, &count, ring->fault.file);
     }
     return count;
 }

@@ -16,7 +16,8 @@ static bool take_kick(struct backend *backend, unsigned number)
     return backend_serve(backend, number);
 }
 
-/* Serves the queue whose kick has come, unless it has another kick by now, or the process is to end. */
+/* Serves the queue whose kick has come, unless it has another kick by now, or the process is to
+ * end. */
 static int kicked(void *context, int file)
 {
     struct backend *backend = context;
@@ -44,7 +45,8 @@ bool rings_polled(const struct backend *backend)
 bool rings_look(struct backend *backend)
 {
     for (unsigned number = 0; number < QUEUES; number++)
-        if (backend->rings[number].polled && ring_runs(backend, number) && !backend_serve(backend, number))
+        if (backend->rings[number].polled && ring_runs(backend, number) &&
+            !backend_serve(backend, number))
             return false;
     return true;
 }

@@ -6,17 +6,20 @@
 
 #include "../loop/loop.h"
 
-/* Milliseconds between two looks of a process without a lender, and between two of a ring that nobody kicks. */
+/* Milliseconds between two looks of a process without a lender, and between two of a ring that
+ * nobody kicks. */
 enum { LOOK_EVERY = 1000, POLL_EVERY = 10 };
 
-/* The hook for the memory that a client hands over: whether the lender has room for it, and a set for its pages. */
+/* The hook for the memory that a client hands over: whether the lender has room for it, and a set
+ * for its pages. */
 static bool admit(struct backend *backend)
 {
     struct lent *lent = (struct lent *)backend;
     uint64_t end = backend->balloon.state.device.settings.memory_end / BALLOON_PAGE;
     uint64_t pages = memory_pages(&backend->memory);
     if (end > MOST_SET || pages > UINT32_MAX)
-        return refuse("its memory ends above %llu GiB", (unsigned long long)MOST_SET * BALLOON_PAGE >> 30);
+        return refuse("its memory ends above %llu GiB",
+                      (unsigned long long)MOST_SET * BALLOON_PAGE >> 30);
     if (pages > lent->notes.pages && !lent_await(lent, WAIT_ROOM, (uint32_t)pages))
         return false;
     if (!marks_follow(backend, &lent->marks, end))
@@ -33,14 +36,16 @@ static bool empties(struct backend *backend)
 }
 
 /* The hook that answers a client: once, whatever process does. */
-static bool answer(struct backend *backend, const struct message *message, const void *body, size_t size)
+static bool answer(struct backend *backend, const struct message *message, const void *body,
+                   size_t size)
 {
     struct lent *lent = (struct lent *)backend;
     if (message->request == GET_CONFIG)
         lent_reads(lent);
     uint8_t bytes[MOST_MESSAGE];
     size_t length = message_answer_bytes(message, body, size, bytes);
-    return length > 0 && outbox_send(&lent->kept->outbox, backend->socket, lent->messages + 1, bytes, length);
+    return length > 0 &&
+           outbox_send(&lent->kept->outbox, backend->socket, lent->messages + 1, bytes, length);
 }
 
 /* The hook for a moment at which another process could go on. */
@@ -49,8 +54,8 @@ static void keep(struct backend *backend)
     kept_save((struct lent *)backend);
 }
 
-/* Serves the message that is whole in the inbox, whose files stay named there until it was served. Another process goes on with the next one
- * where the count of bytes is half used up. */
+/* Serves the message that is whole in the inbox, whose files stay named there until it was served.
+ * Another process goes on with the next one where the count of bytes is half used up. */
 static bool serve_message(struct lent *lent)
 {
     struct inbox *inbox = &lent->kept->inbox;
@@ -65,7 +70,8 @@ static bool serve_message(struct lent *lent)
     return served;
 }
 
-/* The client's next message, if it is there whole: 1; 0 where it has gone; -1 where it can't be served. */
+/* The client's next message, if it is there whole: 1; 0 where it has gone; -1 where it can't be
+ * served. */
 static int serve_client(struct lent *lent)
 {
     struct backend *backend = &lent->backend;
@@ -143,7 +149,8 @@ static bool give_unasked(struct lent *lent)
 static int turn(void *context)
 {
     struct lent *lent = context;
-    if (!rings_look(&lent->backend) || !give_unasked(lent) || !backend_serve_pending(&lent->backend))
+    if (!rings_look(&lent->backend) || !give_unasked(lent) ||
+        !backend_serve_pending(&lent->backend))
         return LOOP_FAULT;
     kept_save(lent);
     lent->kept->turns++;
@@ -172,7 +179,8 @@ static void set_hooks(struct lent *lent)
 static unsigned deflates_of(const struct backend *backend)
 {
     unsigned number = 0;
-    while (number < QUEUES - 1 && vb_kind_of(backend->told.features & ~HAS_PROTOCOL_FEATURES, number) != VB_DEFLATE)
+    while (number < QUEUES - 1 &&
+           vb_kind_of(backend->told.features & ~HAS_PROTOCOL_FEATURES, number) != VB_DEFLATE)
         number++;
     return number;
 }
@@ -182,7 +190,8 @@ static void await_held(struct lent *lent)
 {
     const struct kept_state *state = kept_state(lent->kept);
     unsigned number = deflates_of(&lent->backend);
-    lent->regains = lent->notes.held_pages > 0 && state->rings[number].base == lent->backend.rings[number].base;
+    lent->regains =
+        lent->notes.held_pages > 0 && state->rings[number].base == lent->backend.rings[number].base;
     if (!lent->regains)
         lent->notes.held_pages = 0;
 }
@@ -197,7 +206,8 @@ static bool tell_all(struct backend *backend)
     return true;
 }
 
-/* Goes on with what is kept: serves what is on the rings, and then a message that is there whole. */
+/* Goes on with what is kept: serves what is on the rings, and then a message that is there
+  * whole. */
 static int go_on(void *what)
 {
     struct lent *lent = what;
@@ -209,7 +219,8 @@ static int go_on(void *what)
         return -1;
     if (lent->regains)
         lent->regains = false, lent->notes.held_pages = 0;
-    if (lent->notes.held_pages > 0 && lent->notes.held_wait == lent->kept->granted && !lent_give(lent))
+    if (lent->notes.held_pages > 0 && lent->notes.held_wait == lent->kept->granted &&
+        !lent_give(lent))
         return -1;
     lent->news = true;
     return inbox_is_whole(&lent->kept->inbox) ? serve_client(lent) : 1;
@@ -228,7 +239,9 @@ static bool begin(struct lent *lent, const struct options *options, struct kept 
     if (kept->ended_by > 0)
         complain("its process has ended by signal %u: another one goes on", kept->ended_by);
     if (kept->stays)
-        complain("its process stays of version %s: the program that is there now can't go on with it", VB_VERSION);
+        complain(
+            "its process stays of version %s: the program that is there now can't go on with it",
+            VB_VERSION);
     files_put_off(true);
     process_is_shut = HAS_SANDBOX && !options->open;
     return !process_is_shut || sandbox_enter();

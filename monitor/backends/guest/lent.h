@@ -1,28 +1,31 @@
-/* A guest's process of a host that lends: it serves one client, and reports to the lender, which alone decides. */
+/* A guest's process of a host that lends: it serves one client, and reports to the lender, which
+ * alone decides. */
 #ifndef LENT_H
 #define LENT_H
 #include "kept.h"
 #include "marks.h"
 
 struct lent {
-    struct backend backend;     /* first, as its hooks get it */
-    struct kept *kept;          /* what outlives it */
+    struct backend backend; /* first, as its hooks get it */
+    struct kept *kept;      /* what outlives it */
     struct notes notes;
     struct marks marks;
-    uint64_t messages, bytes;   /* of its client that were served */
-    int64_t look;               /* when it looks after itself the next time, in milliseconds */
-    int64_t report_at;          /* news aren't told before this */
-    int64_t reads_until;        /* until then its driver may still read its last target */
-    uint64_t answers;           /* the order whose report waits for the guest's statistics, and until when; 0: none */
+    uint64_t messages, bytes; /* of its client that were served */
+    int64_t look;             /* when it looks after itself the next time, in milliseconds */
+    int64_t report_at;        /* news aren't told before this */
+    int64_t reads_until;      /* until then its driver may still read its last target */
+    uint64_t answers; /* the order whose report waits for the guest's statistics, and until when; 0:
+                         none */
     int64_t answers_until;
-    bool news;                  /* something has changed since the last report */
-    bool leaves;                /* the lender has said so */
-    bool ends_anew;             /* another process is to go on */
-    bool regains;               /* the deflate that the process before held is still to be found */
-    bool asks_nothing;          /* the deflate that is held names no page: it is given back without a grant */
-    uint32_t wanted;            /* pages for which it waits, and for what */
+    bool news;      /* something has changed since the last report */
+    bool leaves;    /* the lender has said so */
+    bool ends_anew; /* another process is to go on */
+    bool regains;   /* the deflate that the process before held is still to be found */
+    bool
+        asks_nothing; /* the deflate that is held names no page: it is given back without a grant */
+    uint32_t wanted;  /* pages for which it waits, and for what */
     enum lending_wait waits;
-    int answered;               /* 1: they may be had; -1: they may not; 0: it waits */
+    int answered; /* 1: they may be had; -1: they may not; 0: it waits */
 };
 
 /* Milliseconds in which a driver that reads targets has read a new one. */
@@ -31,8 +34,9 @@ enum { READS_IN = 3000 };
 /* The status of a process that isn't the last one of its client. */
 enum { ENDS_ANEW = 75 };
 
-/* Serves the client on what is kept, until that one goes, breaks a rule, or the lender says to leave; returns the program's status. ENDS_ANEW:
- * another process is to go on, and nothing was closed. */
+/* Serves the client on what is kept, until that one goes, breaks a rule, or the lender says to
+ * leave; returns the program's status. ENDS_ANEW: another process is to go on, and nothing was
+ * closed. */
 int lent_run(const struct options *options, struct kept *kept);
 
 /* ---- lent_channel.c */
@@ -40,7 +44,8 @@ int lent_run(const struct options *options, struct kept *kept);
 /* Reports at once; `number` is that of the order which asks for it. */
 void lent_report(struct lent *lent, uint64_t number, bool asked);
 
-/* Notes what was served since the last time, and reports news, or to a question, where it is time. */
+/* Notes what was served since the last time, and reports news, or to a question, where it is
+  * time. */
 void lent_note(struct lent *lent);
 
 /* Obeys what the lender has sent; false where the client can't be served any longer. */
@@ -49,8 +54,8 @@ bool lent_obey(struct lent *lent);
 /* Takes a later lender. */
 void lent_take_lender(struct lent *lent);
 
-/* Waits until the lender has answered for pages that are wanted, and obeys it meanwhile; false where it refuses, or where the client
- * goes or can't be served any longer. */
+/* Waits until the lender has answered for pages that are wanted, and obeys it meanwhile; false
+ * where it refuses, or where the client goes or can't be served any longer. */
 bool lent_await(struct lent *lent, enum lending_wait what, uint32_t pages);
 
 /* Its driver reads the configuration, with its target. */

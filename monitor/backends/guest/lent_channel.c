@@ -6,8 +6,9 @@
 #include <sys/socket.h>
 #include <unistd.h>
 
-/* Milliseconds between two reports that nobody asked for; those in which a report waits for the statistics for which the guest was asked with
- * it; of a turn in which the lender is waited for; orders that are obeyed in one turn. */
+/* Milliseconds between two reports that nobody asked for; those in which a report waits for the
+ * statistics for which the guest was asked with it; of a turn in which the lender is waited for;
+ * orders that are obeyed in one turn. */
 enum { NEWS_EVERY = 10, ANSWERS_IN = 100, AWAIT_EVERY = 1000, ORDERS = 16 };
 
 /* Whose words go to the lender. */
@@ -21,8 +22,11 @@ static void send_to_lender(struct lent *lent, struct lending_message *message)
 
 static void say_to_lender(enum saying saying, const char *words)
 {
-    static const uint32_t kinds[] = {[SAY_REFUSED] = TELL_REFUSED, [SAY_REMARK] = TELL_REMARK, [SAY_GONE] = TELL_GONE,
-                                     [SAY_FAULT] = TELL_REMARK, [SAY_NEWS] = TELL_REMARK};
+    static const uint32_t kinds[] = {[SAY_REFUSED] = TELL_REFUSED,
+                                     [SAY_REMARK] = TELL_REMARK,
+                                     [SAY_GONE] = TELL_GONE,
+                                     [SAY_FAULT] = TELL_REMARK,
+                                     [SAY_NEWS] = TELL_REMARK};
     struct lending_message message = {.kind = kinds[saying]};
     strncpy(message.words, words, MOST_WORDS - 1);
     send_to_lender(speaks, &message);
@@ -34,7 +38,8 @@ void lent_speaks(struct lent *lent)
     say_through = say_to_lender;
 }
 
-/* The target that its driver obeys: the one that it has read last, or the last one, where it reads none, or hasn't for a while. */
+/* The target that its driver obeys: the one that it has read last, or the last one, where it reads
+ * none, or hasn't for a while. */
 static uint32_t obeyed_target(const struct lent *lent)
 {
     bool reads = lent->notes.reads && loop_now() < lent->reads_until;
@@ -49,19 +54,38 @@ void lent_reads(struct lent *lent)
     lent->notes.read_target = target;
 }
 
-/* What it says is kept before, so that another process says nothing else: but not in the middle of a message. */
+/* What it says is kept before, so that another process says nothing else: but not in the middle of
+ * a message. */
 void lent_report(struct lent *lent, uint64_t number, bool asked)
 {
     const struct backend *backend = &lent->backend;
     const VbDevice *device = &backend->balloon.state.device;
-    struct lending_message message = {
-        .kind = TELL_REPORT, .number = number, .serial = ++lent->notes.serial, .held_kib = memory_held(&backend->memory),
-        .end = device->settings.memory_end / BALLOON_PAGE, .lost = lent->notes.lost, .pages = lent->notes.pages, .wanted = lent->wanted, .wait = lent->notes.wait,
-        .holds = backend->options->holds, .held_pages = lent->notes.held_pages, .held_wait = lent->notes.held_wait,
-        .waits = lent->waits, .target = device->target, .actual = device->actual, .ballooned = backend->ballooned,
-        .status = device->status, .ready = backend_is_ready(backend), .obeyed = lent->notes.reads ? obeyed_target(lent) + 1 : 0, .asked = asked, .ballooned_then = lent->notes.ballooned_then,
-        .taken_since = lent->notes.taken_since, .has_terms = lent->notes.has_terms, .terms = lent->notes.terms, .counters = backend->counters,
-        .figure_count = backend->figure_count};
+    struct lending_message message = {.kind = TELL_REPORT,
+                                      .number = number,
+                                      .serial = ++lent->notes.serial,
+                                      .held_kib = memory_held(&backend->memory),
+                                      .end = device->settings.memory_end / BALLOON_PAGE,
+                                      .lost = lent->notes.lost,
+                                      .pages = lent->notes.pages,
+                                      .wanted = lent->wanted,
+                                      .wait = lent->notes.wait,
+                                      .holds = backend->options->holds,
+                                      .held_pages = lent->notes.held_pages,
+                                      .held_wait = lent->notes.held_wait,
+                                      .waits = lent->waits,
+                                      .target = device->target,
+                                      .actual = device->actual,
+                                      .ballooned = backend->ballooned,
+                                      .status = device->status,
+                                      .ready = backend_is_ready(backend),
+                                      .obeyed = lent->notes.reads ? obeyed_target(lent) + 1 : 0,
+                                      .asked = asked,
+                                      .ballooned_then = lent->notes.ballooned_then,
+                                      .taken_since = lent->notes.taken_since,
+                                      .has_terms = lent->notes.has_terms,
+                                      .terms = lent->notes.terms,
+                                      .counters = backend->counters,
+                                      .figure_count = backend->figure_count};
     memcpy(message.figures, backend->figures, sizeof message.figures);
     strcpy(message.words, VB_VERSION);
     if (lent->waits == WAIT_NOTHING)
@@ -87,7 +111,8 @@ void lent_note(struct lent *lent)
     struct backend *backend = &lent->backend;
     const struct counters *counters = &backend->counters;
     bool ready = backend_is_ready(backend);
-    bool heard = counters->statistics != lent->notes.heard, taken = counters->taken != lent->notes.taken;
+    bool heard = counters->statistics != lent->notes.heard,
+         taken = counters->taken != lent->notes.taken;
     if (heard || taken)
         lent->notes.ballooned_then = backend->ballooned;
     if (heard)
@@ -96,7 +121,7 @@ void lent_note(struct lent *lent)
         lent->notes.taken_since = true;
     uint32_t pages;
     if (lent->notes.held_pages > 0 && !balloon_held_deflate(&backend->balloon, &pages))
-        lent->notes.held_pages = 0, lent->news = true;    /* its queue was stopped */
+        lent->notes.held_pages = 0, lent->news = true; /* its queue was stopped */
     lent->news |= backend->options->holds && backend->ballooned != lent->notes.ballooned_before;
     lent->notes.ballooned_before = backend->ballooned;
     lent->news |= heard || taken || ready != lent->notes.ready_then;
@@ -109,7 +134,8 @@ void lent_note(struct lent *lent)
         lent_report(lent, 0, false);
 }
 
-/* Asks the guest for its statistics: 1; 0 where it can't be asked, or hasn't answered the last question; -1 where it can't be served. */
+/* Asks the guest for its statistics: 1; 0 where it can't be asked, or hasn't answered the last
+ * question; -1 where it can't be served. */
 static int ask(struct lent *lent)
 {
     struct backend *backend = &lent->backend;
@@ -158,7 +184,8 @@ void lent_holds(struct backend *backend, uint32_t pages)
     lent->report_at = 0;
 }
 
-/* The number of the grant is kept first: the pages leave the balloon's set before the chain is given back. */
+/* The number of the grant is kept first: the pages leave the balloon's set before the chain is
+ * given back. */
 bool lent_give(struct lent *lent)
 {
     lent->kept->granted = lent->notes.held_wait;
@@ -169,7 +196,8 @@ bool lent_give(struct lent *lent)
     return backend_give(&lent->backend);
 }
 
-/* The lender has granted the deflate that is held; false where the client can't be served any longer. */
+/* The lender has granted the deflate that is held; false where the client can't be served any
+ * longer. */
 static bool give(struct lent *lent, const struct lending_message *order)
 {
     if (lent->notes.held_pages == 0 || order->wait != lent->notes.held_wait)
@@ -177,7 +205,8 @@ static bool give(struct lent *lent, const struct lending_message *order)
     return lent_give(lent);
 }
 
-/* Reports to the lender; where the guest could be asked, once it has answered, or hasn't for a while. */
+/* Reports to the lender; where the guest could be asked, once it has answered, or hasn't for a
+ * while. */
 static bool look(struct lent *lent, const struct lending_message *order)
 {
     int asked = order->asks ? ask(lent) : 0;

@@ -19,7 +19,8 @@ bool level_is_said(enum level level)
     return (int)level <= least_said;
 }
 
-/* Whether standard error is the stream that journald has given to this process: JOURNAL_STREAM names its device and its file. */
+/* Whether standard error is the stream that journald has given to this process: JOURNAL_STREAM
+ * names its device and its file. */
 static bool is_journal(void)
 {
     const char *stream = getenv("JOURNAL_STREAM");
@@ -33,8 +34,11 @@ static bool is_journal(void)
 
 const char *level_prefix(enum level level)
 {
-    static const char *const prefixes[] = {
-        [LEVEL_ERROR] = "<3>", [LEVEL_WARNING] = "<4>", [LEVEL_NOTICE] = "<5>", [LEVEL_INFO] = "<6>", [LEVEL_DEBUG] = "<7>"};
+    static const char *const prefixes[] = {[LEVEL_ERROR] = "<3>",
+                                           [LEVEL_WARNING] = "<4>",
+                                           [LEVEL_NOTICE] = "<5>",
+                                           [LEVEL_INFO] = "<6>",
+                                           [LEVEL_DEBUG] = "<7>"};
     static int journal = -1;
     if (journal < 0)
         journal = is_journal();

@@ -1,4 +1,5 @@
-/* How severe what is said is, as syslog(3) numbers it: what is said at all, and how journald learns of it. */
+/* How severe what is said is, as syslog(3) numbers it: what is said at all, and how journald learns
+ * of it. */
 #ifndef LEVELS_H
 #define LEVELS_H
 #include <stdbool.h>
@@ -10,7 +11,8 @@ enum level { LEVEL_ERROR = 3, LEVEL_WARNING, LEVEL_NOTICE, LEVEL_INFO, LEVEL_DEB
 void say_level(int least);
 bool level_is_said(enum level level);
 
-/* What a line of this level begins with: where standard error is journald's, its number in angle brackets (sd-daemon(3)), else nothing. */
+/* What a line of this level begins with: where standard error is journald's, its number in angle
+ * brackets (sd-daemon(3)), else nothing. */
 const char *level_prefix(enum level level);
 
 #endif

@@ -1,4 +1,5 @@
-/* What every such process does in its loop: its client, the kicks of its queues, its control pipe, and a look each second. */
+/* What every such process does in its loop: its client, the kicks of its queues, its control pipe,
+ * and a look each second. */
 #include "backend.h"
 #include "guard.h"
 #include "state.h"
@@ -13,9 +14,9 @@ struct running {
     struct loop loop;
     struct backend *backend;
     int (*serve)(struct backend *backend);
-    int64_t look;               /* when the next look is */
-    int end;                    /* process_end */
-    int pipe;                   /* the control pipe; -1: it has ended */
+    int64_t look; /* when the next look is */
+    int end;      /* process_end */
+    int pipe;     /* the control pipe; -1: it has ended */
     struct control_line line;
 };
 
@@ -100,15 +101,20 @@ static int turn(void *context)
         return LOOP_ENDS;
     if (it->loop.came == 0 && backend->idle)
         backend->idle(backend);
-    bool good = rings_look(backend) && backend_serve_pending(backend) && state_save(backend, false)
-        && (loop_now() < it->look || look(it));
+    bool good = rings_look(backend) && backend_serve_pending(backend) &&
+                state_save(backend, false) && (loop_now() < it->look || look(it));
     return good ? LOOP_GOES_ON : LOOP_FAULT;
 }
 
 int backend_run(struct backend *backend, int (*serve)(struct backend *backend))
 {
     static struct running running;
-    running = (struct running){.backend = backend, .serve = serve, .look = loop_now() + LOOK_EVERY, .end = process_end(), .pipe = STDIN_FILENO};
-    bool good = running.end >= 0 && loop_add(&running.loop, (struct loop_part){&running, waits, turn});
+    running = (struct running){.backend = backend,
+                               .serve = serve,
+                               .look = loop_now() + LOOK_EVERY,
+                               .end = process_end(),
+                               .pipe = STDIN_FILENO};
+    bool good =
+        running.end >= 0 && loop_add(&running.loop, (struct loop_part){&running, waits, turn});
     return good && loop_run(&running.loop, guard) == LOOP_ENDS ? 0 : 1;
 }

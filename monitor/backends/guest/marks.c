@@ -1,4 +1,5 @@
-/* The set of the pages in a guest's balloon, and that of a held deflate's pages, as its memory comes and goes. */
+/* The set of the pages in a guest's balloon, and that of a held deflate's pages, as its memory
+ * comes and goes. */
 #include "marks.h"
 
 #include "kept.h"
@@ -8,12 +9,14 @@
 
 enum { WORD_BITS = 64 };
 
-/* Takes the marks of the pages from `first` to before `end` out of a set; returns how many there were. */
+/* Takes the marks of the pages from `first` to before `end` out of a set; returns how many there
+ * were. */
 static uint32_t clear(uint64_t *set, uint64_t first, uint64_t end)
 {
     uint32_t count = 0;
     while (first < end) {
-        uint64_t room = WORD_BITS - first % WORD_BITS, here = room < end - first ? room : end - first;
+        uint64_t room = WORD_BITS - first % WORD_BITS,
+                 here = room < end - first ? room : end - first;
         uint64_t mask = UINT64_MAX >> (WORD_BITS - here) << first % WORD_BITS;
         count += (uint32_t)__builtin_popcountll(set[first / WORD_BITS] & mask);
         set[first / WORD_BITS] &= ~mask;
@@ -44,7 +47,8 @@ static void clear_holes(struct backend *backend, struct marks *marks)
 
 static int compare(const void *one, const void *other)
 {
-    uint64_t first = ((const struct span *)one)->first, second = ((const struct span *)other)->first;
+    uint64_t first = ((const struct span *)one)->first,
+             second = ((const struct span *)other)->first;
     return (first > second) - (first < second);
 }
 
@@ -59,7 +63,8 @@ static void note_memory(struct marks *marks, const struct guest_memory *memory)
     qsort(marks->spans, marks->span_count, sizeof marks->spans[0], compare);
 }
 
-/* The words after the set are zeros: the pages that it loses aren't memory, so their marks were taken out. */
+/* The words after the set are zeros: the pages that it loses aren't memory, so their marks were
+ * taken out. */
 static void resize(struct balloon *balloon, const struct marks *marks, uint64_t words)
 {
     balloon->ballooned_words = words;

@@ -1,15 +1,24 @@
-/* Each message of a vhost-user client: its size, its files, the protocol feature without which it isn't spoken, and who
- * serves it. A message that isn't as this table has it ends its client's service. */
+/* Each message of a vhost-user client: its size, its files, the protocol feature without which it
+ * isn't spoken, and who serves it. A message that isn't as this table has it ends its client's
+ * service. */
 #include "handlers.h"
 
-enum { WORD = 8, STATE = 8, ADDRESSES = 40, TABLE_HEAD = 8, REGION = 32, CONFIG_HEAD = 12, MOST_CONFIG = 256 };
+enum {
+    WORD = 8,
+    STATE = 8,
+    ADDRESSES = 40,
+    TABLE_HEAD = 8,
+    REGION = 32,
+    CONFIG_HEAD = 12,
+    MOST_CONFIG = 256
+};
 
 struct rule {
     const char *name;
     handler *serve;
-    uint16_t least, most;           /* bytes of its body */
+    uint16_t least, most; /* bytes of its body */
     uint8_t least_files, most_files;
-    uint64_t needs;                 /* a protocol feature; 0: none */
+    uint64_t needs; /* a protocol feature; 0: none */
 };
 
 static const struct rule rules[] = {
@@ -17,7 +26,8 @@ static const struct rule rules[] = {
     [SET_FEATURES] = {"SET_FEATURES", set_features, WORD, WORD, 0, 0, 0},
     [SET_OWNER] = {"SET_OWNER", set_owner, 0, 0, 0, 0, 0},
     [RESET_OWNER] = {"RESET_OWNER", reset_owner, 0, 0, 0, 0, 0},
-    [SET_MEM_TABLE] = {"SET_MEM_TABLE", set_mem_table, TABLE_HEAD + REGION, TABLE_HEAD + MOST_FILES * REGION, 1, MOST_FILES, 0},
+    [SET_MEM_TABLE] = {"SET_MEM_TABLE", set_mem_table, TABLE_HEAD + REGION,
+                       TABLE_HEAD + MOST_FILES *REGION, 1, MOST_FILES, 0},
     [SET_VRING_NUM] = {"SET_VRING_NUM", set_vring_num, STATE, STATE, 0, 0, 0},
     [SET_VRING_ADDR] = {"SET_VRING_ADDR", set_vring_addr, ADDRESSES, ADDRESSES, 0, 0, 0},
     [SET_VRING_BASE] = {"SET_VRING_BASE", set_vring_base, STATE, STATE, 0, 0, 0},
@@ -30,20 +40,26 @@ static const struct rule rules[] = {
     [GET_QUEUE_NUM] = {"GET_QUEUE_NUM", get_queue_num, 0, 0, 0, 0, MQ_FEATURE},
     [SET_VRING_ENABLE] = {"SET_VRING_ENABLE", set_vring_enable, STATE, STATE, 0, 0, 0},
     [SET_BACKEND_REQ_FD] = {"SET_BACKEND_REQ_FD", set_channel, 0, 0, 1, 1, BACKEND_REQ_FEATURE},
-    [GET_CONFIG] = {"GET_CONFIG", get_config, CONFIG_HEAD, CONFIG_HEAD + MOST_CONFIG, 0, 0, CONFIG_FEATURE},
-    [SET_CONFIG] = {"SET_CONFIG", set_config, CONFIG_HEAD, CONFIG_HEAD + MOST_CONFIG, 0, 0, CONFIG_FEATURE},
+    [GET_CONFIG] = {"GET_CONFIG", get_config, CONFIG_HEAD, CONFIG_HEAD + MOST_CONFIG, 0, 0,
+                    CONFIG_FEATURE},
+    [SET_CONFIG] = {"SET_CONFIG", set_config, CONFIG_HEAD, CONFIG_HEAD + MOST_CONFIG, 0, 0,
+                    CONFIG_FEATURE},
     [RESET_DEVICE] = {"RESET_DEVICE", reset_device, 0, 0, 0, 0, RESET_DEVICE_FEATURE},
     [VRING_KICK] = {"VRING_KICK", vring_kick, STATE, STATE, 0, 0, IN_BAND_FEATURE},
     [GET_MAX_MEM_SLOTS] = {"GET_MAX_MEM_SLOTS", get_max_mem_slots, 0, 0, 0, 0, MEM_SLOTS_FEATURE},
-    [ADD_MEM_REG] = {"ADD_MEM_REG", add_mem_reg, WORD + REGION, WORD + REGION, 1, 1, MEM_SLOTS_FEATURE},
-    [REM_MEM_REG] = {"REM_MEM_REG", rem_mem_reg, WORD + REGION, WORD + REGION, 0, 1, MEM_SLOTS_FEATURE},
+    [ADD_MEM_REG] = {"ADD_MEM_REG", add_mem_reg, WORD + REGION, WORD + REGION, 1, 1,
+                     MEM_SLOTS_FEATURE},
+    [REM_MEM_REG] = {"REM_MEM_REG", rem_mem_reg, WORD + REGION, WORD + REGION, 0, 1,
+                     MEM_SLOTS_FEATURE},
     [SET_STATUS] = {"SET_STATUS", set_status, WORD, WORD, 0, 0, STATUS_FEATURE},
     [GET_STATUS] = {"GET_STATUS", get_status, 0, 0, 0, 0, STATUS_FEATURE},
 };
 
-enum outcome answer_bytes(struct backend *backend, const struct message *message, const void *body, size_t size)
+enum outcome answer_bytes(struct backend *backend, const struct message *message, const void *body,
+                          size_t size)
 {
-    bool sent = backend->answer ? backend->answer(backend, message, body, size) : message_answer(backend->socket, message, body, size);
+    bool sent = backend->answer ? backend->answer(backend, message, body, size)
+                                : message_answer(backend->socket, message, body, size);
     backend->gone = !sent;
     return backend->gone ? STOP : ANSWERED;
 }
@@ -56,7 +72,8 @@ enum outcome answer_u64(struct backend *backend, const struct message *message, 
 /* The rule of a message, or NULL, which is said, where it isn't as its rule has it. */
 static const struct rule *rule_of(const struct backend *backend, const struct message *message)
 {
-    const struct rule *rule = message->request < sizeof rules / sizeof rules[0] ? &rules[message->request] : NULL;
+    const struct rule *rule =
+        message->request < sizeof rules / sizeof rules[0] ? &rules[message->request] : NULL;
     const struct files *files = &message->files;
     if (!rule || !rule->serve)
         refuse("message %u is unknown", message->request);
@@ -74,9 +91,11 @@ static const struct rule *rule_of(const struct backend *backend, const struct me
 }
 
 /* Answers where the client waits for it, by a protocol feature. */
-static bool answer_outcome(struct backend *backend, const struct message *message, enum outcome outcome)
+static bool answer_outcome(struct backend *backend, const struct message *message,
+                           enum outcome outcome)
 {
-    if (outcome == ANSWERED || !(backend->told.protocol & REPLY_ACK_FEATURE) || !message_wants_answer(message))
+    if (outcome == ANSWERED || !(backend->told.protocol & REPLY_ACK_FEATURE) ||
+        !message_wants_answer(message))
         return true;
     return answer_u64(backend, message, outcome == FAILED) == ANSWERED;
 }
@@ -97,14 +116,16 @@ bool message_serve(struct backend *backend, struct message *message)
     if (backend->outcome == UNHANDLED)
         handle(backend, message);
     enum outcome outcome = backend->outcome;
-    bool served = outcome != STOP && rings_settle(backend) && answer_outcome(backend, message, outcome);
+    bool served =
+        outcome != STOP && rings_settle(backend) && answer_outcome(backend, message, outcome);
     backend->outcome = UNHANDLED;
     return served;
 }
 
 bool client_tell(struct backend *backend, int queue)
 {
-    bool by_message = backend->channel >= 0 && (queue < 0 || (backend->told.protocol & IN_BAND_FEATURE));
+    bool by_message =
+        backend->channel >= 0 && (queue < 0 || (backend->told.protocol & IN_BAND_FEATURE));
     if (queue >= 0 && backend->rings[queue].call.file >= 0)
         return event_signal(&backend->rings[queue].call);
     /* A client with neither looks by itself. */

@@ -4,15 +4,16 @@
 #include <stdbool.h>
 #include <stdint.h>
 
-/* Reads a word of digits, of base 10, or of base 16 with 0x before them or without; false where it is another word, or where
- * the number is more than `most`. */
+/* Reads a word of digits, of base 10, or of base 16 with 0x before them or without; false where it
+ * is another word, or where the number is more than `most`. */
 bool read_number(const char *word, int base, uint64_t most, uint64_t *number);
 
-/* What a device offers where nothing is said: MUST_TELL_HOST, STATS_VQ, DEFLATE_ON_OOM, REPORTING and VERSION_1. */
+/* What a device offers where nothing is said: MUST_TELL_HOST, STATS_VQ, DEFLATE_ON_OOM, REPORTING
+ * and VERSION_1. */
 #define USUAL_FEATURES UINT64_C(0x100000027)
 
-/* Words of options (options.h): features into a uint64_t; how many lines are said of a client in a second, into an unsigned; the
- * number of a layout, into a uint64_t; any word. */
+/* Words of options (options.h): features into a uint64_t; how many lines are said of a client in a
+ * second, into an unsigned; the number of a layout, into a uint64_t; any word. */
 bool read_features(const char *word, void *at);
 bool read_lines(const char *word, void *at);
 bool read_layout(const char *word, void *at);

@@ -11,12 +11,16 @@ static void fill(struct option options[MOST_ROWS], const struct option_row *rows
 {
     int count = 0;
     for (; rows[count].name && count < MOST_ROWS - 1; count++)
-        options[count] = (struct option){rows[count].name, rows[count].read ? required_argument : no_argument, NULL, FIRST + count};
+        options[count] =
+            (struct option){rows[count].name, rows[count].read ? required_argument : no_argument,
+                            NULL, FIRST + count};
     options[count] = (struct option){0};
 }
 
-/* The option that is next, or NULL: it is wrong, which is said where `opterr` is set. False at the end of the options. */
-static bool next(int count, char **words, const struct option *options, const struct option_row *rows, const struct option_row **row)
+/* The option that is next, or NULL: it is wrong, which is said where `opterr` is set. False at the
+ * end of the options. */
+static bool next(int count, char **words, const struct option *options,
+                 const struct option_row *rows, const struct option_row **row)
 {
     int found = getopt_long(count, words, "", options, NULL);
     *row = found >= FIRST ? &rows[found - FIRST] : NULL;
@@ -34,7 +38,8 @@ static bool take(const struct option_row *row)
     return false;
 }
 
-enum command_line options_read(int count, char **words, const struct option_row *rows, const char **word)
+enum command_line options_read(int count, char **words, const struct option_row *rows,
+                               const char **word)
 {
     struct option options[MOST_ROWS];
     const struct option_row *row;

@@ -40,7 +40,8 @@ static sigset_t ending(void)
     return signals;
 }
 
-/* Standard output and error once more, by files that don't block; the same where they can't be opened anew. */
+/* Standard output and error once more, by files that don't block; the same where they can't be
+ * opened anew. */
 static int standard[STDERR_FILENO + 1] = {STDIN_FILENO, STDOUT_FILENO, STDERR_FILENO};
 
 static void open_anew(int file)
@@ -48,7 +49,8 @@ static void open_anew(int file)
     char path[32];
     struct stat its;
     if (fstat(file, &its) || !(S_ISFIFO(its.st_mode) || S_ISCHR(its.st_mode)))
-        return; /* a plain file doesn't wait, and has its place in the old one; a socket is sent to */
+        return; /* a plain file doesn't wait, and has its place in the old one; a socket is sent
+                  * to */
     snprintf(path, sizeof path, "/proc/self/fd/%d", file);
     int anew = open(path, O_WRONLY | O_NONBLOCK | O_CLOEXEC | O_NOCTTY);
     standard[file] = anew < 0 ? file : anew;
@@ -88,7 +90,8 @@ void process_allow_files(unsigned wanted)
         return;
     limit.rlim_cur = limit.rlim_max < wanted ? limit.rlim_max : wanted;
     if (setrlimit(RLIMIT_NOFILE, &limit) || limit.rlim_cur < wanted)
-        complain("%u files may be wanted, and %llu may be open (RLIMIT_NOFILE)", wanted, (unsigned long long)limit.rlim_cur);
+        complain("%u files may be wanted, and %llu may be open (RLIMIT_NOFILE)", wanted,
+                 (unsigned long long)limit.rlim_cur);
 }
 
 int process_end(void)

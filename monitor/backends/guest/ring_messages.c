@@ -1,5 +1,5 @@
-/* Messages of one queue. A client may tell of each number below QUEUES, whatever features it has negotiated; what the
- * features leave out never runs. */
+/* Messages of one queue. A client may tell of each number below QUEUES, whatever features it has
+ * negotiated; what the features leave out never runs. */
 #include "handlers.h"
 
 enum { NUMBER_OF_EVENT = 0xff, NO_FILE = 0x100 };
@@ -45,7 +45,8 @@ enum outcome set_vring_base(struct backend *backend, struct message *message)
 enum outcome set_vring_addr(struct backend *backend, struct message *message)
 {
     uint32_t number = message_u32(message, 0);
-    uint64_t table = message_u64(message, 8), used = message_u64(message, 16), avail = message_u64(message, 24);
+    uint64_t table = message_u64(message, 8), used = message_u64(message, 16),
+             avail = message_u64(message, 24);
     struct ring *ring = ring_of(backend, number);
     if (!ring)
         return STOP;
@@ -70,18 +71,21 @@ enum outcome get_vring_base(struct backend *backend, struct message *message)
     return answer_bytes(backend, message, words, sizeof words);
 }
 
-/* Takes the file that comes beside the number of a queue, or lets go of the one before where there is none. */
+/* Takes the file that comes beside the number of a queue, or lets go of the one before where there
+ * is none. */
 static bool take_event(const struct message *message, struct event *event, struct files *files,
                        bool (*take)(struct event *event, int file), const char *what)
 {
     uint64_t word = message_u64(message, 0);
     unsigned number = word & NUMBER_OF_EVENT;
-    if ((word & ~(uint64_t)(NUMBER_OF_EVENT | NO_FILE)) || files->count != ((word & NO_FILE) ? 0 : 1))
+    if ((word & ~(uint64_t)(NUMBER_OF_EVENT | NO_FILE)) ||
+        files->count != ((word & NO_FILE) ? 0 : 1))
         return refuse("%u files for an event of queue %u, by the word 0x%llx", files->count, number,
                       (unsigned long long)word);
     if (word & NO_FILE)
         return event_close(event), true;
-    return take(event, files->numbers[--files->count]) || refuse("a file of queue %u is no %s", number, what);
+    return take(event, files->numbers[--files->count]) ||
+           refuse("a file of queue %u is no %s", number, what);
 }
 
 static bool take_kick(const struct message *message, struct event *event, struct files *files)
@@ -91,7 +95,8 @@ static bool take_kick(const struct message *message, struct event *event, struct
 
 static bool take_call(const struct message *message, struct event *event, struct files *files)
 {
-    return take_event(message, event, files, event_take_call, "eventfd, pipe or socket of a stream");
+    return take_event(message, event, files, event_take_call,
+                      "eventfd, pipe or socket of a stream");
 }
 
 /* A kick without a file asks for a ring that is looked at without a kick. */
@@ -103,7 +108,8 @@ enum outcome set_vring_kick(struct backend *backend, struct message *message)
     ring->polled = ring->kick.file < 0;
     ring->started = true;
     /* A kick of the file before may be lost. */
-    return !ring->runs || backend_serve(backend, message_u64(message, 0) & NUMBER_OF_EVENT) ? DONE : STOP;
+    return !ring->runs || backend_serve(backend, message_u64(message, 0) & NUMBER_OF_EVENT) ? DONE
+                                                                                            : STOP;
 }
 
 /* Who is called anew may have missed a call. */

@@ -8,7 +8,8 @@ enum { MOST_USED = 16 * MOST_CHAINS };
 /* The statuses of a driver that starts (VIRTIO 1.1, 2.1). */
 enum { ACKNOWLEDGE = 1, DRIVER = 3, FEATURES_OK = 11, DRIVER_OK = 15, FAILED_BIT = 128 };
 
-/* The kind of the queue of this number, by the features that the client has told; VB_NO_KIND where they have none. */
+/* The kind of the queue of this number, by the features that the client has told; VB_NO_KIND where
+ * they have none. */
 static uint32_t kind_of(const struct backend *backend, unsigned number)
 {
     return vb_kind_of(backend->told.features & ~HAS_PROTOCOL_FEATURES, number);
@@ -18,18 +19,20 @@ static uint32_t kind_of(const struct backend *backend, unsigned number)
 static const VbQueue *queue_of(const struct backend *backend, uint32_t kind)
 {
     const VbDevice *device = &backend->balloon.state.device;
-    const VbQueue *queues[] = {&device->inflate, &device->deflate, &device->statistics, &device->report, &device->hint};
+    const VbQueue *queues[] = {&device->inflate, &device->deflate, &device->statistics,
+                               &device->report, &device->hint};
     return kind < VB_NO_KIND ? queues[kind] : NULL;
 }
 
 /* Whether the balloon may be empty from now on. */
 static bool may_empty(struct backend *backend)
 {
-    return backend->ballooned == 0 || !backend->balloon.ballooned || !backend->empties || backend->empties(backend);
+    return backend->ballooned == 0 || !backend->balloon.ballooned || !backend->empties ||
+           backend->empties(backend);
 }
 
-/* Writes the status, while no queue is there but one of this kind; false where the device refuses it, or what the guest has posted
- * before. */
+/* Writes the status, while no queue is there but one of this kind; false where the device refuses
+ * it, or what the guest has posted before. */
 static bool write_status(struct backend *backend, uint8_t status, uint32_t kind)
 {
     struct balloon_result result;
@@ -45,13 +48,15 @@ static bool write_status(struct backend *backend, uint8_t status, uint32_t kind)
 
 void configuration_write(VbDevice *device, uint32_t offset, uint32_t number)
 {
-    uint8_t bytes[4] = {(uint8_t)number, (uint8_t)(number >> 8), (uint8_t)(number >> 16), (uint8_t)(number >> 24)};
+    uint8_t bytes[4] = {(uint8_t)number, (uint8_t)(number >> 8), (uint8_t)(number >> 16),
+                        (uint8_t)(number >> 24)};
     vb_write_config(device, offset, bytes, sizeof bytes);
 }
 
-/* No ring runs any longer: a round of hints is stopped, as by a driver's reset, which this may be. The rings may go on where they
- * were, so `actual` and the set of pages in the balloon stay until the first ring starts anew. So does poison_val, which QEMU writes before it tells the features, until it is written
- * again, as each driver does that knows it. */
+/* No ring runs any longer: a round of hints is stopped, as by a driver's reset, which this may be.
+ * The rings may go on where they were, so `actual` and the set of pages in the balloon stay until
+ * the first ring starts anew. So does poison_val, which QEMU writes before it tells the features,
+ * until it is written again, as each driver does that knows it. */
 static bool rest(struct backend *backend)
 {
     struct balloon *balloon = &backend->balloon;
@@ -78,8 +83,8 @@ bool rings_reset(struct backend *backend)
 uint32_t rings_negotiate(struct backend *backend, uint64_t features)
 {
     struct balloon_result result;
-    if (!rest(backend) || !write_status(backend, ACKNOWLEDGE, VB_NO_KIND)
-        || !write_status(backend, DRIVER, VB_NO_KIND))
+    if (!rest(backend) || !write_status(backend, ACKNOWLEDGE, VB_NO_KIND) ||
+        !write_status(backend, DRIVER, VB_NO_KIND))
         return UINT32_MAX;
     backend->told.features = features;
     uint32_t answer = balloon_negotiate(&backend->balloon, features & ~HAS_PROTOCOL_FEATURES);
@@ -89,16 +94,16 @@ uint32_t rings_negotiate(struct backend *backend, uint64_t features)
     return answer;
 }
 
-/* Whether the client has told all that a ring wants to run. DRIVER_OK isn't waited for: QEMU 7.2 tells it of a network's
- * device alone, and starts no ring before. */
+/* Whether the client has told all that a ring wants to run. DRIVER_OK isn't waited for: QEMU 7.2
+ * tells it of a network's device alone, and starts no ring before. */
 static bool wants_to_run(const struct backend *backend, unsigned number)
 {
     const struct told *told = &backend->told;
     const struct ring *ring = &backend->rings[number];
     bool enabled = ring->enabled || !(told->features & HAS_PROTOCOL_FEATURES);
     bool failed = told->status & FAILED_BIT;
-    return told->negotiated && !failed && enabled && ring->placed && ring->started && ring->size > 0
-        && kind_of(backend, number) < VB_NO_KIND;
+    return told->negotiated && !failed && enabled && ring->placed && ring->started &&
+           ring->size > 0 && kind_of(backend, number) < VB_NO_KIND;
 }
 
 bool ring_runs(const struct backend *backend, unsigned number)
@@ -114,25 +119,27 @@ bool rings_run(const struct backend *backend)
     return false;
 }
 
-/* Where a queue starts, in guest addresses: it goes on after what was used, so what was taken and not used is served again, as
- * requests are served in order. */
+/* Where a queue starts, in guest addresses: it goes on after what was used, so what was taken and
+ * not used is served again, as requests are served in order. */
 static bool find_start(struct backend *backend, unsigned number, VbQueueStart *at)
 {
     const struct ring *ring = &backend->rings[number];
     if (ring->size > VB_MAX_QUEUE_SIZE)
         return refuse("queue %u has %u entries", number, ring->size);
     at->size = (uint16_t)ring->size;
-    if (!memory_of_user(&backend->memory, ring->table, &at->table)
-        || !memory_of_user(&backend->memory, ring->avail, &at->avail)
-        || !memory_of_user(&backend->memory, ring->used, &at->used)
-        || !memory_word(&backend->memory, at->used + RING_INDEX_AT, &at->next))
+    if (!memory_of_user(&backend->memory, ring->table, &at->table) ||
+        !memory_of_user(&backend->memory, ring->avail, &at->avail) ||
+        !memory_of_user(&backend->memory, ring->used, &at->used) ||
+        !memory_word(&backend->memory, at->used + RING_INDEX_AT, &at->next))
         return refuse("queue %u isn't in the guest's memory", number);
     if (ring->based && (ring->base > UINT16_MAX || (uint16_t)(ring->base - at->next) > ring->size))
-        return refuse("queue %u goes on at %u, and its used index is %u", number, ring->base, at->next);
+        return refuse("queue %u goes on at %u, and its used index is %u", number, ring->base,
+                      at->next);
     return true;
 }
 
-/* The queue of inflates starts anew: at 0 a new life begins, with nothing in the balloon; else the last one goes on. */
+/* The queue of inflates starts anew: at 0 a new life begins, with nothing in the balloon; else the
+ * last one goes on. */
 static bool begin_life(struct backend *backend, uint16_t position)
 {
     struct balloon *balloon = &backend->balloon;
@@ -144,7 +151,8 @@ static bool begin_life(struct backend *backend, uint16_t position)
     if (position > 0)
         configuration_write(&balloon->state.device, ACTUAL_AT, backend->told.actual);
     else if (balloon->ballooned)
-        memset(balloon->ballooned, 0, balloon->ballooned_words * sizeof balloon->ballooned[0]), backend->ballooned = 0;
+        memset(balloon->ballooned, 0, balloon->ballooned_words * sizeof balloon->ballooned[0]),
+            backend->ballooned = 0;
     return true;
 }
 
@@ -153,11 +161,13 @@ static bool start(struct backend *backend, unsigned number)
 {
     struct ring *ring = &backend->rings[number];
     VbQueueStart at = {0};
-    if (backend->balloon.state.device.status < FEATURES_OK && rings_negotiate(backend, backend->told.features) != 0)
+    if (backend->balloon.state.device.status < FEATURES_OK &&
+        rings_negotiate(backend, backend->told.features) != 0)
         return refuse("the features aren't taken again");
     if (!find_start(backend, number, &at))
         return false;
-    uint32_t kind = kind_of(backend, number), code = balloon_start_queue(&backend->balloon, kind, at);
+    uint32_t kind = kind_of(backend, number),
+             code = balloon_start_queue(&backend->balloon, kind, at);
     if (code != VB_OK)
         return refuse("the place of queue %u is answered %u", number, code);
     ring->runs = true;
@@ -165,10 +175,12 @@ static bool start(struct backend *backend, unsigned number)
         return false;
     if (backend->keep)
         backend->keep(backend);
-    if (at.next > 0 && !backend->tell(backend, (int)number)) /* who was served last may not have been told of it */
+    if (at.next > 0 &&
+        !backend->tell(backend, (int)number)) /* who was served last may not have been told of it */
         return refuse("the client can't be told of a used buffer");
     /* The status looks at each queue once, which may leave more than a notice serves. */
-    return (backend_is_ready(backend) || write_status(backend, DRIVER_OK, kind)) && backend_serve(backend, number);
+    return (backend_is_ready(backend) || write_status(backend, DRIVER_OK, kind)) &&
+           backend_serve(backend, number);
 }
 
 /* Stops a ring, and notes at which index; 0 where the device was reset before. */
@@ -202,12 +214,12 @@ static bool holds(struct backend *backend, unsigned number)
     const struct ring *ring = &backend->rings[number];
     const VbQueue *queue = queue_of(backend, kind_of(backend, number));
     uint64_t table, avail, used;
-    return memory_of_user(&backend->memory, ring->table, &table) && table == queue->table
-        && memory_of_user(&backend->memory, ring->avail, &avail) && avail == queue->avail
-        && memory_of_user(&backend->memory, ring->used, &used) && used == queue->used
-        && memory_holds(&backend->memory, table, DESCRIPTOR_SIZE * queue->size)
-        && memory_holds(&backend->memory, avail, RING_META_SIZE + AVAIL_ENTRY_SIZE * queue->size)
-        && memory_holds(&backend->memory, used, RING_META_SIZE + USED_ELEMENT_SIZE * queue->size);
+    return memory_of_user(&backend->memory, ring->table, &table) && table == queue->table &&
+           memory_of_user(&backend->memory, ring->avail, &avail) && avail == queue->avail &&
+           memory_of_user(&backend->memory, ring->used, &used) && used == queue->used &&
+           memory_holds(&backend->memory, table, DESCRIPTOR_SIZE * queue->size) &&
+           memory_holds(&backend->memory, avail, RING_META_SIZE + AVAIL_ENTRY_SIZE * queue->size) &&
+           memory_holds(&backend->memory, used, RING_META_SIZE + USED_ELEMENT_SIZE * queue->size);
 }
 
 bool rings_hold(struct backend *backend)
@@ -227,13 +239,15 @@ void rings_keep(const struct backend *backend, struct ring kept[QUEUES])
     }
 }
 
-/* Finds where a ring goes on that ran in another process: what that one has used since it was kept is seen in the guest's memory. */
+/* Finds where a ring goes on that ran in another process: what that one has used since it was kept
+ * is seen in the guest's memory. */
 static bool find_used(struct backend *backend, unsigned number)
 {
     struct ring *ring = &backend->rings[number];
     uint64_t used;
     uint16_t now;
-    if (!memory_of_user(&backend->memory, ring->used, &used) || !memory_word(&backend->memory, used + RING_INDEX_AT, &now))
+    if (!memory_of_user(&backend->memory, ring->used, &used) ||
+        !memory_word(&backend->memory, used + RING_INDEX_AT, &now))
         return refuse("queue %u isn't in the guest's memory", number);
     if ((uint16_t)(now - ring->base) > MOST_USED)
         return refuse("queue %u has the used index %u, and had %u", number, now, ring->base);
@@ -242,7 +256,8 @@ static bool find_used(struct backend *backend, unsigned number)
     return true;
 }
 
-bool rings_regain(struct backend *backend, const struct told *told, const struct ring kept[QUEUES], bool was_ready)
+bool rings_regain(struct backend *backend, const struct told *told, const struct ring kept[QUEUES],
+                  bool was_ready)
 {
     bool ready = was_ready && told->negotiated && !told->goes_on;
     backend->told = *told;
@@ -272,7 +287,8 @@ void rings_halt(struct backend *backend)
     for (unsigned number = 0; number < QUEUES; number++) {
         struct ring *ring = &backend->rings[number];
         ring_end(backend, number);
-        *ring = (struct ring){.base = ring->base, .kick = NO_EVENT, .call = ring->call, .fault = ring->fault};
+        *ring = (struct ring){
+            .base = ring->base, .kick = NO_EVENT, .call = ring->call, .fault = ring->fault};
     }
 }
 
@@ -287,7 +303,8 @@ void rings_clear(struct backend *backend)
 {
     memset(&backend->told, 0, sizeof backend->told);
     for (unsigned number = 0; number < QUEUES; number++)
-        backend->rings[number] = (struct ring){.kick = NO_EVENT, .call = NO_EVENT, .fault = NO_EVENT};
+        backend->rings[number] =
+            (struct ring){.kick = NO_EVENT, .call = NO_EVENT, .fault = NO_EVENT};
 }
 
 void rings_close(struct backend *backend)

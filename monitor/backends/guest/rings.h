@@ -1,5 +1,6 @@
-/* The queues as a vhost-user client tells of them: each is placed, started, enabled, stopped and gone on with by itself.
- * A ring that runs has a place in the device; one that doesn't has none there, and nothing of it is served. */
+/* The queues as a vhost-user client tells of them: each is placed, started, enabled, stopped and
+ * gone on with by itself. A ring that runs has a place in the device; one that doesn't has none
+ * there, and nothing of it is served. */
 #ifndef RINGS_H
 #define RINGS_H
 #include "events.h"
@@ -8,35 +9,37 @@
 #include <poll.h>
 #include <stdint.h>
 
-/* How many queues a client may tell of. Linux from 7.2 on asks for five, whatever features it takes. A queue that the features give
- * no kind never runs. */
+/* How many queues a client may tell of. Linux from 7.2 on asks for five, whatever features it
+ * takes. A queue that the features give no kind never runs. */
 enum { QUEUES = 5 };
 
 /* What a client has told of one queue; addresses are the client's. */
 struct ring {
     uint64_t table, avail, used;
-    uint32_t size, base;        /* base: the index at which it goes on */
+    uint32_t size, base; /* base: the index at which it goes on */
     struct event kick, call, fault;
-    bool placed, based;         /* the addresses were told, and the index */
+    bool placed, based; /* the addresses were told, and the index */
     bool enabled, started;
-    bool polled;                /* it is looked at now and then, without a kick */
+    bool polled; /* it is looked at now and then, without a kick */
     bool runs;
 };
 
 /* What a client has told of the whole device. */
 struct told {
-    uint64_t features;          /* as it sent them, with the bit that says that there are protocol features */
-    uint64_t protocol;          /* protocol features */
-    uint8_t status;             /* where the client tells it */
-    bool owned;                 /* a session has begun */
-    bool negotiated;            /* the device has taken the features */
-    bool goes_on;               /* rings have stopped: they go on, or a new life begins */
-    uint32_t actual;            /* `actual` of the rings that have stopped */
+    uint64_t
+        features; /* as it sent them, with the bit that says that there are protocol features */
+    uint64_t protocol; /* protocol features */
+    uint8_t status;    /* where the client tells it */
+    bool owned;        /* a session has begun */
+    bool negotiated;   /* the device has taken the features */
+    bool goes_on;      /* rings have stopped: they go on, or a new life begins */
+    uint32_t actual;   /* `actual` of the rings that have stopped */
 };
 
 struct backend;
 
-/* Puts a number into a device's configuration as a driver does; a field that isn't offered takes none. */
+/* Puts a number into a device's configuration as a driver does; a field that isn't offered takes
+ * none. */
 void configuration_write(VbDevice *device, uint32_t offset, uint32_t number);
 enum { ACTUAL_AT = 4, POISON_AT = 12 };
 
@@ -49,7 +52,8 @@ void rings_close(struct backend *backend);
 /* Takes these features of the driver: 0, or why the device refuses them. No ring may run. */
 uint32_t rings_negotiate(struct backend *backend, uint64_t features);
 
-/* Starts and stops rings, so that those run of which the client has told all; false where one can't, which is said. */
+/* Starts and stops rings, so that those run of which the client has told all; false where one
+ * can't, which is said. */
 bool rings_settle(struct backend *backend);
 
 /* Whether any ring runs, and whether this one does. */
@@ -62,22 +66,26 @@ bool rings_hold(struct backend *backend);
 /* Stops a ring until it is started anew, and notes at which index it goes on. */
 void ring_end(struct backend *backend, unsigned number);
 
-/* Stops all rings and forgets what was told of them, but for the files for interrupts and the index at which each goes on:
- * QEMU 7.2 resets the status before it asks for that. */
+/* Stops all rings and forgets what was told of them, but for the files for interrupts and the index
+ * at which each goes on: QEMU 7.2 resets the status before it asks for that. */
 void rings_halt(struct backend *backend);
 
 /* As rings_halt, and forgets the indexes, too. */
 void rings_forget(struct backend *backend);
 
-/* The rings as another process begins with them; and takes them so, over the memory that they lay in, to be started by rings_settle; whether the
- * driver was ready when that was looked at last. False where the guest has changed what isn't the driver's, which is said. */
+/* The rings as another process begins with them; and takes them so, over the memory that they lay
+ * in, to be started by rings_settle; whether the driver was ready when that was looked at last.
+ * False where the guest has changed what isn't the driver's, which is said. */
 void rings_keep(const struct backend *backend, struct ring kept[QUEUES]);
-bool rings_regain(struct backend *backend, const struct told *told, const struct ring kept[QUEUES], bool was_ready);
+bool rings_regain(struct backend *backend, const struct told *told, const struct ring kept[QUEUES],
+                  bool was_ready);
 
-/* The end of a driver's life without another one that goes on: nothing is in the balloon any longer. */
+/* The end of a driver's life without another one that goes on: nothing is in the balloon any
+ * longer. */
 bool rings_reset(struct backend *backend);
 
-/* Has a loop wait for the kicks of the queues that run, each of which is served when it has come. */
+/* Has a loop wait for the kicks of the queues that run, each of which is served when it has
+  * come. */
 struct loop;
 void rings_wait(struct backend *backend, struct loop *loop);
 

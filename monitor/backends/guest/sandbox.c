@@ -18,31 +18,76 @@
 /* Memory of its own that a process may have; the guest's is shared. */
 enum { MOST_DATA = 64 << 20 };
 
-/* A call that may be made; with an argument that has to be as it is said, where there is a mask or a value to compare. */
+/* A call that may be made; with an argument that has to be as it is said, where there is a mask or
+ * a value to compare. */
 struct allowed {
     int call;
     bool compares;
     struct scmp_arg_cmp argument;
 };
 
-#define ANY(name) {SCMP_SYS(name), false, {0, SCMP_CMP_EQ, 0, 0}}
-#define WITH(name, ...) {SCMP_SYS(name), true, {__VA_ARGS__}}
+#define ANY(name)                                                                                  \
+    {                                                                                              \
+        SCMP_SYS(name), false,                                                                     \
+        {                                                                                          \
+            0, SCMP_CMP_EQ, 0, 0                                                                   \
+        }                                                                                          \
+    }
+#define WITH(name, ...)                                                                            \
+    {                                                                                              \
+        SCMP_SYS(name), true,                                                                      \
+        {                                                                                          \
+            __VA_ARGS__                                                                            \
+        }                                                                                          \
+    }
 
 static const struct allowed calls[] = {
-    /* The client, the lender, kicks and interrupts. No file goes to anybody: there is no sendmsg. */
-    ANY(accept4), ANY(recvmsg), ANY(recvfrom), WITH(sendto, 4, SCMP_CMP_EQ, 0, 0), ANY(poll), ANY(ppoll), ANY(getsockopt),
-    ANY(read), ANY(write), ANY(preadv2), ANY(splice), ANY(setitimer), ANY(close),
+    /* The client, the lender, kicks and interrupts. No file goes to anybody: there is no
+      * sendmsg. */
+    ANY(accept4),
+    ANY(recvmsg),
+    ANY(recvfrom),
+    WITH(sendto, 4, SCMP_CMP_EQ, 0, 0),
+    ANY(poll),
+    ANY(ppoll),
+    ANY(getsockopt),
+    ANY(read),
+    ANY(write),
+    ANY(preadv2),
+    ANY(splice),
+    ANY(setitimer),
+    ANY(close),
     /* The guest's memory, which is never code. */
-    WITH(mmap, 2, SCMP_CMP_MASKED_EQ, PROT_EXEC, 0), ANY(munmap), ANY(madvise), ANY(fallocate), ANY(fstatfs), ANY(fstat),
-    WITH(newfstatat, 3, SCMP_CMP_EQ, AT_EMPTY_PATH, 0), WITH(fcntl, 1, SCMP_CMP_EQ, F_GETFL, 0),
-    WITH(fcntl, 1, SCMP_CMP_EQ, F_SETFL, 0), WITH(fcntl, 1, SCMP_CMP_EQ, F_ADD_SEALS, 0),
+    WITH(mmap, 2, SCMP_CMP_MASKED_EQ, PROT_EXEC, 0),
+    ANY(munmap),
+    ANY(madvise),
+    ANY(fallocate),
+    ANY(fstatfs),
+    ANY(fstat),
+    WITH(newfstatat, 3, SCMP_CMP_EQ, AT_EMPTY_PATH, 0),
+    WITH(fcntl, 1, SCMP_CMP_EQ, F_GETFL, 0),
+    WITH(fcntl, 1, SCMP_CMP_EQ, F_SETFL, 0),
+    WITH(fcntl, 1, SCMP_CMP_EQ, F_ADD_SEALS, 0),
     /* What sort of file a kick is. */
-    ANY(readlink), ANY(readlinkat),
+    ANY(readlink),
+    ANY(readlinkat),
     /* The C library, signals, the end. */
-    ANY(brk), ANY(mremap), ANY(clock_gettime), ANY(gettimeofday), ANY(getrandom), ANY(rt_sigaction), ANY(rt_sigprocmask),
-    ANY(rt_sigreturn), ANY(restart_syscall), ANY(futex), ANY(exit), ANY(exit_group),
+    ANY(brk),
+    ANY(mremap),
+    ANY(clock_gettime),
+    ANY(gettimeofday),
+    ANY(getrandom),
+    ANY(rt_sigaction),
+    ANY(rt_sigprocmask),
+    ANY(rt_sigreturn),
+    ANY(restart_syscall),
+    ANY(futex),
+    ANY(exit),
+    ANY(exit_group),
     /* What abort() makes beside tgkill, and the C library before it. */
-    ANY(getpid), ANY(gettid), WITH(writev, 0, SCMP_CMP_EQ, STDERR_FILENO, 0),
+    ANY(getpid),
+    ANY(gettid),
+    WITH(writev, 0, SCMP_CMP_EQ, STDERR_FILENO, 0),
 };
 
 /* Allows each call of the list; 0 or an errno, negative. */
@@ -50,13 +95,17 @@ static int allow(scmp_filter_ctx filter)
 {
     int code = 0;
     for (unsigned i = 0; i < sizeof calls / sizeof calls[0] && code == 0; i++)
-        code = seccomp_rule_add_array(filter, SCMP_ACT_ALLOW, calls[i].call, calls[i].compares, &calls[i].argument);
+        code = seccomp_rule_add_array(filter, SCMP_ACT_ALLOW, calls[i].call, calls[i].compares,
+                                      &calls[i].argument);
     /* A process may abort itself, and signals nobody else. */
-    const struct scmp_arg_cmp itself[] = {{0, SCMP_CMP_EQ, (scmp_datum_t)getpid(), 0}, {2, SCMP_CMP_EQ, SIGABRT, 0}};
-    return code == 0 ? seccomp_rule_add_array(filter, SCMP_ACT_ALLOW, SCMP_SYS(tgkill), 2, itself) : code;
+    const struct scmp_arg_cmp itself[] = {{0, SCMP_CMP_EQ, (scmp_datum_t)getpid(), 0},
+                                          {2, SCMP_CMP_EQ, SIGABRT, 0}};
+    return code == 0 ? seccomp_rule_add_array(filter, SCMP_ACT_ALLOW, SCMP_SYS(tgkill), 2, itself)
+                     : code;
 }
 
-/* Gives up all privileges, also those that the lender may have for the sake of limits, and new ones. */
+/* Gives up all privileges, also those that the lender may have for the sake of limits, and new
+ * ones. */
 bool privileges_give_up(void)
 {
     struct __user_cap_header_struct head = {_LINUX_CAPABILITY_VERSION_3, 0};

@@ -41,8 +41,11 @@ static bool may_speak(void)
 
 static enum level level_of(enum saying saying)
 {
-    static const enum level levels[] = {[SAY_REFUSED] = LEVEL_NOTICE, [SAY_REMARK] = LEVEL_WARNING, [SAY_GONE] = LEVEL_INFO,
-                                        [SAY_FAULT] = LEVEL_ERROR, [SAY_NEWS] = LEVEL_INFO};
+    static const enum level levels[] = {[SAY_REFUSED] = LEVEL_NOTICE,
+                                        [SAY_REMARK] = LEVEL_WARNING,
+                                        [SAY_GONE] = LEVEL_INFO,
+                                        [SAY_FAULT] = LEVEL_ERROR,
+                                        [SAY_NEWS] = LEVEL_INFO};
     return levels[saying];
 }
 
@@ -60,7 +63,8 @@ static void say(enum saying saying, const char *begin, const char *between, cons
     if (may_speak())
         snprintf(line, sizeof line - 1, "%s%s%s%s%s", prefix, begin, name, between, words);
     else if (speaker->lines == most_lines + 1)
-        snprintf(line, sizeof line - 1, "%s%s%sfurther lines of this second are left out", prefix, name, *name ? ": " : "");
+        snprintf(line, sizeof line - 1, "%s%s%sfurther lines of this second are left out", prefix,
+                 name, *name ? ": " : "");
     else
         return;
     strcat(line, "\n");

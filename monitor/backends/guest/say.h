@@ -1,4 +1,5 @@
-/* What is said on standard error: whole lines, of which each client has only some in a second. How severe each is: levels.h. */
+/* What is said on standard error: whole lines, of which each client has only some in a second. How
+ * severe each is: levels.h. */
 #ifndef SAY_H
 #define SAY_H
 #include <stdbool.h>
@@ -6,8 +7,8 @@
 
 /* Whose lines they are. */
 struct speaker {
-    const char *name;           /* NULL where there is one client alone */
-    int64_t second;             /* in which `lines` were said */
+    const char *name; /* NULL where there is one client alone */
+    int64_t second;   /* in which `lines` were said */
     unsigned lines;
 };
 

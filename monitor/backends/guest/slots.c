@@ -6,14 +6,16 @@ enum { PLACE_OF_REGION = 8 };
 /* Below this vb.h has words for the guest's memory. */
 static const uint64_t MOST_MEMORY = UINT64_C(1) << 44;
 
-/* The device has these regions from now on; false where no device can, or where a queue has lost its memory. */
+/* The device has these regions from now on; false where no device can, or where a queue has lost
+ * its memory. */
 static bool use(struct backend *backend)
 {
     struct balloon *balloon = &backend->balloon;
     if (backend->memory.count == 0)
         balloon->region_count = 0;
-    else if (balloon_set_regions(balloon, backend->memory.regions, backend->memory.count) != VB_OK
-             || balloon->state.device.settings.memory_end >= MOST_MEMORY)
+    else if (balloon_set_regions(balloon, backend->memory.regions, backend->memory.count) !=
+                 VB_OK ||
+             balloon->state.device.settings.memory_end >= MOST_MEMORY)
         return refuse("the guest's memory ends too far up");
     return rings_hold(backend) && (!backend->admit || backend->admit(backend));
 }
@@ -30,7 +32,8 @@ enum outcome set_mem_table(struct backend *backend, struct message *message)
     struct files *files = &message->files;
     struct region_place place;
     unsigned count = message_u32(message, 0);
-    if (count == 0 || count != files->count || message->size < PLACE_OF_REGION + count * sizeof place)
+    if (count == 0 || count != files->count ||
+        message->size < PLACE_OF_REGION + count * sizeof place)
         return refuse("a memory table of %u regions with %u files", count, files->count), STOP;
     memory_clear(&backend->memory);
     files->count = 0;
@@ -58,7 +61,8 @@ static struct region_place place_of(const struct message *message)
 
 enum outcome add_mem_reg(struct backend *backend, struct message *message)
 {
-    if (!memory_add(&backend->memory, place_of(message), message->files.numbers[--message->files.count]))
+    if (!memory_add(&backend->memory, place_of(message),
+                    message->files.numbers[--message->files.count]))
         return refuse("a region of the guest's memory can't be mapped"), STOP;
     return use(backend) ? DONE : STOP;
 }

@@ -11,12 +11,13 @@
 enum { MOST_PATH = 4096 };
 
 static struct {
-    uint8_t wanted[VB_STATE_BYTES];     /* what was to be written last */
-    bool written;                       /* and was */
-    int why;                            /* else why it wasn't, as it was said */
+    uint8_t wanted[VB_STATE_BYTES]; /* what was to be written last */
+    bool written;                   /* and was */
+    int why;                        /* else why it wasn't, as it was said */
 } state;
 
-/* Opens the file, which is no link and nothing that a reader would wait for; -1 where it can't, with errno. */
+/* Opens the file, which is no link and nothing that a reader would wait for; -1 where it can't,
+ * with errno. */
 static int open_state(const char *path)
 {
     struct stat its;
@@ -61,7 +62,8 @@ static uint32_t make_bytes(const struct backend *backend, uint8_t bytes[VB_STATE
     return vb_save(&device, backend->balloon.state.held, bytes, VB_STATE_BYTES);
 }
 
-/* Has the disk keep what a file or a folder has, and closes that; false where it can't, with errno. */
+/* Has the disk keep what a file or a folder has, and closes that; false where it can't, with
+  * errno. */
 static bool settle(int file, bool good)
 {
     good = good && !fsync(file);

@@ -16,8 +16,8 @@ static bool has_file(const struct files *files, int file)
     return false;
 }
 
-/* Keeps the files of one part of what came beside the bytes. Those for which there is no room stay open: who sends more files than that isn't served any
- * longer. */
+/* Keeps the files of one part of what came beside the bytes. Those for which there is no room stay
+ * open: who sends more files than that isn't served any longer. */
 static void keep_files(struct files *files, const struct cmsghdr *part)
 {
     size_t count = (part->cmsg_len - CMSG_LEN(0)) / sizeof(int);
@@ -50,8 +50,10 @@ ssize_t stream_part(int socket, void *to, size_t length, struct files *files)
 {
     struct beside *beside = &files->beside;
     struct iovec part = {to, length};
-    beside->header = (struct msghdr){
-        .msg_iov = &part, .msg_iovlen = 1, .msg_control = beside->control, .msg_controllen = sizeof beside->control};
+    beside->header = (struct msghdr){.msg_iov = &part,
+                                     .msg_iovlen = 1,
+                                     .msg_control = beside->control,
+                                     .msg_controllen = sizeof beside->control};
     ssize_t got = recvmsg(socket, &beside->header, MSG_CMSG_CLOEXEC | MSG_DONTWAIT);
     if (got < 0)
         return errno == ECONNRESET ? 0 : -1;

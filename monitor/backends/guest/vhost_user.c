@@ -33,7 +33,8 @@ uint64_t message_u64(const struct message *message, unsigned at)
 }
 
 /* Puts a message into `bytes`; how many there are, 0 where there are too many. */
-static size_t make_message(uint32_t request, uint32_t flags, const void *body, size_t size, uint8_t bytes[MOST_MESSAGE])
+static size_t make_message(uint32_t request, uint32_t flags, const void *body, size_t size,
+                           uint8_t bytes[MOST_MESSAGE])
 {
     uint32_t head[3] = {request, flags, (uint32_t)size};
     if (size > MOST_BODY)
@@ -51,7 +52,8 @@ static bool send_message(int to, uint32_t request, uint32_t flags, const void *b
     return length > 0 && send(to, bytes, length, MSG_DONTWAIT | MSG_NOSIGNAL) == (ssize_t)length;
 }
 
-size_t message_answer_bytes(const struct message *message, const void *body, size_t size, uint8_t bytes[MOST_MESSAGE])
+size_t message_answer_bytes(const struct message *message, const void *body, size_t size,
+                            uint8_t bytes[MOST_MESSAGE])
 {
     return make_message(message->request, VERSION | IS_REPLY, body, size, bytes);
 }

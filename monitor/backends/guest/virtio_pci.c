@@ -3,9 +3,22 @@
 /* Where the parts of the registers begin, and the offsets in the first one. */
 enum { NOTIFY_AT = 0x1000, ISR_AT = 0x2000, DEVICE_AT = 0x3000, PART = 0x1000, NOTIFY_STEP = 4 };
 enum {
-    OFFER_SELECT = 0, OFFERED = 4, ACCEPT_SELECT = 8, ACCEPTED = 12, MSIX = 16, NUMBER_OF_QUEUES = 18, STATUS = 20,
-    GENERATION = 21, QUEUE_SELECT = 22, QUEUE_SIZE = 24, QUEUE_MSIX = 26, QUEUE_ENABLE = 28, QUEUE_NOTIFY = 30,
-    QUEUE_PLACE = 32, QUEUE_PLACE_END = 56, COMMON_SIZE = 56,
+    OFFER_SELECT = 0,
+    OFFERED = 4,
+    ACCEPT_SELECT = 8,
+    ACCEPTED = 12,
+    MSIX = 16,
+    NUMBER_OF_QUEUES = 18,
+    STATUS = 20,
+    GENERATION = 21,
+    QUEUE_SELECT = 22,
+    QUEUE_SIZE = 24,
+    QUEUE_MSIX = 26,
+    QUEUE_ENABLE = 28,
+    QUEUE_NOTIFY = 30,
+    QUEUE_PLACE = 32,
+    QUEUE_PLACE_END = 56,
+    COMMON_SIZE = 56,
 };
 enum { COMMON = 1, NOTIFY, ISR, DEVICE };
 enum { FEATURES_OK = 8, NO_MSIX = 0xffff };
@@ -16,7 +29,8 @@ static VbDevice *device_of(const struct virtio_pci *pci)
 }
 
 /* A capability that says where a part of the registers is (4.1.4). */
-static void capability(struct virtio_pci *pci, unsigned at, unsigned next, uint8_t type, uint32_t offset, uint32_t size)
+static void capability(struct virtio_pci *pci, unsigned at, unsigned next, uint8_t type,
+                       uint32_t offset, uint32_t size)
 {
     uint8_t length = type == NOTIFY ? 20 : 16;
     uint8_t head[8] = {9, (uint8_t)next, length, type};
@@ -53,7 +67,8 @@ uint32_t pci_read_configuration(const struct virtio_pci *pci, uint32_t at, uint3
 /* Bytes of the command, of the base address, and of what a driver may note for itself. */
 static bool is_writable(uint32_t at)
 {
-    return at == 4 || at == 5 || at == 0x0c || at == 0x0d || (at >= 0x10 && at < 0x14) || at == 0x3c;
+    return at == 4 || at == 5 || at == 0x0c || at == 0x0d || (at >= 0x10 && at < 0x14) ||
+           at == 0x3c;
 }
 
 void pci_write_configuration(struct virtio_pci *pci, uint32_t at, uint32_t value, uint32_t length)
@@ -62,7 +77,7 @@ void pci_write_configuration(struct virtio_pci *pci, uint32_t at, uint32_t value
         if (is_writable(at + i))
             pci->configuration[at + i] = (uint8_t)(value >> 8 * i);
     memset(pci->configuration + 0x10, 0, 1);
-    pci->configuration[0x11] &= (uint8_t)~((BAR_SIZE - 1) >> 8);
+    pci->configuration[0x11] &= (uint8_t) ~((BAR_SIZE - 1) >> 8);
 }
 
 /* The queue that is selected, or NULL. */
@@ -81,11 +96,16 @@ static uint64_t read_queue(struct virtio_pci *pci, uint64_t at)
     if (at >= QUEUE_PLACE && at < QUEUE_PLACE_END && at % 4 == 0)
         return (uint32_t)(queue->place[(at - QUEUE_PLACE) / 8] >> (at % 8 ? 32 : 0));
     switch (at) {
-    case QUEUE_SIZE: return queue->size;
-    case QUEUE_MSIX: return NO_MSIX;
-    case QUEUE_ENABLE: return queue->enabled;
-    case QUEUE_NOTIFY: return pci->queue_select;
-    default: return 0;
+    case QUEUE_SIZE:
+        return queue->size;
+    case QUEUE_MSIX:
+        return NO_MSIX;
+    case QUEUE_ENABLE:
+        return queue->enabled;
+    case QUEUE_NOTIFY:
+        return pci->queue_select;
+    default:
+        return 0;
     }
 }
 
@@ -93,16 +113,26 @@ static uint64_t read_common(struct virtio_pci *pci, uint64_t at)
 {
     uint64_t offered = device_of(pci)->settings.offered;
     switch (at) {
-    case OFFER_SELECT: return pci->offer_select;
-    case OFFERED: return pci->offer_select < 2 ? (uint32_t)(offered >> 32 * pci->offer_select) : 0;
-    case ACCEPT_SELECT: return pci->accept_select;
-    case ACCEPTED: return pci->accept_select < 2 ? pci->accepted[pci->accept_select] : 0;
-    case MSIX: return NO_MSIX;
-    case NUMBER_OF_QUEUES: return PCI_QUEUES;
-    case STATUS: return device_of(pci)->status;
-    case GENERATION: return pci->generation;
-    case QUEUE_SELECT: return pci->queue_select;
-    default: return read_queue(pci, at);
+    case OFFER_SELECT:
+        return pci->offer_select;
+    case OFFERED:
+        return pci->offer_select < 2 ? (uint32_t)(offered >> 32 * pci->offer_select) : 0;
+    case ACCEPT_SELECT:
+        return pci->accept_select;
+    case ACCEPTED:
+        return pci->accept_select < 2 ? pci->accepted[pci->accept_select] : 0;
+    case MSIX:
+        return NO_MSIX;
+    case NUMBER_OF_QUEUES:
+        return PCI_QUEUES;
+    case STATUS:
+        return device_of(pci)->status;
+    case GENERATION:
+        return pci->generation;
+    case QUEUE_SELECT:
+        return pci->queue_select;
+    default:
+        return read_queue(pci, at);
     }
 }
 
@@ -114,7 +144,8 @@ uint64_t pci_read(struct virtio_pci *pci, uint64_t at, uint32_t length)
     if (at == ISR_AT)
         value = pci->isr, pci->isr = 0;
     if (at >= DEVICE_AT && length <= sizeof value)
-        balloon_read_config(&pci->backend->balloon, (uint32_t)(at - DEVICE_AT), (uint8_t *)&value, length);
+        balloon_read_config(&pci->backend->balloon, (uint32_t)(at - DEVICE_AT), (uint8_t *)&value,
+                            length);
     return value;
 }
 
@@ -136,7 +167,8 @@ static void leave_more(struct virtio_pci *pci, const struct balloon_result *resu
             pci->backend->pending |= 1u << number;
 }
 
-/* The device's own status machine takes what the driver writes; what it refuses, the driver reads back as unset. */
+/* The device's own status machine takes what the driver writes; what it refuses, the driver reads
+ * back as unset. */
 static bool write_status(struct virtio_pci *pci, uint8_t status)
 {
     struct balloon_result result;
@@ -165,9 +197,11 @@ static bool enable(struct virtio_pci *pci, struct pci_queue *queue)
 {
     uint32_t kind = vb_kind(device_of(pci), pci->queue_select);
     const uint64_t *place = queue->place;
-    uint32_t code = balloon_place(&pci->backend->balloon, kind, place[0], place[1], place[2], queue->size);
+    uint32_t code =
+        balloon_place(&pci->backend->balloon, kind, place[0], place[1], place[2], queue->size);
     queue->enabled = code == VB_OK;
-    return queue->enabled || refuse("the place of queue %u is answered %u", pci->queue_select, code);
+    return queue->enabled ||
+           refuse("the place of queue %u is answered %u", pci->queue_select, code);
 }
 
 static bool write_queue(struct virtio_pci *pci, uint64_t at, uint64_t value)
@@ -190,22 +224,31 @@ static bool write_queue(struct virtio_pci *pci, uint64_t at, uint64_t value)
 static bool write_common(struct virtio_pci *pci, uint64_t at, uint64_t value)
 {
     switch (at) {
-    case OFFER_SELECT: pci->offer_select = (uint32_t)value; return true;
-    case ACCEPT_SELECT: pci->accept_select = (uint32_t)value; return true;
+    case OFFER_SELECT:
+        pci->offer_select = (uint32_t)value;
+        return true;
+    case ACCEPT_SELECT:
+        pci->accept_select = (uint32_t)value;
+        return true;
     case ACCEPTED:
         if (pci->accept_select < 2)
             pci->accepted[pci->accept_select] = (uint32_t)value;
         return true;
-    case STATUS: return write_status(pci, (uint8_t)value);
-    case QUEUE_SELECT: pci->queue_select = (uint16_t)value; return true;
-    default: return write_queue(pci, at, value);
+    case STATUS:
+        return write_status(pci, (uint8_t)value);
+    case QUEUE_SELECT:
+        pci->queue_select = (uint16_t)value;
+        return true;
+    default:
+        return write_queue(pci, at, value);
     }
 }
 
 static bool notify(struct virtio_pci *pci, uint64_t number)
 {
     pci->backend->counters.kicks++;
-    if (!(device_of(pci)->status & BALLOON_DRIVER_OK) || number >= PCI_QUEUES || !pci->queues[number].enabled)
+    if (!(device_of(pci)->status & BALLOON_DRIVER_OK) || number >= PCI_QUEUES ||
+        !pci->queues[number].enabled)
         return true;
     return backend_serve(pci->backend, (unsigned)number);
 }
@@ -222,6 +265,7 @@ bool pci_write(struct virtio_pci *pci, uint64_t at, uint64_t value, uint32_t len
     if (pci_is_kick(at))
         return notify(pci, (at - NOTIFY_AT) / NOTIFY_STEP);
     if (at >= DEVICE_AT && length <= sizeof value)
-        balloon_write_config(&pci->backend->balloon, (uint32_t)(at - DEVICE_AT), (const uint8_t *)&value, length);
+        balloon_write_config(&pci->backend->balloon, (uint32_t)(at - DEVICE_AT),
+                             (const uint8_t *)&value, length);
     return true;
 }

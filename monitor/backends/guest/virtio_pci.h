@@ -7,7 +7,7 @@
 enum { BAR_SIZE = 0x4000, PCI_CONFIGURATION = 256, PCI_QUEUES = VB_NO_KIND, OFFERED_SIZE = 256 };
 
 struct pci_queue {
-    uint64_t place[3];          /* table, available ring, used ring */
+    uint64_t place[3]; /* table, available ring, used ring */
     uint16_t size;
     bool enabled;
 };
@@ -28,7 +28,8 @@ void pci_start(struct virtio_pci *pci, struct backend *backend);
 uint32_t pci_read_configuration(const struct virtio_pci *pci, uint32_t at, uint32_t length);
 void pci_write_configuration(struct virtio_pci *pci, uint32_t at, uint32_t value, uint32_t length);
 
-/* Reads and writes of the registers; a write is false where the client can't be served any longer, which is said. */
+/* Reads and writes of the registers; a write is false where the client can't be served any longer,
+ * which is said. */
 uint64_t pci_read(struct virtio_pci *pci, uint64_t at, uint32_t length);
 bool pci_write(struct virtio_pci *pci, uint64_t at, uint64_t value, uint32_t length);
 

@@ -1,8 +1,10 @@
-/* What is lent to a guest before it asks: what it is told to take out of its balloon, and what it gave for an earlier target. A driver that has to wait in
- * a deflate gives no pages meanwhile, and the others may wait for just these. */
+/* What is lent to a guest before it asks: what it is told to take out of its balloon, and what it
+ * gave for an earlier target. A driver that has to wait in a deflate gives no pages meanwhile, and
+ * the others may wait for just these. */
 #include "loans.h"
 
-/* Pages that a deflate of Linux's driver takes at most; milliseconds for which a driver that reads no target may still obey an earlier one. */
+/* Pages that a deflate of Linux's driver takes at most; milliseconds for which a driver that reads
+ * no target may still obey an earlier one. */
 enum { PAGES_OF_REQUEST = VB_MAX_BYTES / sizeof(uint32_t), LINGERS = 3000 };
 
 void loan_tell(struct seat *seat, uint32_t target)
@@ -36,7 +38,8 @@ static bool reads_targets(const struct seat *seat)
     return seat->report.obeyed > 0;
 }
 
-/* Whether its driver may obey an earlier target, though its process has heard the last one: none that reads targets does. */
+/* Whether its driver may obey an earlier target, though its process has heard the last one: none
+ * that reads targets does. */
 static bool lingers(const struct seat *seat)
 {
     return !reads_targets(seat) && loop_now() < seat->obeys_until;
@@ -66,7 +69,8 @@ static uint32_t beyond_target(const struct seat *seat)
 
 void loan_trim(struct seat *seat)
 {
-    uint32_t beyond = beyond_target(seat), ahead = seat->regained && !reads_targets(seat) ? 0 : beyond;
+    uint32_t beyond = beyond_target(seat),
+             ahead = seat->regained && !reads_targets(seat) ? 0 : beyond;
     if (seat->unread)
         ahead = loan_of(seat)->ballooned;
     else if (lingers(seat))
@@ -85,14 +89,16 @@ void loan_take_in(struct seat *seat, uint32_t pages)
     vb_loan_keep(loans, MOST_PLACES, seat->place, kept);
 }
 
-/* Lends a guest again, as far as there is room, what an earlier lender may have lent it ahead: its driver was told to take it, and may be in that
- * deflate by now, which is granted then where nothing more is missing. With this its loan is as that lender had it: it is written by hand. What a
- * driver that reads no target doesn't take soon wasn't lent. */
+/* Lends a guest again, as far as there is room, what an earlier lender may have lent it ahead: its
+ * driver was told to take it, and may be in that deflate by now, which is granted then where
+ * nothing more is missing. With this its loan is as that lender had it: it is written by hand. What
+ * a driver that reads no target doesn't take soon wasn't lent. */
 static void regain(struct seat *seat)
 {
     const struct host *host = seat->host;
     VbLoan *loan = loan_of(seat);
-    uint64_t owed = vb_loan_owed(host->loans, MOST_PLACES), room = owed < host->frames ? host->frames - owed : 0;
+    uint64_t owed = vb_loan_owed(host->loans, MOST_PLACES),
+             room = owed < host->frames ? host->frames - owed : 0;
     uint32_t beyond = loan->ballooned - smaller(loan->ballooned, seat->least_told);
     uint32_t regained = room < beyond ? (uint32_t)room : beyond;
     bool deflates = seat->asked_for == WAITS_FOR_DEFLATE && loan->asked > 0;
@@ -139,7 +145,8 @@ uint32_t loan_ahead(struct seat *seat, uint32_t pages)
     const VbLoan *loan = loan_of(seat);
     if (!seat_is_ready(seat) || loan->asked > 0)
         return 0;
-    uint32_t lent = lent_of_balloon(loan), had = smaller(lent - smaller(lent, beyond_target(seat)), pages);
+    uint32_t lent = lent_of_balloon(loan),
+             had = smaller(lent - smaller(lent, beyond_target(seat)), pages);
     return had + lend_at_once(seat, pages - had);
 }
 

@@ -26,13 +26,14 @@ void remove_socket(const char *path)
 
 bool is_name(const char *name)
 {
-    static const char letters[] = "abcdefghijklmnopqrstuvwxyzABCDEFGHIJKLMNOPQRSTUVWXYZ0123456789-_";
+    static const char letters[] =
+        "abcdefghijklmnopqrstuvwxyzABCDEFGHIJKLMNOPQRSTUVWXYZ0123456789-_";
     size_t length = strlen(name);
     return length > 0 && length < MOST_NAME && strspn(name, letters) == length;
 }
 
-/* Opens the folder of channels, and makes it where it isn't there. Sockets in it have paths by its file, so that nobody puts another one in its
- * place. */
+/* Opens the folder of channels, and makes it where it isn't there. Sockets in it have paths by its
+ * file, so that nobody puts another one in its place. */
 static bool open_channels(struct host *host, int folder)
 {
     struct stat its;
@@ -41,7 +42,8 @@ static bool open_channels(struct host *host, int folder)
     host->channels = openat(folder, channels_name, O_RDONLY | O_DIRECTORY | O_NOFOLLOW | O_CLOEXEC);
     if (host->channels < 0)
         return complain("%s/%s: %s", host->folder, channels_name, strerror(errno)), false;
-    if (!fstat(host->channels, &its) && its.st_uid == geteuid() && !(its.st_mode & (S_IRWXG | S_IRWXO)))
+    if (!fstat(host->channels, &its) && its.st_uid == geteuid() &&
+        !(its.st_mode & (S_IRWXG | S_IRWXO)))
         return true;
     complain("%s/%s isn't the lender's alone", host->folder, channels_name);
     return false;
@@ -67,8 +69,10 @@ void folder_leave(const struct host *host)
     rmdir(path);
 }
 
-/* The name of what is kept of a guest: a link that leads nowhere, as links are made whole and renamed whole. */
-static void name_kept(const struct host *host, const char *name, const char *mark, char path[MOST_KEPT])
+/* The name of what is kept of a guest: a link that leads nowhere, as links are made whole and
+ * renamed whole. */
+static void name_kept(const struct host *host, const char *name, const char *mark,
+                      char path[MOST_KEPT])
 {
     snprintf(path, MOST_KEPT, "%s/%s%s", host->folder, mark, name);
 }
@@ -78,8 +82,9 @@ const char *folder_keep(const struct host *host, const char *name, const struct 
     char path[MOST_KEPT], part[MOST_KEPT], words[MOST_LIMIT_WORDS], text[MOST_KEPT];
     name_kept(host, name, "=", path);
     name_kept(host, name, ".=", part);
-    snprintf(text, sizeof text, "%s%" PRIu32 " %" PRIu32 " %" PRIu32 " %d %" PRIu32 " %s", terms_word, terms->least, terms->most, terms->priority,
-             terms->strict, terms->overhead, limit_words(&terms->limit, words));
+    snprintf(text, sizeof text, "%s%" PRIu32 " %" PRIu32 " %" PRIu32 " %d %" PRIu32 " %s",
+             terms_word, terms->least, terms->most, terms->priority, terms->strict, terms->overhead,
+             limit_words(&terms->limit, words));
     unlink(part);
     return symlink(text, part) || rename(part, path) ? strerror(errno) : NULL;
 }
@@ -91,7 +96,8 @@ void folder_forget(const struct host *host, const char *name)
     unlink(path);
 }
 
-/* Reads this many numbers, a blank after each; what comes after them, or NULL where there are fewer. */
+/* Reads this many numbers, a blank after each; what comes after them, or NULL where there are
+ * fewer. */
 static char *take_numbers(char *words, unsigned count, uint64_t numbers[])
 {
     for (unsigned i = 0; i < count; i++) {
@@ -116,11 +122,16 @@ static bool recall(const struct host *host, const char *name, struct guest_terms
     ssize_t length = readlink(path, text, sizeof text - 1);
     text[length > 0 ? length : 0] = 0;
     bool all = !strncmp(text, terms_word, sizeof terms_word - 1);
-    char *words = all ? take_numbers(text + sizeof terms_word - 1, TERM_NUMBERS, numbers) : take_numbers(text, 1, &numbers[TERM_NUMBERS - 1]);
+    char *words = all ? take_numbers(text + sizeof terms_word - 1, TERM_NUMBERS, numbers)
+                      : take_numbers(text, 1, &numbers[TERM_NUMBERS - 1]);
     if (!words || limit_read(words, &limit))
         return false;
-    *terms = (struct guest_terms){.least = (uint32_t)numbers[0], .most = (uint32_t)numbers[1], .priority = (uint32_t)numbers[2],
-                                  .strict = numbers[3] != 0, .overhead = (uint32_t)numbers[4], .limit = limit};
+    *terms = (struct guest_terms){.least = (uint32_t)numbers[0],
+                                  .most = (uint32_t)numbers[1],
+                                  .priority = (uint32_t)numbers[2],
+                                  .strict = numbers[3] != 0,
+                                  .overhead = (uint32_t)numbers[4],
+                                  .limit = limit};
     return all;
 }
 
@@ -152,7 +163,8 @@ static void take_over(struct host *host, const char *name)
         seat_of(host, name)->asks_terms = !knows;
 }
 
-/* Makes a seat for each socket of a folder whose name is this mark and a guest's name, in the order of names. */
+/* Makes a seat for each socket of a folder whose name is this mark and a guest's name, in the order
+ * of names. */
 static void take_over_all(struct host *host, const char *folder, const char *mark)
 {
     char path[MOST_KEPT];

@@ -1,5 +1,6 @@
-/* The lender of a host: it lends its guests more memory than the host has, and asks each for pages so that the host's budget suffices.
- * Each guest has a process of its own, which alone touches what a client sends. */
+/* The lender of a host: it lends its guests more memory than the host has, and asks each for pages
+ * so that the host's budget suffices. Each guest has a process of its own, which alone touches what
+ * a client sends. */
 #ifndef HOST_H
 #define HOST_H
 #include "message.h"
@@ -15,21 +16,24 @@
 #include <stdio.h>
 
 enum {
-    MOST_PLACES = 2 * MOST_GUESTS,      /* of loans: also of guests that are leaving */
-    MOST_PATH = 108,            /* of a socket's */
-    SILENT_AFTER = 3,           /* questions without statistics, and a guest counts as one that doesn't answer */
-    PAGES_PER_MIB = 256, PAGE_KIB = BALLOON_PAGE / 1024,
+    MOST_PLACES = 2 * MOST_GUESTS, /* of loans: also of guests that are leaving */
+    MOST_PATH = 108,               /* of a socket's */
+    SILENT_AFTER =
+        3, /* questions without statistics, and a guest counts as one that doesn't answer */
+    PAGES_PER_MIB = 256,
+    PAGE_KIB = BALLOON_PAGE / 1024,
 };
 
 /* Who writes a guest's limit, and what is known of that. Frames. */
 struct limit_writer {
-    int channel;                /* -1: nobody does yet */
-    bool waits;                 /* for the outcome of the last request */
-    uint64_t number, asked;     /* of the last request, and what it is to be; 0: nothing */
-    uint64_t written;           /* what was written last; 0: it isn't known */
-    uint64_t allowed;           /* the kernel allows no fewer than these, whatever is being written; 0: it isn't known */
+    int channel;            /* -1: nobody does yet */
+    bool waits;             /* for the outcome of the last request */
+    uint64_t number, asked; /* of the last request, and what it is to be; 0: nothing */
+    uint64_t written;       /* what was written last; 0: it isn't known */
+    uint64_t allowed; /* the kernel allows no fewer than these, whatever is being written; 0: it
+                         isn't known */
     uint64_t failures;
-    int64_t again_at;           /* before this nothing is written, as something couldn't be */
+    int64_t again_at; /* before this nothing is written, as something couldn't be */
 };
 
 /* What is looked at of a guest to tell whether it rests, in pages. */
@@ -41,56 +45,67 @@ struct stillness {
 /* A guest's place on the host, which it may leave and come back to. */
 struct seat {
     struct host *host;
-    struct speaker speaker;     /* for what is said of its clients */
+    struct speaker speaker; /* for what is said of its clients */
     char name[MOST_NAME], path[MOST_PATH], later_path[MOST_PATH];
-    int listener;               /* where its client comes */
+    int listener; /* where its client comes */
     struct guest_terms terms;
     struct limit_writer writer;
     /* Its process. */
-    bool here;                  /* there is one */
-    pid_t process;              /* the number of its keeper, by the kernel's word */
-    int process_file;           /* readable once that has ended; -1: its channel ends then */
-    pid_t serving;              /* the number of the process that has sent the last report: another one may go on where it ends */
-    int channel;                /* -1: none */
-    bool gone;                  /* its client has gone; the process hasn't ended yet */
-    bool refused;               /* its client isn't served any longer, as it broke a rule or found no room */
-    bool holds;                 /* its process was started to hold deflates and resets, until they are granted */
-    bool adopts;                /* the first report of a process that an earlier lender has started is still to come */
-    int64_t adopts_until;       /* and isn't waited for any longer from then on */
-    int64_t comes_at;           /* before this no client is taken */
-    int64_t asked_at;           /* when the first order to look that isn't answered was given; 0: all are answered */
-    uint64_t number, answered;  /* of the last order to look; of the last one that is answered */
-    unsigned read;              /* messages of it that were read since the last refill */
+    bool here;        /* there is one */
+    pid_t process;    /* the number of its keeper, by the kernel's word */
+    int process_file; /* readable once that has ended; -1: its channel ends then */
+    pid_t serving; /* the number of the process that has sent the last report: another one may go on
+                      where it ends */
+    int channel;   /* -1: none */
+    bool gone;     /* its client has gone; the process hasn't ended yet */
+    bool refused;  /* its client isn't served any longer, as it broke a rule or found no room */
+    bool holds;    /* its process was started to hold deflates and resets, until they are granted */
+    bool adopts;   /* the first report of a process that an earlier lender has started is still to
+                      come */
+    int64_t adopts_until; /* and isn't waited for any longer from then on */
+    int64_t comes_at;     /* before this no client is taken */
+    int64_t asked_at;     /* when the first order to look that isn't answered was given; 0: all are
+                             answered */
+    uint64_t number, answered; /* of the last order to look; of the last one that is answered */
+    unsigned read;             /* messages of it that were read since the last refill */
     uint64_t clients, lost;
-    struct lending_message report;      /* the last one, whose words are the version of its process; zeros without one */
+    struct lending_message
+        report; /* the last one, whose words are the version of its process; zeros without one */
     /* What was made of it. */
-    uint32_t pages;             /* of its memory that has room */
+    uint32_t pages; /* of its memory that has room */
     uint32_t free, available, ballooned_then;
     bool known, tells_available;
-    unsigned silent;            /* questions for statistics since its last ones */
-    struct stillness still;     /* as it was when it last changed, and when that was */
+    unsigned silent;        /* questions for statistics since its last ones */
+    struct stillness still; /* as it was when it last changed, and when that was */
     int64_t moved_at;
-    unsigned passed_over;       /* periods in which it rested and wasn't asked */
+    unsigned passed_over; /* periods in which it rested and wasn't asked */
     int64_t heard_at;
-    uint64_t heard, taken;      /* its counters when they were last looked at */
-    int64_t paused_until;       /* it has taken pages itself: until then it is asked for no more than it has given */
-    uint32_t target, told;      /* what was decided, and what it is asked for so far */
+    uint64_t heard, taken; /* its counters when they were last looked at */
+    int64_t paused_until;  /* it has taken pages itself: until then it is asked for no more than it
+                              has given */
+    uint32_t target, told; /* what was decided, and what it is asked for so far */
     enum guest_wait waits_for;
     int64_t waits_since;
-    struct ended_wait ended;    /* the last of its waits that ended, also those of clients before */
-    uint32_t wait_answered;     /* the last of its waits that was answered, and how */
-    bool wait_admitted, wait_named;     /* named: it was said that its wait is long */
-    size_t place;               /* of its loan */
-    enum guest_wait asked_for;  /* what its loan asks for */
-    uint32_t held_granted, granted_pages;       /* the last of its deflates that was granted, and of how many pages */
-    uint64_t granted;           /* frames that were lent to it since it came, as it asked for them or was told to take them */
-    uint32_t least_told;        /* the least that it was asked for since its driver has read its target */
-    bool unread;                /* its driver is still to read its target; or its process to hear it, where a driver reads none */
-    int64_t obeys_until;        /* its target fell, or it took pages: until then a driver that reads none may still obey an earlier one */
-    bool asks_terms;            /* its terms aren't in the folder, as 0.3.0 had processes keep them: its first report has them */
-    bool adopted, regains;      /* its loan is to follow the first report of a process of an earlier lender; what that lent ahead is to be lent again */
-    bool regained;              /* it was, and its driver hasn't been told another target */
-    bool cooperates;            /* it hasn't taken pages that nobody granted */
+    struct ended_wait ended; /* the last of its waits that ended, also those of clients before */
+    uint32_t wait_answered;  /* the last of its waits that was answered, and how */
+    bool wait_admitted, wait_named; /* named: it was said that its wait is long */
+    size_t place;                   /* of its loan */
+    enum guest_wait asked_for;      /* what its loan asks for */
+    uint32_t held_granted,
+        granted_pages; /* the last of its deflates that was granted, and of how many pages */
+    uint64_t granted; /* frames that were lent to it since it came, as it asked for them or was told
+                         to take them */
+    uint32_t least_told; /* the least that it was asked for since its driver has read its target */
+    bool unread; /* its driver is still to read its target; or its process to hear it, where a
+                    driver reads none */
+    int64_t obeys_until; /* its target fell, or it took pages: until then a driver that reads none
+                            may still obey an earlier one */
+    bool asks_terms; /* its terms aren't in the folder, as 0.3.0 had processes keep them: its first
+                        report has them */
+    bool adopted, regains; /* its loan is to follow the first report of a process of an earlier
+                              lender; what that lent ahead is to be lent again */
+    bool regained;         /* it was, and its driver hasn't been told another target */
+    bool cooperates;       /* it hasn't taken pages that nobody granted */
 };
 
 /* The pages that its memory's files hold, by its last report. */
@@ -100,10 +115,10 @@ static inline uint32_t pages_held(const struct seat *seat)
 }
 
 struct host_counters {
-    uint64_t looks, above, peak;                /* peak: KiB */
-    uint64_t decisions, changed;                /* changed: targets */
-    uint64_t shorts, admitted, refused, gone;   /* shorts: decisions that found the guests short */
-    uint64_t grants;                            /* of room, deflates and resets that waited */
+    uint64_t looks, above, peak;              /* peak: KiB */
+    uint64_t decisions, changed;              /* changed: targets */
+    uint64_t shorts, admitted, refused, gone; /* shorts: decisions that found the guests short */
+    uint64_t grants;                          /* of room, deflates and resets that waited */
 };
 
 /* The answers of standard output that nobody has read yet. */
@@ -122,50 +137,57 @@ struct input {
 
 /* A line whose answer waits for new reports. */
 struct question {
-    char line[256];             /* empty: none */
-    uint64_t number;            /* reports with a later number are new */
-    uint64_t ask;               /* the number of the order to ask a guest, and whether it could be asked */
+    char line[256];  /* empty: none */
+    uint64_t number; /* reports with a later number are new */
+    uint64_t ask;    /* the number of the order to ask a guest, and whether it could be asked */
     bool asked;
     int64_t until;
 };
 
 struct host {
-    const char *folder, *program;       /* program: of guests' processes */
-    const char *itself;         /* the lender's own program */
-    int channels;               /* the folder where a later lender finds guests' processes */
+    const char *folder, *program; /* program: of guests' processes */
+    const char *itself;           /* the lender's own program */
+    int channels;                 /* the folder where a later lender finds guests' processes */
     uint64_t features;
-    VbLoan loans[2 * MOST_GUESTS];      /* by the places of seats */
+    VbLoan loans[2 * MOST_GUESTS]; /* by the places of seats */
     bool strict, strict_pages, events, no_sandbox, end_with_lender;
     struct seat *seats[MOST_GUESTS];
     unsigned count;
-    struct seat *leaving[MOST_GUESTS];  /* seats that were taken away, whose processes haven't ended yet */
+    struct seat
+        *leaving[MOST_GUESTS]; /* seats that were taken away, whose processes haven't ended yet */
     unsigned leaving_count;
-    uint32_t frames, floor;     /* pages: the budget, and what each guest is to keep free */
-    uint32_t step;              /* a target grows by 1/step of the guest in a second; 0: at once */
-    int64_t period;             /* milliseconds */
-    int64_t rests_until;        /* clients aren't taken before this, as there was no file left for one */
-    int64_t paid_until;         /* the processes that were started are paid for until then, each with its milliseconds */
-    struct seat *comes;         /* whose client is taken in this turn; NULL: none */
-    int64_t refills_at;         /* when messages are read again of processes that have sent too many */
-    int64_t decides_at, stepped_at;     /* what guests do isn't decided on before the first; when targets were last let grow */
-    bool looked, steps;         /* this turn is the first one after a look; as it began, a guest wasn't asked yet for what was decided */
-    int end;                    /* has something to read once a signal tells the host to end */
-    bool upgrades, leaves;      /* it is to become the program that is there now; it ends alone, and guests' processes live on */
-    bool anew;                  /* the guests, the budget or the floor have changed */
-    enum reason reason;         /* which of them */
-    bool news;                  /* what the guests can spare may have changed */
-    uint64_t missing;           /* as the last decision had it */
-    uint64_t looks_asked;       /* the number of the last order to look */
+    uint32_t frames, floor; /* pages: the budget, and what each guest is to keep free */
+    uint32_t step;          /* a target grows by 1/step of the guest in a second; 0: at once */
+    int64_t period;         /* milliseconds */
+    int64_t rests_until; /* clients aren't taken before this, as there was no file left for one */
+    int64_t paid_until;  /* the processes that were started are paid for until then, each with its
+                            milliseconds */
+    struct seat *comes;  /* whose client is taken in this turn; NULL: none */
+    int64_t refills_at;  /* when messages are read again of processes that have sent too many */
+    int64_t decides_at, stepped_at; /* what guests do isn't decided on before the first; when
+                                       targets were last let grow */
+    bool looked, steps;    /* this turn is the first one after a look; as it began, a guest wasn't
+                              asked yet for what was decided */
+    int end;               /* has something to read once a signal tells the host to end */
+    bool upgrades, leaves; /* it is to become the program that is there now; it ends alone, and
+                              guests' processes live on */
+    bool anew;             /* the guests, the budget or the floor have changed */
+    enum reason reason;    /* which of them */
+    bool news;             /* what the guests can spare may have changed */
+    uint64_t missing;      /* as the last decision had it */
+    uint64_t looks_asked;  /* the number of the last order to look */
     struct host_counters counters;
-    struct decision log[MOST_DECISIONS];        /* the last ones: decision n has its place at n % MOST_DECISIONS */
-    uint64_t printed;           /* how many decisions `log` has printed or lost */
+    struct decision
+        log[MOST_DECISIONS]; /* the last ones: decision n has its place at n % MOST_DECISIONS */
+    uint64_t printed;        /* how many decisions `log` has printed or lost */
     struct input input;
     struct answers answers;
     struct question question;
     struct loop loop;
-    struct loop_part service;   /* what is between the guests' turn and that of lines; zeros: nothing */
-    int64_t looks_at;           /* when the next look is, or the reminder between two */
-    bool reminds, ends;         /* it is the reminder; a signal has told the host to end */
+    struct loop_part
+        service;        /* what is between the guests' turn and that of lines; zeros: nothing */
+    int64_t looks_at;   /* when the next look is, or the reminder between two */
+    bool reminds, ends; /* it is the reminder; a signal has told the host to end */
 };
 
 /* The guests, the budget or the floor have changed: targets are decided anew at the next look. */
@@ -176,7 +198,8 @@ void host_run(struct host *host);
 
 /* ---- folder.c */
 
-/* Whether the folder is this host's alone, and the folder of channels in it its user's alone; says why not. It stays so until the process ends. */
+/* Whether the folder is this host's alone, and the folder of channels in it its user's alone; says
+ * why not. It stays so until the process ends. */
 bool folder_lock(struct host *host);
 
 /* The host has ended with its guests: no lender comes later. */
@@ -185,7 +208,8 @@ void folder_leave(const struct host *host);
 /* Moves the channel of a process of 0.3.0 to the folder of channels; false where there is none. */
 bool folder_moves_channel(const struct seat *seat);
 
-/* Keeps a guest's terms in the folder for a lender that comes later, which doesn't believe its process. NULL, or why it can't. And no longer. */
+/* Keeps a guest's terms in the folder for a lender that comes later, which doesn't believe its
+ * process. NULL, or why it can't. And no longer. */
 const char *folder_keep(const struct host *host, const char *name, const struct guest_terms *terms);
 void folder_forget(const struct host *host, const char *name);
 
@@ -203,16 +227,19 @@ bool is_name(const char *name);
 /* The seat of this name, or NULL. */
 struct seat *seat_of(const struct host *host, const char *name);
 
-/* Makes a seat, whose socket waits for its client, or takes over its process; NULL, or why it can't. */
+/* Makes a seat, whose socket waits for its client, or takes over its process; NULL, or why it
+ * can't. */
 const char *seat_add(struct host *host, const char *name, const struct guest_terms *terms);
 
-/* Ends the service of its client, if there is one, and takes the seat away; NULL, or why it can't. */
+/* Ends the service of its client, if there is one, and takes the seat away; NULL, or why it
+  * can't. */
 const char *seat_remove(struct host *host, struct seat *seat);
 
 /* Resets a seat to its unconnected state. */
 void seat_clear(struct seat *seat);
 
-/* Whether somebody is there, and whether its driver is ready; whether its statistics come, and its process answers. */
+/* Whether somebody is there, and whether its driver is ready; whether its statistics come, and its
+ * process answers. */
 bool seat_is_taken(const struct seat *seat);
 bool seat_is_ready(const struct seat *seat);
 bool seat_answers(const struct seat *seat);
@@ -229,10 +256,12 @@ void seat_start(struct seat *seat);
 /* Takes over the process of an earlier lender, if there is one. */
 void seat_take_over(struct seat *seat);
 
-/* Whether a guest of an earlier lender is still to tell what it has: until then nothing is lent, admitted or decided. */
+/* Whether a guest of an earlier lender is still to tell what it has: until then nothing is lent,
+ * admitted or decided. */
 bool host_awaits(const struct host *host);
 
-/* Its process isn't believed any longer: it is killed, and all its pages count as lent until it has ended. */
+/* Its process isn't believed any longer: it is killed, and all its pages count as lent until it has
+ * ended. */
 void seat_disown(struct seat *seat);
 
 /* Its process has ended. */
@@ -240,14 +269,16 @@ void seat_ended(struct seat *seat);
 
 /* ---- orders.c */
 
-/* Orders its process to look, and to ask the guest for statistics; or to remind it of its target. */
+/* Orders its process to look, and to ask the guest for statistics; or to remind it of its
+  * target. */
 void seat_look(struct seat *seat, bool asks);
 void seat_remind(struct seat *seat);
 
 /* Decides how many pages the host wants in its balloon, and tells it as many as a step allows. */
 void seat_set_target(struct seat *seat, uint32_t pages);
 
-/* Lets what it is asked for grow by what `milliseconds` allow, and says again what it hasn't heard; whether there is any of that. */
+/* Lets what it is asked for grow by what `milliseconds` allow, and says again what it hasn't heard;
+ * whether there is any of that. */
 void seat_step(struct seat *seat, int64_t milliseconds);
 bool seat_is_behind(const struct seat *seat);
 
@@ -260,17 +291,19 @@ void seat_leave(struct seat *seat);
 /* Has another process, of the program that is there now, go on with its client. */
 void seat_renew(struct seat *seat);
 
-/* Answers its process, which waits for pages: whether they may be had. And grants the deflate that its process holds. What it may have is
- * told it once its limit allows it. */
+/* Answers its process, which waits for pages: whether they may be had. And grants the deflate that
+ * its process holds. What it may have is told it once its limit allows it. */
 void seat_answer(struct seat *seat, bool admitted);
 void seat_grant(struct seat *seat);
 
-/* Tells it again what was answered and granted, if it still waits for that; false where nothing was. */
+/* Tells it again what was answered and granted, if it still waits for that; false where nothing
+ * was. */
 bool seat_repeat(struct seat *seat);
 
 /* ---- reports.c */
 
-/* Reads what its process has sent, at most `most` messages, and notes what came of it; returns how many it read. */
+/* Reads what its process has sent, at most `most` messages, and notes what came of it; returns how
+ * many it read. */
 unsigned seat_read(struct seat *seat, unsigned most);
 
 /* ---- waits.c */
@@ -299,7 +332,8 @@ uint32_t policy_spare(const struct seat *seat);
 void policy_hears(struct seat *seat);
 void policy_sees_taken(struct seat *seat);
 
-/* By how many frames a guest of `pages` pages, which gives none at first, finds too few; 0 where there are enough. */
+/* By how many frames a guest of `pages` pages, which gives none at first, finds too few; 0 where
+ * there are enough. */
 uint64_t policy_lacks(struct host *host, const struct seat *newcomer, uint32_t pages);
 
 /* Sets targets where the old ones no longer serve. */
@@ -314,9 +348,11 @@ uint64_t host_held(const struct host *host);
 extern const char writer_word[];
 
 /* Why a guest can't have the limit of these terms; NULL: it can, or they have none. */
-const char *limit_refusal(const struct host *host, const char *name, const struct guest_terms *terms);
+const char *limit_refusal(const struct host *host, const char *name,
+                          const struct guest_terms *terms);
 
-/* Whether the kernel allows it what is lent to it; and whether it has a limit that is known to be written. */
+/* Whether the kernel allows it what is lent to it; and whether it has a limit that is known to be
+ * written. */
 bool limit_allows(const struct seat *seat);
 bool limit_holds(const struct seat *seat);
 
@@ -338,7 +374,8 @@ bool host_line(struct host *host, const char *line);
 /* Answers the line that waits for new reports, if they have come. */
 void question_answer(struct host *host);
 
-/* Reads what has come of standard input, and obeys whole lines, as long as all answers were read; false where one says to quit. */
+/* Reads what has come of standard input, and obeys whole lines, as long as all answers were read;
+ * false where one says to quit. */
 void input_read(struct input *input);
 bool input_obey(struct host *host);
 

@@ -1,4 +1,5 @@
-/* Standard input and standard output of a lender: lines that are obeyed one by one, and answers that nobody has to read. */
+/* Standard input and standard output of a lender: lines that are obeyed one by one, and answers
+ * that nobody has to read. */
 #include "host.h"
 
 #include <stdlib.h>
@@ -8,14 +9,16 @@ enum { MOST_LINE = 255 };
 
 void input_read(struct input *input)
 {
-    ssize_t got = read(STDIN_FILENO, input->bytes + input->length, sizeof input->bytes - input->length);
+    ssize_t got =
+        read(STDIN_FILENO, input->bytes + input->length, sizeof input->bytes - input->length);
     if (got > 0)
         input->length += (size_t)got;
     else
         input->ended = got == 0 || errno != EINTR;
 }
 
-/* Takes the next whole line; false where there is none yet. In place of a line that is too long, or that has a byte 0, it is empty. */
+/* Takes the next whole line; false where there is none yet. In place of a line that is too long, or
+ * that has a byte 0, it is empty. */
 static bool take_line(struct input *input, char line[MOST_LINE + 1])
 {
     char *end = memchr(input->bytes, '\n', input->length);
@@ -37,7 +40,8 @@ static bool take_line(struct input *input, char line[MOST_LINE + 1])
 bool input_obey(struct host *host)
 {
     char line[MOST_LINE + 1];
-    while (!*host->question.line && answers_were_read(&host->answers) && take_line(&host->input, line)) {
+    while (!*host->question.line && answers_were_read(&host->answers) &&
+           take_line(&host->input, line)) {
         if (!host_line(host, line))
             return false;
         answers_send(&host->answers);
@@ -57,7 +61,8 @@ void answers_send(struct answers *answers)
 {
     fflush(answers->out);
     while (answers->sent < answers->length) {
-        ssize_t put = file_put(STDOUT_FILENO, answers->bytes + answers->sent, answers->length - answers->sent);
+        ssize_t put = file_put(STDOUT_FILENO, answers->bytes + answers->sent,
+                               answers->length - answers->sent);
         if (put < 0 && errno == EPIPE)
             put = (ssize_t)(answers->length - answers->sent); /* nobody will read it */
         if (put <= 0)

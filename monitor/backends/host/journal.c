@@ -10,8 +10,10 @@ void journal_add(struct host *host, const struct decision *decision)
 
 const char *reason_word(enum reason reason)
 {
-    static const char *const words[] = {
-        [BY_GUESTS] = "guests", [BY_BUDGET] = "budget", [BY_SPARE] = "spare", [BY_MISSING] = "missing"};
+    static const char *const words[] = {[BY_GUESTS] = "guests",
+                                        [BY_BUDGET] = "budget",
+                                        [BY_SPARE] = "spare",
+                                        [BY_MISSING] = "missing"};
     return words[reason];
 }
 
@@ -29,21 +31,26 @@ const struct decision *journal_at(const struct host *host, uint64_t number)
 
 static const char *bound_word(enum bound bound)
 {
-    static const char *const words[] = {
-        [BY_STATISTICS] = "statistics", [BY_SILENCE] = "silence", [BY_PAUSE] = "pause", [BY_LOAN] = "loan"};
+    static const char *const words[] = {[BY_STATISTICS] = "statistics",
+                                        [BY_SILENCE] = "silence",
+                                        [BY_PAUSE] = "pause",
+                                        [BY_LOAN] = "loan"};
     return words[bound];
 }
 
 static void print_decision(FILE *to, const struct decision *decision)
 {
-    fprintf(to, "ms %" PRId64 " frames %" PRIu32 " floor %" PRIu32 " short %" PRIu64, decision->at, decision->frames,
-           decision->floor, decision->missing);
-    fprintf(to, " why %s %s", reason_word(decision->reason), decision->reason == BY_SPARE ? decision->who : "-");
+    fprintf(to, "ms %" PRId64 " frames %" PRIu32 " floor %" PRIu32 " short %" PRIu64, decision->at,
+            decision->frames, decision->floor, decision->missing);
+    fprintf(to, " why %s %s", reason_word(decision->reason),
+            decision->reason == BY_SPARE ? decision->who : "-");
     for (unsigned i = 0; i < decision->count; i++) {
         const struct share *share = &decision->shares[i];
-        fprintf(to, " | %s pages %" PRIu32 " spare %" PRIu32 " most %" PRIu32 " old %" PRIu32 " target %" PRIu32 " ballooned %" PRIu32 " by %s",
-                share->name, share->need.pages, share->need.spare, share->most, share->old, share->target, share->ballooned,
-                bound_word(share->bound));
+        fprintf(to,
+                " | %s pages %" PRIu32 " spare %" PRIu32 " most %" PRIu32 " old %" PRIu32
+                " target %" PRIu32 " ballooned %" PRIu32 " by %s",
+                share->name, share->need.pages, share->need.spare, share->most, share->old,
+                share->target, share->ballooned, bound_word(share->bound));
     }
     fputc('\n', to);
 }

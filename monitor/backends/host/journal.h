@@ -7,8 +7,8 @@ struct host;
 
 enum {
     MOST_GUESTS = 64,
-    MOST_NAME = 32,             /* bytes of a name, with its end */
-    MOST_DECISIONS = 512,       /* that are kept */
+    MOST_NAME = 32,       /* bytes of a name, with its end */
+    MOST_DECISIONS = 512, /* that are kept */
 };
 
 enum reason { BY_GUESTS, BY_BUDGET, BY_SPARE, BY_MISSING };
@@ -24,11 +24,11 @@ struct share {
 };
 
 struct decision {
-    int64_t at;                 /* by the monotonic clock, in milliseconds */
+    int64_t at; /* by the monotonic clock, in milliseconds */
     uint32_t frames, floor;
-    uint64_t missing;           /* 0, or by how much the guests fall short */
+    uint64_t missing; /* 0, or by how much the guests fall short */
     enum reason reason;
-    char who[MOST_NAME];        /* BY_SPARE: who is asked for more than it can spare */
+    char who[MOST_NAME]; /* BY_SPARE: who is asked for more than it can spare */
     unsigned count;
     struct share shares[2 * MOST_GUESTS];
 };

@@ -9,9 +9,11 @@
 #include <sys/stat.h>
 #include <unistd.h>
 
-static const char *const kinds[] = {[LIMIT_NONE] = "none", [LIMIT_CGROUP] = "cgroup:", [LIMIT_TMPFS] = "tmpfs:"};
+static const char *const kinds[] = {
+    [LIMIT_NONE] = "none", [LIMIT_CGROUP] = "cgroup:", [LIMIT_TMPFS] = "tmpfs:"};
 
-/* Whether a path is absolute, and said in one way: without `.`, `..`, an empty part, or a slash at its end. */
+/* Whether a path is absolute, and said in one way: without `.`, `..`, an empty part, or a slash at
+ * its end. */
 static bool is_plain(const char *path)
 {
     if (path[0] != '/')
@@ -39,7 +41,8 @@ static enum limit_kind kind_of(const char *words)
 {
     if (!strncmp(words, kinds[LIMIT_CGROUP], strlen(kinds[LIMIT_CGROUP])))
         return LIMIT_CGROUP;
-    return strncmp(words, kinds[LIMIT_TMPFS], strlen(kinds[LIMIT_TMPFS])) ? LIMIT_NONE : LIMIT_TMPFS;
+    return strncmp(words, kinds[LIMIT_TMPFS], strlen(kinds[LIMIT_TMPFS])) ? LIMIT_NONE
+                                                                          : LIMIT_TMPFS;
 }
 
 const char *limit_read(const char *words, struct guest_limit *limit)
@@ -79,11 +82,12 @@ static bool is_in(const char *path, const char *folder)
 /* What is mounted where a path is. */
 struct place {
     char folder[MOST_LIMIT_PATH], type[16];
-    bool has_memory;            /* of cgroups of the first version: the memory's */
+    bool has_memory; /* of cgroups of the first version: the memory's */
 };
 
-/* Finds the innermost mount that has a path, and of those at one folder the last: it covers the others. Nothing of the path is
- * touched, since a mount of another kind may have to be waited for. */
+/* Finds the innermost mount that has a path, and of those at one folder the last: it covers the
+ * others. Nothing of the path is touched, since a mount of another kind may have to be waited
+  * for. */
 static bool find_place(const char *path, struct place *place)
 {
     char names[8192];
@@ -92,7 +96,8 @@ static bool find_place(const char *path, struct place *place)
     *place = (struct place){"", "", false};
     while (mounts && getmntent_r(mounts, &entry, names, sizeof names)) {
         size_t length = strlen(entry.mnt_dir);
-        if (length >= sizeof place->folder || length < strlen(place->folder) || !is_in(path, entry.mnt_dir))
+        if (length >= sizeof place->folder || length < strlen(place->folder) ||
+            !is_in(path, entry.mnt_dir))
             continue;
         strcpy(place->folder, entry.mnt_dir);
         snprintf(place->type, sizeof place->type, "%s", entry.mnt_type);
@@ -118,7 +123,9 @@ static const char *cgroup_fault(const char *path, const struct place *place)
         return "no cgroup of memory";
     if (access(path, F_OK))
         return errno == ENOENT ? NULL : strerror(errno);
-    return has_file(path, second ? "memory.max" : "memory.limit_in_bytes") ? NULL : "a cgroup without a limit of memory";
+    return has_file(path, second ? "memory.max" : "memory.limit_in_bytes")
+               ? NULL
+               : "a cgroup without a limit of memory";
 }
 
 const char *limit_fault(const struct guest_limit *limit)
@@ -130,7 +137,8 @@ const char *limit_fault(const struct guest_limit *limit)
         return "the kernel's table of mounts can't be read";
     if (limit->kind == LIMIT_CGROUP)
         return cgroup_fault(limit->path, &place);
-    return strcmp(place.folder, limit->path) || strcmp(place.type, "tmpfs") ? "no mount of tmpfs" : NULL;
+    return strcmp(place.folder, limit->path) || strcmp(place.type, "tmpfs") ? "no mount of tmpfs"
+                                                                            : NULL;
 }
 
 bool limits_meet(const struct guest_limit *one, const struct guest_limit *other)
@@ -145,7 +153,9 @@ bool limits_meet(const struct guest_limit *one, const struct guest_limit *other)
 bool limits_are_one(const struct guest_limit *one, const struct guest_limit *other)
 {
     struct stat first, second;
-    if (one->kind == LIMIT_NONE || one->kind != other->kind || stat(one->path, &first) || stat(other->path, &second))
+    if (one->kind == LIMIT_NONE || one->kind != other->kind || stat(one->path, &first) ||
+        stat(other->path, &second))
         return false;
-    return first.st_dev == second.st_dev && (one->kind == LIMIT_TMPFS || first.st_ino == second.st_ino);
+    return first.st_dev == second.st_dev &&
+           (one->kind == LIMIT_TMPFS || first.st_ino == second.st_ino);
 }

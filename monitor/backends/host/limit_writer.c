@@ -1,5 +1,5 @@
-/* The process that writes one guest's limit. The kernel may have it wait: for pages that it takes from the cgroup first, or for others
- * that mount; nobody but this guest waits with it. */
+/* The process that writes one guest's limit. The kernel may have it wait: for pages that it takes
+ * from the cgroup first, or for others that mount; nobody but this guest waits with it. */
 #define _GNU_SOURCE
 #include "limit.h"
 
@@ -51,7 +51,10 @@ static int write_tmpfs(const char *path, const char *bytes, char *words, size_t 
     int mount = fspick(AT_FDCWD, path, FSPICK_CLOEXEC);
     if (mount < 0)
         return errno;
-    int code = fsconfig(mount, FSCONFIG_SET_STRING, "size", bytes, 0) || fsconfig(mount, FSCONFIG_CMD_RECONFIGURE, NULL, NULL, 0) ? errno : 0;
+    int code = fsconfig(mount, FSCONFIG_SET_STRING, "size", bytes, 0) ||
+                       fsconfig(mount, FSCONFIG_CMD_RECONFIGURE, NULL, NULL, 0)
+                   ? errno
+                   : 0;
     if (code != 0)
         read_words(mount, words, room);
     close(mount);
@@ -66,7 +69,8 @@ static void serve(const struct limit_request *request, struct limit_outcome *out
     if (request->limit.kind == LIMIT_CGROUP)
         outcome->code = write_cgroup(request->limit.path, bytes);
     else
-        outcome->code = write_tmpfs(request->limit.path, bytes, outcome->words, sizeof outcome->words);
+        outcome->code =
+            write_tmpfs(request->limit.path, bytes, outcome->words, sizeof outcome->words);
 }
 
 int limit_writer_run(int channel)

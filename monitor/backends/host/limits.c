@@ -1,6 +1,7 @@
-/* The kernel's limits of guests whose deflates wait: raised before a guest is told that it has pages, lowered after pages came. A process
- * for each limit writes it (limit_writer.c), and nobody waits for that one: what a guest was granted is told to it once it says that the
- * limit is raised. */
+/* The kernel's limits of guests whose deflates wait: raised before a guest is told that it has
+ * pages, lowered after pages came. A process for each limit writes it (limit_writer.c), and nobody
+ * waits for that one: what a guest was granted is told to it once it says that the limit is
+  * raised. */
 #include "host.h"
 
 #include <inttypes.h>
@@ -24,7 +25,8 @@ static uint64_t frames_wanted(const struct seat *seat)
 /* Whether it has a limit that is to be written now. */
 static bool is_limited(const struct seat *seat)
 {
-    return seat->terms.limit.kind != LIMIT_NONE && seat_is_taken(seat) && seat->report.holds && seat->pages > 0;
+    return seat->terms.limit.kind != LIMIT_NONE && seat_is_taken(seat) && seat->report.holds &&
+           seat->pages > 0;
 }
 
 bool limit_holds(const struct seat *seat)
@@ -90,8 +92,8 @@ static void note_failure(struct seat *seat, const char *why)
 {
     struct limit_writer *writer = &seat->writer;
     char words[MOST_LIMIT_WORDS];
-    complain("its limit %s can't be set to %" PRIu64 " KiB: %s", limit_words(&seat->terms.limit, words),
-             writer->asked * (BALLOON_PAGE / 1024), why);
+    complain("its limit %s can't be set to %" PRIu64 " KiB: %s",
+             limit_words(&seat->terms.limit, words), writer->asked * (BALLOON_PAGE / 1024), why);
     writer->failures++;
     writer->asked = writer->allowed = 0;
     writer->again_at = loop_now() + TRY_AGAIN;
@@ -113,8 +115,9 @@ static void ask_writer(struct seat *seat, uint64_t frames)
     struct limit_request request = {++writer->number, frames * BALLOON_PAGE, seat->terms.limit};
     writer->asked = frames;
     writer->allowed = frames < writer->allowed ? frames : writer->allowed;
-    writer->waits = (writer->channel >= 0 || start_writer(seat))
-        && send(writer->channel, &request, sizeof request, MSG_DONTWAIT | MSG_NOSIGNAL) == (ssize_t)sizeof request;
+    writer->waits = (writer->channel >= 0 || start_writer(seat)) &&
+                    send(writer->channel, &request, sizeof request, MSG_DONTWAIT | MSG_NOSIGNAL) ==
+                        (ssize_t)sizeof request;
     if (!writer->waits)
         lose_writer(seat, strerror(errno));
 }
@@ -124,7 +127,8 @@ void limits_follow(struct host *host)
     for (unsigned i = 0; i < host->count; i++) {
         struct seat *seat = host->seats[i];
         uint64_t frames = frames_wanted(seat);
-        if (!is_limited(seat) || seat->writer.waits || seat->writer.asked == frames || loop_now() < seat->writer.again_at)
+        if (!is_limited(seat) || seat->writer.waits || seat->writer.asked == frames ||
+            loop_now() < seat->writer.again_at)
             continue;
         speaker_begins(&seat->speaker);
         ask_writer(seat, frames);
@@ -162,7 +166,8 @@ void limit_take(struct seat *seat)
     speaker_ends();
 }
 
-const char *limit_refusal(const struct host *host, const char *name, const struct guest_terms *terms)
+const char *limit_refusal(const struct host *host, const char *name,
+                          const struct guest_terms *terms)
 {
     const struct guest_limit *limit = &terms->limit;
     if (limit->kind != LIMIT_NONE && !terms->strict)
@@ -170,7 +175,8 @@ const char *limit_refusal(const struct host *host, const char *name, const struc
     const char *fault = limit_fault(limit);
     for (unsigned i = 0; i < host->count && !fault; i++) {
         const struct seat *seat = host->seats[i];
-        bool is_its = limits_meet(&seat->terms.limit, limit) || limits_are_one(&seat->terms.limit, limit);
+        bool is_its =
+            limits_meet(&seat->terms.limit, limit) || limits_are_one(&seat->terms.limit, limit);
         if (is_its && strcmp(seat->name, name) != 0)
             fault = "the limit is another guest's";
     }

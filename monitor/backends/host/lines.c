@@ -1,4 +1,5 @@
-/* The control pipe of a host: a line in, and a line out, or some lines after one that says how many. */
+/* The control pipe of a host: a line in, and a line out, or some lines after one that says how
+ * many. */
 #include "host.h"
 
 #include <inttypes.h>
@@ -16,17 +17,26 @@ static void print_seat(const struct seat *seat)
     const struct lending_message *report = &seat->report;
     const struct counters *counters = &report->counters;
     FILE *to = out(seat->host);
-    fprintf(to, "%s here %d ready %d pages %" PRIu32 " held_kib %" PRIu64, seat->name, seat_is_taken(seat), seat_is_ready(seat),
-            seat->pages, report->held_kib);
-    fprintf(to, " ballooned %" PRIu32 " target %" PRIu32 " free %" PRIu32 " spare %" PRIu32 " answers %d", report->ballooned,
-            seat->target, seat->free, policy_spare(seat), seat_answers(seat));
-    fprintf(to, " inflated %" PRIu64 " deflated %" PRIu64 " reported %" PRIu64 " taken %" PRIu64 " statistics %" PRIu64,
-            counters->inflated, counters->deflated, counters->reported, counters->taken, counters->statistics);
-    fprintf(to, " available %" PRIu32 " asked %" PRIu32 " least %" PRIu32 " most %" PRIu32 " priority %" PRIu32 " reports %d process %d lent %" PRIu32 " waits %s",
-            seat->available, seat->told, seat->terms.least, seat->terms.most, seat->terms.priority, seat_reports(seat), (int)seat->serving,
-            seat->host->loans[seat->place].lent, guest_wait_word(seat->waits_for));
-    fprintf(to, " overhead %" PRIu32 " limit %" PRIu64 " limit_failures %" PRIu64 " cooperates %d\n", seat->terms.overhead,
-            seat->writer.written, seat->writer.failures, seat->cooperates);
+    fprintf(to, "%s here %d ready %d pages %" PRIu32 " held_kib %" PRIu64, seat->name,
+            seat_is_taken(seat), seat_is_ready(seat), seat->pages, report->held_kib);
+    fprintf(to,
+            " ballooned %" PRIu32 " target %" PRIu32 " free %" PRIu32 " spare %" PRIu32
+            " answers %d",
+            report->ballooned, seat->target, seat->free, policy_spare(seat), seat_answers(seat));
+    fprintf(to,
+            " inflated %" PRIu64 " deflated %" PRIu64 " reported %" PRIu64 " taken %" PRIu64
+            " statistics %" PRIu64,
+            counters->inflated, counters->deflated, counters->reported, counters->taken,
+            counters->statistics);
+    fprintf(to,
+            " available %" PRIu32 " asked %" PRIu32 " least %" PRIu32 " most %" PRIu32
+            " priority %" PRIu32 " reports %d process %d lent %" PRIu32 " waits %s",
+            seat->available, seat->told, seat->terms.least, seat->terms.most, seat->terms.priority,
+            seat_reports(seat), (int)seat->serving, seat->host->loans[seat->place].lent,
+            guest_wait_word(seat->waits_for));
+    fprintf(to,
+            " overhead %" PRIu32 " limit %" PRIu64 " limit_failures %" PRIu64 " cooperates %d\n",
+            seat->terms.overhead, seat->writer.written, seat->writer.failures, seat->cooperates);
 }
 
 static void print_guests(const struct host *host)
@@ -40,12 +50,17 @@ static void print_counters(const struct host *host)
 {
     const struct host_counters *it = &host->counters;
     FILE *to = out(host);
-    fprintf(to, "frames %" PRIu32 " floor %" PRIu32 " short %" PRIu64 " held_kib %" PRIu64, host->frames, host->floor,
-            host->missing, host_held(host));
-    fprintf(to, " looks %" PRIu64 " above %" PRIu64 " peak_kib %" PRIu64 " decisions %" PRIu64 " changed %" PRIu64, it->looks,
-            it->above, it->peak, it->decisions, it->changed);
-    fprintf(to, " shorts %" PRIu64 " admitted %" PRIu64 " refused %" PRIu64 " gone %" PRIu64 " dropped %" PRIu64 " lent %" PRIu64 " grants %" PRIu64 "\n", it->shorts,
-            it->admitted, it->refused, it->gone, lines_dropped, vb_loan_owed(host->loans, MOST_PLACES), it->grants);
+    fprintf(to, "frames %" PRIu32 " floor %" PRIu32 " short %" PRIu64 " held_kib %" PRIu64,
+            host->frames, host->floor, host->missing, host_held(host));
+    fprintf(to,
+            " looks %" PRIu64 " above %" PRIu64 " peak_kib %" PRIu64 " decisions %" PRIu64
+            " changed %" PRIu64,
+            it->looks, it->above, it->peak, it->decisions, it->changed);
+    fprintf(to,
+            " shorts %" PRIu64 " admitted %" PRIu64 " refused %" PRIu64 " gone %" PRIu64
+            " dropped %" PRIu64 " lent %" PRIu64 " grants %" PRIu64 "\n",
+            it->shorts, it->admitted, it->refused, it->gone, lines_dropped,
+            vb_loan_owed(host->loans, MOST_PLACES), it->grants);
 }
 
 /* Reads a number of MiB as pages. */
@@ -58,20 +73,24 @@ static bool read_mib(const char *word, uint32_t *pages)
     return true;
 }
 
-static void set_pages(struct host *host, const char *word, const char *(*set)(struct host *host, uint32_t pages))
+static void set_pages(struct host *host, const char *word,
+                      const char *(*set)(struct host *host, uint32_t pages))
 {
     uint32_t pages;
     const char *fault = read_mib(word, &pages) ? set(host, pages) : "a number of MiB";
     fprintf(out(host), fault ? "error: %s\n" : "ok\n", fault);
 }
 
-static const char no_terms[] =
-    "a name, and of least=MIB, most=MIB, priority=NUMBER, strict=0 or 1, overhead=MIB, limit=cgroup:PATH or tmpfs:MOUNT what is wanted";
+static const char no_terms[] = "a name, and of least=MIB, most=MIB, priority=NUMBER, strict=0 or "
+                               "1, overhead=MIB, limit=cgroup:PATH or tmpfs:MOUNT what is wanted";
 
 /* Reads one of the words of a guest's terms; NULL, or why it is none. */
 static const char *read_term(struct guest_terms *terms, const char *word)
 {
-    const struct { const char *name; uint32_t *pages; } sizes[] = {
+    const struct {
+        const char *name;
+        uint32_t *pages;
+    } sizes[] = {
         {"least=", &terms->least}, {"most=", &terms->most}, {"overhead=", &terms->overhead}};
     uint64_t number;
     for (unsigned i = 0; i < sizeof sizes / sizeof sizes[0]; i++)
@@ -86,7 +105,8 @@ static const char *read_term(struct guest_terms *terms, const char *word)
     return no_terms;
 }
 
-/* Takes the words of terms off the end of a line, which the name is left of; NULL, or why one is none. */
+/* Takes the words of terms off the end of a line, which the name is left of; NULL, or why one is
+ * none. */
 static const char *read_terms(char *line, struct guest_terms *terms)
 {
     for (char *word; (word = strrchr(line, ' ')); *word = 0) {
@@ -138,8 +158,8 @@ static void print_its_counters(const struct seat *seat)
     const struct lending_message *report = &seat->report;
     const struct counters *it = &report->counters;
     FILE *to = out(seat->host);
-    fprintf(to, "target %" PRIu32 " actual %" PRIu32 " status %u held_kib %" PRIu64 " end %" PRIu64, report->target, report->actual,
-            report->status, report->held_kib, report->end);
+    fprintf(to, "target %" PRIu32 " actual %" PRIu32 " status %u held_kib %" PRIu64 " end %" PRIu64,
+            report->target, report->actual, report->status, report->held_kib, report->end);
     COUNTERS(PRINT_COUNTER)
     fputc('\n', to);
 }
@@ -157,7 +177,9 @@ static void print_its_statistics(const struct seat *seat)
 static void target_line(struct seat *seat, const char *word)
 {
     uint64_t pages;
-    const char *fault = read_number(word, 10, UINT32_MAX, &pages) ? host_set_target(seat->host, seat->name, (uint32_t)pages) : "target PAGES";
+    const char *fault = read_number(word, 10, UINT32_MAX, &pages)
+                            ? host_set_target(seat->host, seat->name, (uint32_t)pages)
+                            : "target PAGES";
     fprintf(out(seat->host), fault ? "error: %s\n" : "ok\n", fault);
 }
 
@@ -216,7 +238,9 @@ static void obey(struct host *host, const char *line)
     else if ((seat = named(host, line, &rest)))
         guest_line(seat, rest);
     else
-        fputs("error: add, remove, terms, budget, floor, guests, counters, log, leave, quit, or a guest's name and its line\n", out(host));
+        fputs("error: add, remove, terms, budget, floor, guests, counters, log, leave, quit, or a "
+              "guest's name and its line\n",
+              out(host));
 }
 
 /* Whether a line's answer wants new reports; they are ordered then. */
@@ -224,7 +248,8 @@ static bool wants_reports(struct host *host, const char *line)
 {
     const char *rest = "";
     struct seat *seat = named(host, line, &rest);
-    if (seat && (!strcmp(rest, "counters") || !strcmp(rest, "statistics") || !strcmp(rest, "ask"))) {
+    if (seat &&
+        (!strcmp(rest, "counters") || !strcmp(rest, "statistics") || !strcmp(rest, "ask"))) {
         seat_look(seat, !strcmp(rest, "ask"));
         host->question.ask = seat->number;
         host->question.asked = false;
@@ -245,7 +270,8 @@ static bool reports_are_new(const struct host *host)
         return true;
     for (unsigned i = 0; i < host->count; i++) {
         const struct seat *seat = host->seats[i];
-        if (seat_is_taken(seat) && seat->number > question->number && seat->answered <= question->number && seat_reports(seat))
+        if (seat_is_taken(seat) && seat->number > question->number &&
+            seat->answered <= question->number && seat_reports(seat))
             return false;
     }
     return true;

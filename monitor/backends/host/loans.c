@@ -1,10 +1,10 @@
-/* What is lent to guests, and who waits for more. The library decides (vb_lending.h); what a guest has that doesn't wait, or came before this lender,
- * is written into its loan by hand. */
+/* What is lent to guests, and who waits for more. The library decides (vb_lending.h); what a guest
+ * has that doesn't wait, or came before this lender, is written into its loan by hand. */
 #include "loans.h"
 
 #include <inttypes.h>
 
-enum { LONG_WAIT = 10000 };     /* milliseconds */
+enum { LONG_WAIT = 10000 }; /* milliseconds */
 
 /* Deflates wait in the first line, newcomers, resets and added memory in the second. */
 enum { SECOND_LINE = 1 };
@@ -13,7 +13,8 @@ enum { SECOND_LINE = 1 };
 static uint32_t counted_balloon(const struct seat *seat)
 {
     const struct lending_message *report = &seat->report;
-    uint32_t granted = report->held_pages > 0 && report->held_wait == seat->held_granted ? seat->granted_pages : 0;
+    uint32_t granted =
+        report->held_pages > 0 && report->held_wait == seat->held_granted ? seat->granted_pages : 0;
     if (report->waits == WAIT_RESET && report->wait == seat->wait_answered)
         return 0;
     return report->ballooned - smaller(granted, report->ballooned);
@@ -27,10 +28,14 @@ static void follow_report(struct seat *seat)
         ballooned = 0;
     seat->regains = seat->adopted && seat->report.holds;
     seat->adopted = false;
-    *loan_of(seat) = (VbLoan){.pages = pages, .ballooned = ballooned, .lent = pages - ballooned, .uncounted = !seat->cooperates};
+    *loan_of(seat) = (VbLoan){.pages = pages,
+                              .ballooned = ballooned,
+                              .lent = pages - ballooned,
+                              .uncounted = !seat->cooperates};
 }
 
-/* Memory that was taken away, with what was in the balloon of it, where that counts. What isn't lent to it counts as in its balloon. */
+/* Memory that was taken away, with what was in the balloon of it, where that counts. What isn't
+ * lent to it counts as in its balloon. */
 static void shrink(struct seat *seat, uint32_t pages, uint32_t ballooned)
 {
     VbLoan *loans = seat->host->loans;
@@ -39,10 +44,12 @@ static void shrink(struct seat *seat, uint32_t pages, uint32_t ballooned)
     if (pages == 0)
         vb_loan_leave(loans, MOST_PLACES, seat->place);
     else
-        vb_loan_shrink(loans, MOST_PLACES, seat->place, pages, smaller(counted > least ? counted : least, pages));
+        vb_loan_shrink(loans, MOST_PLACES, seat->place, pages,
+                       smaller(counted > least ? counted : least, pages));
 }
 
-/* It has pages that nobody granted: it is named. It counts with all that it has, unless the kernel has it within its limit. */
+/* It has pages that nobody granted: it is named. It counts with all that it has, unless the kernel
+ * has it within its limit. */
 static void name_taker(struct seat *seat, uint32_t pages, bool is_within)
 {
     if (seat->cooperates || !is_within)
@@ -68,17 +75,20 @@ static void follow_balloon(struct seat *seat)
         name_taker(seat, loan->ballooned - now, limit_holds(seat));
 }
 
-/* For what its process waits that wasn't granted: before it answers its client, or with a deflate in its hands. */
+/* For what its process waits that wasn't granted: before it answers its client, or with a deflate
+ * in its hands. */
 static enum guest_wait waits_for(const struct seat *seat)
 {
     const struct lending_message *report = &seat->report;
     bool waits = report->waits != WAIT_NOTHING && report->wait != seat->wait_answered;
     if (waits)
         return report->waits == WAIT_RESET ? WAITS_FOR_RESET : WAITS_FOR_ROOM;
-    return report->held_pages > 0 && report->held_wait != seat->held_granted ? WAITS_FOR_DEFLATE : WAITS_FOR_NOTHING;
+    return report->held_pages > 0 && report->held_wait != seat->held_granted ? WAITS_FOR_DEFLATE
+                                                                             : WAITS_FOR_NOTHING;
 }
 
-/* Whether what it has asked for is still waited for: a deflate is, while its process waits for room beside. */
+/* Whether what it has asked for is still waited for: a deflate is, while its process waits for room
+ * beside. */
 static bool is_wanted(const struct seat *seat)
 {
     const struct lending_message *report = &seat->report;
@@ -93,7 +103,8 @@ static uint32_t wanted_pages(const struct seat *seat, enum guest_wait what)
     const struct lending_message *report = &seat->report;
     if (what == WAITS_FOR_DEFLATE)
         return report->held_pages;
-    return what == WAITS_FOR_RESET ? loan_of(seat)->ballooned : report->wanted - smaller(report->wanted, seat->pages);
+    return what == WAITS_FOR_RESET ? loan_of(seat)->ballooned
+                                   : report->wanted - smaller(report->wanted, seat->pages);
 }
 
 void loan_grant(struct seat *seat, enum guest_wait what)
@@ -117,7 +128,8 @@ void loan_grant(struct seat *seat, enum guest_wait what)
     seat_answer(seat, true);
 }
 
-/* Asks for room for its memory, or for what has come to that, as if it were in its balloon; false where nothing has come. */
+/* Asks for room for its memory, or for what has come to that, as if it were in its balloon; false
+ * where nothing has come. */
 static bool ask_for_room(struct seat *seat)
 {
     VbLoan *loans = seat->host->loans;
@@ -131,8 +143,9 @@ static bool ask_for_room(struct seat *seat)
     return true;
 }
 
-/* Asks for what its process waits for. Where nothing has to be lent for it, it has it at once. Deflates come first: a driver that is in one
- * gives no pages meanwhile, and the others may wait for these. */
+/* Asks for what its process waits for. Where nothing has to be lent for it, it has it at once.
+ * Deflates come first: a driver that is in one gives no pages meanwhile, and the others may wait
+ * for these. */
 static void ask(struct seat *seat, enum guest_wait what)
 {
     VbLoan *loans = seat->host->loans, *loan = loan_of(seat);
@@ -177,16 +190,19 @@ uint32_t loan_excess(const struct seat *seat)
     return held - smaller(held, lent);
 }
 
-/* Whether a guest at work holds pages that it gave, whatever its driver says: more than is lent to it, and than is beside. */
+/* Whether a guest at work holds pages that it gave, whatever its driver says: more than is lent to
+ * it, and than is beside. */
 static bool holds_too_much(const struct seat *seat)
 {
-    return seat_is_ready(seat) && seat_reports(seat) && !loan_of(seat)->uncounted && loan_excess(seat) > seat->terms.overhead;
+    return seat_is_ready(seat) && seat_reports(seat) && !loan_of(seat)->uncounted &&
+           loan_excess(seat) > seat->terms.overhead;
 }
 
 /* Whether it has waited for long, while the guests can't give what is missing. */
 static bool waits_in_vain(const struct seat *seat)
 {
-    bool is_long = seat->waits_for != WAITS_FOR_NOTHING && loop_now() - seat->waits_since >= LONG_WAIT;
+    bool is_long =
+        seat->waits_for != WAITS_FOR_NOTHING && loop_now() - seat->waits_since >= LONG_WAIT;
     return is_long && seat->host->missing > 0 && loan_of(seat)->asked > 0;
 }
 
@@ -196,8 +212,10 @@ static void name_wait(struct seat *seat)
     if (seat->wait_named)
         return;
     seat->wait_named = true;
-    complain("has waited %d seconds for %" PRIu32 " pages (%s): all guests together can't give %" PRIu64 " of those that are missing",
-             LONG_WAIT / 1000, loan_of(seat)->asked, guest_wait_word(seat->waits_for), seat->host->missing);
+    complain("has waited %d seconds for %" PRIu32
+             " pages (%s): all guests together can't give %" PRIu64 " of those that are missing",
+             LONG_WAIT / 1000, loan_of(seat)->asked, guest_wait_word(seat->waits_for),
+             seat->host->missing);
 }
 
 void loans_audit(struct host *host)
@@ -233,7 +251,8 @@ void loans_grant(struct host *host)
         return;
     loans_regain(host);
     uint64_t owed = vb_loan_owed(host->loans, MOST_PLACES);
-    for (VbGrant next; (next = vb_loan_grant(host->frames, host->loans, MOST_PLACES)).code == VB_OK;) {
+    for (VbGrant next;
+         (next = vb_loan_grant(host->frames, host->loans, MOST_PLACES)).code == VB_OK;) {
         struct seat *seat = seat_at(host, next.guest);
         uint64_t before = owed;
         owed = vb_loan_owed(host->loans, MOST_PLACES);

@@ -5,19 +5,22 @@
 
 /* ---- loans.c */
 
-/* Follows what its last report says: lends less once pages have joined its balloon, and asks for what its process waits for. */
+/* Follows what its last report says: lends less once pages have joined its balloon, and asks for
+ * what its process waits for. */
 void loan_follow(struct seat *seat);
 
 /* Nothing is lent to it any longer. */
 void loan_leave(struct seat *seat);
 
-/* Lends to those that wait, as long as there is room for the first of them, and answers their processes. */
+/* Lends to those that wait, as long as there is room for the first of them, and answers their
+ * processes. */
 void loans_grant(struct host *host);
 
 /* Frames that it holds above its loan. */
 uint32_t loan_excess(const struct seat *seat);
 
-/* Names each guest that holds more than its loan and its overhead, whose balloon doesn't count any longer; and each that waits in vain, once. */
+/* Names each guest that holds more than its loan and its overhead, whose balloon doesn't count any
+ * longer; and each that waits in vain, once. */
 void loans_audit(struct host *host);
 
 /* Whether somebody waits. */
@@ -25,14 +28,17 @@ bool loans_wait(const struct host *host);
 
 /* ---- ahead.c */
 
-/* Lends it pages that it is to be told to take out of its balloon, as far as there is room, so that it doesn't wait for them: it couldn't
- * give any meanwhile. Returns how many it has, with those that are lent to it already: none where its driver isn't ready. */
+/* Lends it pages that it is to be told to take out of its balloon, as far as there is room, so that
+ * it doesn't wait for them: it couldn't give any meanwhile. Returns how many it has, with those
+ * that are lent to it already: none where its driver isn't ready. */
 uint32_t loan_ahead(struct seat *seat, uint32_t pages);
 
-/* It is to be told this target. Its driver may obey an earlier one, until it has read this one; one that reads none, for a moment. */
+/* It is to be told this target. Its driver may obey an earlier one, until it has read this one; one
+ * that reads none, for a moment. */
 void loan_tell(struct seat *seat, uint32_t target);
 
-/* The process of an earlier lender has reported: its target goes on, and so does the one that its driver has read. */
+/* The process of an earlier lender has reported: its target goes on, and so does the one that its
+ * driver has read. */
 void loan_adopts(struct seat *seat);
 
 /* It takes pages by a target: a driver that reads none may obey one that isn't the last. */
@@ -59,12 +65,14 @@ static inline VbLoan *loan_of(const struct seat *seat)
 /* It has what it waits for: these pages leave its balloon, and its process is told. */
 void loan_grant(struct seat *seat, enum guest_wait what);
 
-/* What it has asked for isn't waited for any longer; nothing is lent beyond its pages that aren't in its balloon, but for those that it is
- * told to take out of it, and for those of one request of Linux's where a driver that reads no target may still obey an earlier one; nothing is
- * taken of what is lent until a driver has read its target. */
+/* What it has asked for isn't waited for any longer; nothing is lent beyond its pages that aren't
+ * in its balloon, but for those that it is told to take out of it, and for those of one request of
+ * Linux's where a driver that reads no target may still obey an earlier one; nothing is taken of
+ * what is lent until a driver has read its target. */
 void loan_trim(struct seat *seat);
 
-/* Pages have joined its balloon. Those that its driver gave for an earlier target, and takes back by a later one, stay lent to it. */
+/* Pages have joined its balloon. Those that its driver gave for an earlier target, and takes back
+ * by a later one, stay lent to it. */
 void loan_take_in(struct seat *seat, uint32_t pages);
 
 /* What earlier lenders lent ahead to guests is lent to them again, as far as there is room. */

@@ -1,16 +1,28 @@
-/* What a lender does in its loop: all sockets where clients come, the channels of their processes, its lines, and a look each period. */
+/* What a lender does in its loop: all sockets where clients come, the channels of their processes,
+ * its lines, and a look each period. */
 #include "loans.h"
 #include "measures.h"
 
 #include <unistd.h>
 
-/* Milliseconds between two decisions on what guests do; messages of a process that are read in REFILL milliseconds; milliseconds
- * between two steps of targets; milliseconds for each process that is started, and how many are started ahead of that. */
-enum { DECIDE_EVERY = 10, MESSAGES = 40, REFILL = 50, STEP_EVERY = 50, MESSAGES_A_TURN = 2, START_EVERY = 20, STARTS_AHEAD = 64 };
+/* Milliseconds between two decisions on what guests do; messages of a process that are read in
+ * REFILL milliseconds; milliseconds between two steps of targets; milliseconds for each process
+ * that is started, and how many are started ahead of that. */
+enum {
+    DECIDE_EVERY = 10,
+    MESSAGES = 40,
+    REFILL = 50,
+    STEP_EVERY = 50,
+    MESSAGES_A_TURN = 2,
+    START_EVERY = 20,
+    STARTS_AHEAD = 64
+};
 
-/* Files that are waited for: of each guest and of each that leaves, of the service, and of lines. */
+/* Files that are waited for: of each guest and of each that leaves, of the service, and of
+  * lines. */
 enum { OF_SEAT = 4, OF_SERVICE = 2, OF_LINES = 3 };
-_Static_assert(2 * MOST_GUESTS * OF_SEAT + OF_SERVICE + OF_LINES <= (int)MOST_POLLED, "files of a lender");
+_Static_assert(2 * MOST_GUESTS * OF_SEAT + OF_SERVICE + OF_LINES <= (int)MOST_POLLED,
+               "files of a lender");
 
 void host_changed(struct host *host, enum reason reason)
 {
@@ -116,16 +128,19 @@ static int64_t latest(int64_t one, int64_t other)
     return one > other ? one : other;
 }
 
-/* Waits for a guest's client or process, and for the writer of its limit. A process that ends closes its channel: whether one has ended and has not
- * is looked at once a period. */
+/* Waits for a guest's client or process, and for the writer of its limit. A process that ends
+ * closes its channel: whether one has ended and has not is looked at once a period. */
 static void wait_for_seat(struct seat *seat)
 {
     struct loop *loop = &seat->host->loop;
-    int64_t comes_at = latest(seat->comes_at, latest(seat->host->rests_until, seat->host->paid_until - STARTS_AHEAD * START_EVERY));
+    int64_t comes_at =
+        latest(seat->comes_at, latest(seat->host->rests_until,
+                                      seat->host->paid_until - STARTS_AHEAD * START_EVERY));
     bool waits = !seat->here && seat->listener >= 0, comes = comes_at <= loop_now();
     loop_wait_for(loop, seat->writer.channel, POLLIN, take_limit, seat);
     loop_wait_for(loop, waits && comes ? seat->listener : -1, POLLIN, take_client, seat);
-    loop_wait_for(loop, seat->channel < 0 || seat->host->looked ? seat->process_file : -1, POLLIN, take_end, seat);
+    loop_wait_for(loop, seat->channel < 0 || seat->host->looked ? seat->process_file : -1, POLLIN,
+                  take_end, seat);
     loop_wait_for(loop, seat->read < MESSAGES ? seat->channel : -1, POLLIN, take_messages, seat);
     if (waits && !comes)
         loop_wait_until(loop, comes_at);
@@ -232,14 +247,16 @@ static int take_lines(void *context, int file)
     return LOOP_GOES_ON;
 }
 
-/* Waits for lines, room for answers, the signals that end it, and what is to be done at its time. */
+/* Waits for lines, room for answers, the signals that end it, and what is to be done at its
+  * time. */
 static void wait_for_lines(void *context, struct loop *loop)
 {
     struct host *host = context;
     bool asks = *host->question.line, were_read = answers_were_read(&host->answers);
     loop_wait_for(loop, host->end, POLLIN, take_signal, host);
     loop_wait_for(loop, were_read ? -1 : file_of_output(), POLLOUT, take_room, host);
-    loop_wait_for(loop, host->input.ended || asks || !were_read ? -1 : STDIN_FILENO, POLLIN, take_lines, host);
+    loop_wait_for(loop, host->input.ended || asks || !were_read ? -1 : STDIN_FILENO, POLLIN,
+                  take_lines, host);
     loop_wait_until(loop, host->looks_at);
     if (asks)
         loop_wait_until(loop, host->question.until);

@@ -11,8 +11,10 @@ const struct measures *measures_see(void)
 
 const char *gone_reason_word(enum gone_reason reason)
 {
-    static const char *const words[] = {
-        [GONE_LEFT] = "left", [GONE_REFUSED] = "refused", [GONE_REMOVED] = "removed", [GONE_DIED] = "died"};
+    static const char *const words[] = {[GONE_LEFT] = "left",
+                                        [GONE_REFUSED] = "refused",
+                                        [GONE_REMOVED] = "removed",
+                                        [GONE_DIED] = "died"};
     return words[reason];
 }
 

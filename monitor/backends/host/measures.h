@@ -1,4 +1,5 @@
-/* What the lender counts of its own over its life, for metrics: what took how long, and why guests went. */
+/* What the lender counts of its own over its life, for metrics: what took how long, and why guests
+ * went. */
 #ifndef MEASURES_H
 #define MEASURES_H
 #include "view.h"
@@ -8,16 +9,18 @@ enum { DURATION_BOUNDS = 7 };
 extern const double duration_bounds[DURATION_BOUNDS];
 struct durations {
     uint64_t counts[DURATION_BOUNDS + 1];
-    double sum;                 /* seconds */
+    double sum; /* seconds */
 };
 
-/* It left; it was refused, since it broke a rule or found no room; the host removed it; its process ended by itself. */
+/* It left; it was refused, since it broke a rule or found no room; the host removed it; its process
+ * ended by itself. */
 enum gone_reason { GONE_LEFT, GONE_REFUSED, GONE_REMOVED, GONE_DIED, GONE_REASONS };
 
 struct measures {
-    struct durations waits;     /* of guests that asked for memory, until they were granted it */
-    uint64_t ungranted[WAIT_ENDS];      /* waits that ended otherwise */
-    struct durations decisions, turns;  /* a turn of the loop: from when something has come to the next wait */
+    struct durations waits;        /* of guests that asked for memory, until they were granted it */
+    uint64_t ungranted[WAIT_ENDS]; /* waits that ended otherwise */
+    struct durations decisions,
+        turns; /* a turn of the loop: from when something has come to the next wait */
     struct durations processor; /* the processor's time of each turn */
     double above;               /* seconds for which the guests held more than the budget */
     uint64_t gone[GONE_REASONS];

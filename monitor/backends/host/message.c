@@ -6,7 +6,8 @@
 bool lending_send(int channel, struct lending_message *message)
 {
     message->version = LENDING_VERSION;
-    return channel >= 0 && send(channel, message, sizeof *message, MSG_DONTWAIT | MSG_NOSIGNAL) == (ssize_t)sizeof *message;
+    return channel >= 0 && send(channel, message, sizeof *message, MSG_DONTWAIT | MSG_NOSIGNAL) ==
+                               (ssize_t)sizeof *message;
 }
 
 /* What has come, by what the read of a message has answered. */
@@ -31,8 +32,8 @@ bool lending_names_senders(int channel)
     return !setsockopt(channel, SOL_SOCKET, SO_PASSCRED, &(int){1}, sizeof(int));
 }
 
-/* There is room for the sender's number alone: a file that came beside would be dropped by the kernel. What comes beside a message of such a
- * socket is of SOL_SOCKET. */
+/* There is room for the sender's number alone: a file that came beside would be dropped by the
+ * kernel. What comes beside a message of such a socket is of SOL_SOCKET. */
 int lending_read_from(int channel, struct lending_message *message, pid_t *sender)
 {
     union {
@@ -40,7 +41,10 @@ int lending_read_from(int channel, struct lending_message *message, pid_t *sende
         struct cmsghdr aligned;
     } control;
     struct iovec part = {message, sizeof *message};
-    struct msghdr header = {.msg_iov = &part, .msg_iovlen = 1, .msg_control = &control, .msg_controllen = sizeof control};
+    struct msghdr header = {.msg_iov = &part,
+                            .msg_iovlen = 1,
+                            .msg_control = &control,
+                            .msg_controllen = sizeof control};
     int got = take(recvmsg(channel, &header, MSG_DONTWAIT | MSG_TRUNC), message);
     const struct cmsghdr *its = got > 0 ? CMSG_FIRSTHDR(&header) : NULL;
     struct ucred credentials = {0};

@@ -1,6 +1,7 @@
-/* What the lender and a guest's process say to each other: messages of one size over a SOCK_SEQPACKET socket, in both directions. Neither
- * waits for the other: a message for which there is no room is dropped and counted. Nothing is lost by that, since each report says all
- * anew, and each order is given again until a report shows that it was obeyed. */
+/* What the lender and a guest's process say to each other: messages of one size over a
+ * SOCK_SEQPACKET socket, in both directions. Neither waits for the other: a message for which there
+ * is no room is dropped and counted. Nothing is lost by that, since each report says all anew, and
+ * each order is given again until a report shows that it was obeyed. */
 #ifndef MESSAGE_H
 #define MESSAGE_H
 #include "../guest/backend.h"
@@ -12,21 +13,21 @@ enum { LENDING_VERSION = 1, MOST_WORDS = 256, MOST_SET = 1 << 24 };
 
 enum lending_kind {
     /* Of the lender. */
-    ORDER_LOOK = 1,             /* report; and, where `asks` is set, ask the guest for its statistics */
-    ORDER_REMIND,               /* tell the guest its target again, where its balloon stays off it */
-    ORDER_TARGET,               /* the host wants `target` pages in the balloon */
-    ORDER_ADMIT,                /* there is room for the pages that it waits for */
-    ORDER_REFUSE,               /* there is none */
-    ORDER_KEEP,                 /* keep the terms for the lender that comes after this one */
-    ORDER_GRANT,                /* the deflate that is held has its pages */
-    ORDER_LEAVE,                /* end */
+    ORDER_LOOK = 1, /* report; and, where `asks` is set, ask the guest for its statistics */
+    ORDER_REMIND,   /* tell the guest its target again, where its balloon stays off it */
+    ORDER_TARGET,   /* the host wants `target` pages in the balloon */
+    ORDER_ADMIT,    /* there is room for the pages that it waits for */
+    ORDER_REFUSE,   /* there is none */
+    ORDER_KEEP,     /* keep the terms for the lender that comes after this one */
+    ORDER_GRANT,    /* the deflate that is held has its pages */
+    ORDER_LEAVE,    /* end */
     /* Of a guest's process. */
-    TELL_REPORT,                /* all that it is */
-    TELL_REFUSED,               /* its client isn't served any longer, by `words` */
-    TELL_REMARK,                /* words, while all goes on */
-    TELL_GONE,                  /* its client has gone; the process ends */
+    TELL_REPORT,  /* all that it is */
+    TELL_REFUSED, /* its client isn't served any longer, by `words` */
+    TELL_REMARK,  /* words, while all goes on */
+    TELL_GONE,    /* its client has gone; the process ends */
     /* Of the lender: the numbers above stay, as processes of other versions know them. */
-    ORDER_RENEW,                /* another process goes on, of the program that is there now */
+    ORDER_RENEW, /* another process goes on, of the program that is there now */
 };
 
 /* For what a guest's process waits before it answers its client. */
@@ -39,43 +40,48 @@ struct kept_terms {
 
 struct lending_message {
     uint32_t version, kind;
-    uint64_t number;            /* of an order to look: the report that answers it has the same; 0: none */
-    uint64_t serial;            /* of a report: how many there were */
-    uint64_t held_kib, end;     /* what the memory's files hold; the page at which memory ends */
-    uint64_t lost;              /* messages of the process that found no room */
-    uint32_t pages;             /* of its memory that has room */
-    uint32_t wanted;            /* pages that it waits for */
-    uint32_t wait;              /* how many times it has waited: the answer has the same number */
-    uint32_t holds;             /* its deflates and resets wait for their grant */
-    uint32_t held_pages;        /* pages of the deflate that is held; 0: none is */
-    uint32_t held_wait;         /* how many were held: the grant has the same number */
-    uint32_t waits;             /* enum lending_wait */
+    uint64_t number; /* of an order to look: the report that answers it has the same; 0: none */
+    uint64_t serial; /* of a report: how many there were */
+    uint64_t held_kib, end; /* what the memory's files hold; the page at which memory ends */
+    uint64_t lost;          /* messages of the process that found no room */
+    uint32_t pages;         /* of its memory that has room */
+    uint32_t wanted;        /* pages that it waits for */
+    uint32_t wait;          /* how many times it has waited: the answer has the same number */
+    uint32_t holds;         /* its deflates and resets wait for their grant */
+    uint32_t held_pages;    /* pages of the deflate that is held; 0: none is */
+    uint32_t held_wait;     /* how many were held: the grant has the same number */
+    uint32_t waits;         /* enum lending_wait */
     uint32_t target, actual, ballooned, status, ready;
     union {
-        uint32_t asks;          /* of an order: whether to ask for statistics */
-        uint32_t obeyed;        /* of a report: 1 more than the target that the driver has read last; 0: it reads none */
+        uint32_t asks;   /* of an order: whether to ask for statistics */
+        uint32_t obeyed; /* of a report: 1 more than the target that the driver has read last; 0: it
+                            reads none */
     };
-    uint32_t asked;             /* whether the guest could be asked */
-    uint32_t ballooned_then;    /* what was in the balloon at its last statistics, or when it took pages itself after them */
-    uint32_t taken_since;       /* it has taken pages itself after its last statistics */
-    uint32_t has_terms;         /* unless 0, `terms` are those of a lender */
+    uint32_t asked;          /* whether the guest could be asked */
+    uint32_t ballooned_then; /* what was in the balloon at its last statistics, or when it took
+                                pages itself after them */
+    uint32_t taken_since;    /* it has taken pages itself after its last statistics */
+    uint32_t has_terms;      /* unless 0, `terms` are those of a lender */
     uint32_t figure_count;
     struct kept_terms terms;
     struct counters counters;
     VbStatistic figures[MOST_TAGS];
-    char words[MOST_WORDS];     /* of a report: the version of the process */
+    char words[MOST_WORDS]; /* of a report: the version of the process */
 };
 
-/* The files with which a guest's process begins: where its client comes, its end of the channel, and where a later lender comes. */
+/* The files with which a guest's process begins: where its client comes, its end of the channel,
+ * and where a later lender comes. */
 enum { CLIENT_FILE = 3, CHANNEL_FILE, LATER_FILE, FILES_OF_GUEST };
 
 /* Sends a message; false where there is no room, or nobody at the other end. */
 bool lending_send(int channel, struct lending_message *message);
 
-/* Reads the next message: 1; 0 where there is none yet; -1 where the other end has gone, or has sent something else. */
+/* Reads the next message: 1; 0 where there is none yet; -1 where the other end has gone, or has
+ * sent something else. */
 int lending_read(int channel, struct lending_message *message);
 
-/* The same of a channel that names senders, with the number of the process that has sent it, by the kernel's word; 0 where that isn't known. */
+/* The same of a channel that names senders, with the number of the process that has sent it, by the
+ * kernel's word; 0 where that isn't known. */
 bool lending_names_senders(int channel);
 int lending_read_from(int channel, struct lending_message *message, pid_t *sender);
 

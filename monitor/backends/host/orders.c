@@ -1,4 +1,5 @@
-/* What the lender says to a guest's process. Nothing waits: what finds no room is said again at the next look. */
+/* What the lender says to a guest's process. Nothing waits: what finds no room is said again at the
+ * next look. */
 #include "loans.h"
 
 /* Sends an order; one that finds no room is counted. */
@@ -10,7 +11,8 @@ static void order(struct seat *seat, struct lending_message *message)
 
 void seat_look(struct seat *seat, bool asks)
 {
-    struct lending_message message = {.kind = ORDER_LOOK, .number = ++seat->host->looks_asked, .asks = asks};
+    struct lending_message message = {
+        .kind = ORDER_LOOK, .number = ++seat->host->looks_asked, .asks = asks};
     if (!seat_is_taken(seat))
         return;
     seat->number = message.number;
@@ -32,8 +34,8 @@ static void tell_target(struct seat *seat)
     order(seat, &message);
 }
 
-/* What a guest may be asked for at once: all of its target, unless a step is smaller, the host is within its budget, and nobody waits for
- * pages. */
+/* What a guest may be asked for at once: all of its target, unless a step is smaller, the host is
+ * within its budget, and nobody waits for pages. */
 static bool goes_by_steps(const struct seat *seat)
 {
     const struct host *host = seat->host;
@@ -41,11 +43,13 @@ static bool goes_by_steps(const struct seat *seat)
     return host->step > 0 && seat->target > seat->told && is_calm;
 }
 
-/* Tells it a target that falls, as far as it may fall now. One of a guest whose deflates wait falls only as far as there is room, which is
- * lent to it at once: else it would wait for pages that it doesn't need, and couldn't give any meanwhile. */
+/* Tells it a target that falls, as far as it may fall now. One of a guest whose deflates wait falls
+ * only as far as there is room, which is lent to it at once: else it would wait for pages that it
+ * doesn't need, and couldn't give any meanwhile. */
 static void lower(struct seat *seat)
 {
-    uint32_t ballooned = loan_of(seat)->ballooned, from = seat->told > ballooned ? ballooned : seat->told;
+    uint32_t ballooned = loan_of(seat)->ballooned,
+             from = seat->told > ballooned ? ballooned : seat->told;
     uint32_t falls = from > seat->target ? from - seat->target : 0;
     loan_tell(seat, seat->target + (seat->report.holds ? falls - loan_ahead(seat, falls) : 0));
 }
@@ -77,7 +81,8 @@ void seat_step(struct seat *seat, int64_t milliseconds)
 {
     uint32_t left = seat->target - seat->told;
     if (goes_by_steps(seat)) {
-        uint64_t step = (uint64_t)seat->pages * (uint64_t)milliseconds / (UINT64_C(1000) * seat->host->step);
+        uint64_t step =
+            (uint64_t)seat->pages * (uint64_t)milliseconds / (UINT64_C(1000) * seat->host->step);
         step = step > 0 ? step : 1;
         loan_tell(seat, seat->told + (step < left ? (uint32_t)step : left));
         tell_target(seat);
@@ -92,7 +97,8 @@ void seat_step(struct seat *seat, int64_t milliseconds)
 void seat_keep_terms(struct seat *seat)
 {
     const struct guest_terms *terms = &seat->terms;
-    struct lending_message message = {.kind = ORDER_KEEP, .terms = {terms->least, terms->most, terms->priority, terms->strict}};
+    struct lending_message message = {
+        .kind = ORDER_KEEP, .terms = {terms->least, terms->most, terms->priority, terms->strict}};
     order(seat, &message);
 }
 
@@ -118,7 +124,8 @@ void seat_grant(struct seat *seat)
 
 void seat_answer(struct seat *seat, bool admitted)
 {
-    struct lending_message message = {.kind = admitted ? ORDER_ADMIT : ORDER_REFUSE, .wait = seat->report.wait};
+    struct lending_message message = {.kind = admitted ? ORDER_ADMIT : ORDER_REFUSE,
+                                      .wait = seat->report.wait};
     seat->wait_answered = seat->report.wait;
     seat->wait_admitted = admitted;
     if (!admitted || limit_allows(seat))

@@ -1,17 +1,18 @@
-/* What the library is asked, and what is done with its answers: what each guest is known by, whether old targets still serve, and which
- * ones do. */
+/* What the library is asked, and what is done with its answers: what each guest is known by,
+ * whether old targets still serve, and which ones do. */
 #include "host.h"
 #include "measures.h"
 
 enum {
-    FREE_MEMORY = 4,            /* the tags (VIRTIO 1.1, 5.5.6.3) */
+    FREE_MEMORY = 4, /* the tags (VIRTIO 1.1, 5.5.6.3) */
     AVAILABLE_MEMORY = 6,
-    SLACK_PART = 8,             /* old targets serve while each guest has its floor but for this part of it */
-    PAUSE = 2000,               /* milliseconds in which a guest that took pages itself is asked for no more */
+    SLACK_PART = 8, /* old targets serve while each guest has its floor but for this part of it */
+    PAUSE = 2000,   /* milliseconds in which a guest that took pages itself is asked for no more */
     MOST_KNOWN = 2 * MOST_GUESTS,
 };
 
-/* The guests that have memory, in the order of their seats, and those that are leaving after them. */
+/* The guests that have memory, in the order of their seats, and those that are leaving after
+  * them. */
 struct guests {
     unsigned count;
     struct seat *seats[MOST_KNOWN];
@@ -54,12 +55,17 @@ static bool has_loan(const struct seat *seat)
 static VbHostGuest known_of(const struct seat *seat)
 {
     VbLoan loan = has_loan(seat) ? seat->host->loans[seat->place] : (VbLoan){0};
-    return (VbHostGuest){
-        .loan = loan, .pages = seat->pages, .held = pages_held(seat),
-        .ballooned = loan.pages > 0 ? loan.ballooned : seat->report.ballooned, .ballooned_then = seat->ballooned_then,
-        .available = seat->tells_available ? seat->available : seat->free,
-        .contact = contact_of(seat), .rests = is_paused(seat),
-        .least = seat->terms.least, .most = seat->terms.most, .priority = seat->terms.priority};
+    return (VbHostGuest){.loan = loan,
+                         .pages = seat->pages,
+                         .held = pages_held(seat),
+                         .ballooned = loan.pages > 0 ? loan.ballooned : seat->report.ballooned,
+                         .ballooned_then = seat->ballooned_then,
+                         .available = seat->tells_available ? seat->available : seat->free,
+                         .contact = contact_of(seat),
+                         .rests = is_paused(seat),
+                         .least = seat->terms.least,
+                         .most = seat->terms.most,
+                         .priority = seat->terms.priority};
 }
 
 /* By what is known of it, what a guest can spare is found. */
@@ -139,17 +145,19 @@ static uint32_t slack_of(const struct host *host)
 
 static VbBudget budget_of(const struct host *host)
 {
-    return (VbBudget){ .frames = host->frames, .floor = host->floor, .slack = slack_of(host) };
+    return (VbBudget){.frames = host->frames, .floor = host->floor, .slack = slack_of(host)};
 }
 
-/* Targets of these guests; by how much they are short: then each is asked for all that it can give. */
+/* Targets of these guests; by how much they are short: then each is asked for all that it can
+  * give. */
 static uint64_t share_out(struct guests *guests, const struct host *host)
 {
     static VbShare shares[MOST_KNOWN];
     static VbNeed needs[MOST_KNOWN];
     unsigned count = guests->count;
     VbBudget budget = budget_of(host);
-    VbTargets answer = vb_guest_targets(&budget, guests->known, count, shares, count, needs, count, guests->targets, count);
+    VbTargets answer = vb_guest_targets(&budget, guests->known, count, shares, count, needs, count,
+                                        guests->targets, count);
     return answer.code == VB_SHORT ? answer.missing : 0;
 }
 
@@ -157,7 +165,8 @@ uint64_t policy_lacks(struct host *host, const struct seat *newcomer, uint32_t p
 {
     static struct guests guests;
     collect(host, newcomer, &guests);
-    add(&guests, (struct seat *)newcomer, (VbHostGuest){.pages = pages, .contact = VB_GUEST_STARTS, .most = UINT32_MAX});
+    add(&guests, (struct seat *)newcomer,
+        (VbHostGuest){.pages = pages, .contact = VB_GUEST_STARTS, .most = UINT32_MAX});
     return share_out(&guests, host);
 }
 
@@ -168,7 +177,8 @@ static bool old_serve(const struct guests *guests, const struct host *host)
     static uint32_t rests[MOST_KNOWN];
     unsigned count = guests->count;
     VbBudget budget = budget_of(host);
-    return !vb_needs_guest_targets(&budget, guests->known, count, guests->old, count, needs, count, rests, count);
+    return !vb_needs_guest_targets(&budget, guests->known, count, guests->old, count, needs, count,
+                                   rests, count);
 }
 
 /* What a guest could give with a little less than its floor. */
@@ -192,8 +202,11 @@ static void explain(const struct host *host, const struct guests *guests, struct
 static void note(struct host *host, const struct guests *guests, uint64_t missing)
 {
     static struct decision decision;
-    decision = (struct decision){.at = loop_now(), .frames = host->frames, .floor = host->floor,
-                                 .missing = missing, .count = guests->count};
+    decision = (struct decision){.at = loop_now(),
+                                 .frames = host->frames,
+                                 .floor = host->floor,
+                                 .missing = missing,
+                                 .count = guests->count};
     explain(host, guests, &decision);
     for (unsigned i = 0; i < guests->count; i++) {
         const struct seat *seat = guests->seats[i];
@@ -209,13 +222,15 @@ static void note(struct host *host, const struct guests *guests, uint64_t missin
     journal_add(host, &decision);
 }
 
-/* Tells the guests their targets; those that are to give more come first. Returns how many have changed. */
+/* Tells the guests their targets; those that are to give more come first. Returns how many have
+ * changed. */
 static unsigned tell(const struct guests *guests)
 {
     unsigned changed = 0;
     for (int lower = 0; lower < 2; lower++)
         for (unsigned i = 0; i < guests->count; i++)
-            if (guests->targets[i] != guests->old[i] && (guests->targets[i] < guests->old[i]) == lower) {
+            if (guests->targets[i] != guests->old[i] &&
+                (guests->targets[i] < guests->old[i]) == lower) {
                 seat_set_target(guests->seats[i], guests->targets[i]);
                 changed++;
             }
@@ -234,7 +249,8 @@ static void decide(struct host *host)
         return;
     }
     uint64_t missing = share_out(&guests, host);
-    if (host->anew || missing != host->missing || memcmp(guests.old, guests.targets, guests.count * sizeof guests.old[0]))
+    if (host->anew || missing != host->missing ||
+        memcmp(guests.old, guests.targets, guests.count * sizeof guests.old[0]))
         note(host, &guests, missing);
     host->counters.shorts += missing > 0;
     host->missing = missing;

@@ -4,10 +4,12 @@
 
 enum { MOST_VERSION = 32 };
 
-/* What no process of a guest can have: more pages than its memory may have, or a number of held pages that isn't one; NULL: all may be. */
+/* What no process of a guest can have: more pages than its memory may have, or a number of held
+ * pages that isn't one; NULL: all may be. */
 static const char *number_fault(const struct lending_message *report)
 {
-    const uint32_t pages[] = {report->pages, report->wanted, report->ballooned, report->held_pages, report->ballooned_then};
+    const uint32_t pages[] = {report->pages, report->wanted, report->ballooned, report->held_pages,
+                              report->ballooned_then};
     for (unsigned i = 0; i < sizeof pages / sizeof pages[0]; i++)
         if (pages[i] > MOST_SET)
             return "more pages than a guest may have";
@@ -16,7 +18,8 @@ static const char *number_fault(const struct lending_message *report)
     return report->waits > WAIT_RESET ? "a wait that isn't one" : NULL;
 }
 
-/* Why a report isn't believed, beside what was granted, and how its process was started; NULL: it is. */
+/* Why a report isn't believed, beside what was granted, and how its process was started; NULL: it
+ * is. */
 static const char *report_fault(const struct seat *seat, const struct lending_message *report)
 {
     const char *fault = number_fault(report);
@@ -24,7 +27,9 @@ static const char *report_fault(const struct seat *seat, const struct lending_me
         return fault;
     if (report->waits != WAIT_ROOM && report->pages > seat->pages)
         return "pages that nobody has granted";
-    return (report->holds != 0) == seat->holds ? NULL : seat->holds ? "that its deflates don't wait" : "that its deflates wait";
+    return (report->holds != 0) == seat->holds ? NULL
+           : seat->holds                       ? "that its deflates don't wait"
+                                               : "that its deflates wait";
 }
 
 /* A guest waits: whether there is room, it is answered at once, unless it waits for its grant. */
@@ -36,7 +41,9 @@ static void answer_wait(struct seat *seat)
         return;
     if (host_awaits(host))
         return; /* it reports again */
-    uint64_t missing = seat->report.holds ? wanted - host->frames : wanted > seat->pages ? policy_lacks(host, seat, wanted) : 0;
+    uint64_t missing = seat->report.holds     ? wanted - host->frames
+                       : wanted > seat->pages ? policy_lacks(host, seat, wanted)
+                                              : 0;
     if (missing > 0) {
         refuse("no room for %u pages: %llu are missing", wanted, (unsigned long long)missing);
         host->counters.refused++;
@@ -50,7 +57,8 @@ static void answer_wait(struct seat *seat)
     host_changed(host, BY_GUESTS);
 }
 
-/* What may have changed by what was served: statistics, and pages that the guest took back by itself. */
+/* What may have changed by what was served: statistics, and pages that the guest took back by
+ * itself. */
 static void take_note(struct seat *seat)
 {
     const struct counters *counters = &seat->report.counters;
@@ -65,7 +73,8 @@ static void take_note(struct seat *seat)
     seat->taken = counters->taken;
 }
 
-/* The first report of a process that an earlier lender has started: its target goes on, and its terms where none are kept. */
+/* The first report of a process that an earlier lender has started: its target goes on, and its
+ * terms where none are kept. */
 static void adopt(struct seat *seat)
 {
     const struct lending_message *report = &seat->report;
@@ -76,16 +85,20 @@ static void adopt(struct seat *seat)
     if (!seat->asks_terms)
         return;
     if (report->has_terms)
-        seat->terms = (struct guest_terms){.least = report->terms.least, .most = report->terms.most,
-                                           .priority = report->terms.priority, .strict = report->terms.strict != 0,
-                                           .overhead = seat->terms.overhead, .limit = seat->terms.limit};
+        seat->terms = (struct guest_terms){.least = report->terms.least,
+                                           .most = report->terms.most,
+                                           .priority = report->terms.priority,
+                                           .strict = report->terms.strict != 0,
+                                           .overhead = seat->terms.overhead,
+                                           .limit = seat->terms.limit};
     seat->asks_terms = folder_keep(seat->host, seat->name, &seat->terms) != NULL;
 }
 
 /* The version that a process says that it has; empty where it isn't one. */
 static void check_version(char words[MOST_WORDS])
 {
-    static const char signs[] = "abcdefghijklmnopqrstuvwxyzABCDEFGHIJKLMNOPQRSTUVWXYZ0123456789.+~-";
+    static const char signs[] =
+        "abcdefghijklmnopqrstuvwxyzABCDEFGHIJKLMNOPQRSTUVWXYZ0123456789.+~-";
     size_t length = strlen(words);
     if (length >= MOST_VERSION || strspn(words, signs) != length)
         words[0] = 0;
@@ -148,8 +161,8 @@ static bool keeps_terms(const struct seat *seat)
 {
     const struct kept_terms *kept = &seat->report.terms;
     const struct guest_terms *its = &seat->terms;
-    return seat->report.has_terms && kept->least == its->least && kept->most == its->most && kept->priority == its->priority
-        && (kept->strict != 0) == its->strict;
+    return seat->report.has_terms && kept->least == its->least && kept->most == its->most &&
+           kept->priority == its->priority && (kept->strict != 0) == its->strict;
 }
 
 static void take(struct seat *seat, struct lending_message *message, pid_t sender)

@@ -1,9 +1,9 @@
-/* Guests at rest: nobody wants anything of them, and what their reports say stays as it is, but for a little. They are asked at a slow pace;
- * their processes tell by themselves what they do. */
+/* Guests at rest: nobody wants anything of them, and what their reports say stays as it is, but for
+ * a little. They are asked at a slow pace; their processes tell by themselves what they do. */
 #include "host.h"
 
-/* Periods in which a guest stays as it is, and rests from then on; periods of which one that rests is asked in one. What changes by more than
- * this part of its pages counts as a change. */
+/* Periods in which a guest stays as it is, and rests from then on; periods of which one that rests
+ * is asked in one. What changes by more than this part of its pages counts as a change. */
 enum { RESTS_AFTER = 10, ASKED_ONCE_IN = 5, LITTLE_PART = 256 };
 
 static bool is_near(uint64_t one, uint64_t other, uint64_t most)
@@ -13,7 +13,9 @@ static bool is_near(uint64_t one, uint64_t other, uint64_t most)
 
 static struct stillness stillness_of(const struct seat *seat)
 {
-    return (struct stillness){.pages = seat->pages, .ballooned = seat->report.ballooned, .held = pages_held(seat),
+    return (struct stillness){.pages = seat->pages,
+                              .ballooned = seat->report.ballooned,
+                              .held = pages_held(seat),
                               .available = seat->tells_available ? seat->available : seat->free};
 }
 
@@ -21,7 +23,8 @@ static struct stillness stillness_of(const struct seat *seat)
 static bool is_at_peace(const struct seat *seat)
 {
     const struct lending_message *report = &seat->report;
-    bool obeyed = seat->told == seat->target && report->target == seat->target && report->ballooned == seat->target;
+    bool obeyed = seat->told == seat->target && report->target == seat->target &&
+                  report->ballooned == seat->target;
     bool answered = seat->known && seat->silent == 0 && seat->asked_at == 0;
     return seat_is_ready(seat) && answered && obeyed && seat->waits_for == WAITS_FOR_NOTHING;
 }
@@ -43,8 +46,9 @@ bool seat_moves(struct seat *seat)
 {
     struct stillness now = stillness_of(seat), then = seat->still;
     uint64_t little = seat->pages / LITTLE_PART;
-    bool stays = now.pages == then.pages && now.ballooned == then.ballooned && is_near(now.held, then.held, little)
-        && is_near(now.available, then.available, little);
+    bool stays = now.pages == then.pages && now.ballooned == then.ballooned &&
+                 is_near(now.held, then.held, little) &&
+                 is_near(now.available, then.available, little);
     if (stays)
         return false;
     bool rested = seat_rests(seat);

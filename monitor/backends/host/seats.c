@@ -24,7 +24,8 @@ bool seat_answers(const struct seat *seat)
 
 bool seat_reports(const struct seat *seat)
 {
-    return !seat_is_taken(seat) || seat->asked_at == 0 || loop_now() - seat->asked_at <= SILENT_AFTER * seat->host->period;
+    return !seat_is_taken(seat) || seat->asked_at == 0 ||
+           loop_now() - seat->asked_at <= SILENT_AFTER * seat->host->period;
 }
 
 struct seat *seat_of(const struct host *host, const char *name)
@@ -39,8 +40,10 @@ void seat_clear(struct seat *seat)
 {
     seat_ends_wait(seat);
     memset(&seat->report, 0, sizeof seat->report);
-    seat->pages = seat->free = seat->available = seat->ballooned_then = seat->target = seat->told = seat->least_told = seat->silent = 0;
-    seat->known = seat->tells_available = seat->gone = seat->refused = seat->adopts = seat->holds = false;
+    seat->pages = seat->free = seat->available = seat->ballooned_then = seat->target = seat->told =
+        seat->least_told = seat->silent = 0;
+    seat->known = seat->tells_available = seat->gone = seat->refused = seat->adopts = seat->holds =
+        false;
     seat->heard = seat->taken = seat->number = seat->answered = seat->lost = 0;
     seat->heard_at = seat->paused_until = seat->asked_at = seat->waits_since = 0;
     seat->serving = 0;
@@ -63,7 +66,8 @@ static bool listen_at(struct seat *seat)
     seat->listener = socket(AF_UNIX, SOCK_STREAM | SOCK_CLOEXEC | SOCK_NONBLOCK, 0);
     if (seat->listener < 0)
         return false;
-    if (!bind(seat->listener, (struct sockaddr *)&address, sizeof address) && !listen(seat->listener, 1))
+    if (!bind(seat->listener, (struct sockaddr *)&address, sizeof address) &&
+        !listen(seat->listener, 1))
         return true;
     int why = errno;
     file_close(seat->listener);
@@ -85,8 +89,9 @@ static bool name_seat(struct seat *seat, const char *name)
     const char *folder = seat->host->folder;
     strcpy(seat->name, name);
     seat->speaker.name = seat->name;
-    return snprintf(seat->path, sizeof seat->path, "%s/%s", folder, name) < MOST_PATH
-        && snprintf(seat->later_path, sizeof seat->later_path, "/proc/self/fd/%d/%s", seat->host->channels, name) < MOST_PATH;
+    return snprintf(seat->path, sizeof seat->path, "%s/%s", folder, name) < MOST_PATH &&
+           snprintf(seat->later_path, sizeof seat->later_path, "/proc/self/fd/%d/%s",
+                    seat->host->channels, name) < MOST_PATH;
 }
 
 /* A place that no guest has, also none that is leaving: there are twice as many as seats. */
@@ -128,7 +133,8 @@ const char *seat_add(struct host *host, const char *name, const struct guest_ter
     return NULL;
 }
 
-/* A process that has a listening socket and a client alone, and ends once the other end of a pipe is closed; nobody waits for it. */
+/* A process that has a listening socket and a client alone, and ends once the other end of a pipe
+ * is closed; nobody waits for it. */
 static void keep_alone(int listener, int client, int pipe)
 {
     char byte;
@@ -141,7 +147,8 @@ static void keep_alone(int listener, int client, int pipe)
     _exit(read(STDIN_FILENO, &byte, 1) != 0);
 }
 
-/* Closes both, with what a client has sent, which may take long: so another process closes them last. */
+/* Closes both, with what a client has sent, which may take long: so another process closes them
+ * last. */
 static void close_with_client(int listener, int client)
 {
     int ends[2];
@@ -180,7 +187,8 @@ const char *seat_remove(struct host *host, struct seat *seat)
         number++;
     host->count--;
     host->comes = host->comes == seat ? NULL : host->comes;
-    memmove(host->seats + number, host->seats + number + 1, (host->count - number) * sizeof host->seats[0]);
+    memmove(host->seats + number, host->seats + number + 1,
+            (host->count - number) * sizeof host->seats[0]);
     remove_socket(seat->path);
     remove_socket(seat->later_path);
     folder_forget(host, seat->name);

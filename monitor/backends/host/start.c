@@ -13,23 +13,27 @@
 
 extern char **environ;
 
-/* Milliseconds without new clients, once there was no file or no process left for one; between two clients of one guest. */
+/* Milliseconds without new clients, once there was no file or no process left for one; between two
+ * clients of one guest. */
 enum { REST = 1000, PACE = 20 };
 
 /* Milliseconds in which the guests of an earlier lender tell what they have. */
 enum { TOLD_IN = 5000 };
 
-/* The lowest number of a file that is handed on, so that none is written over as they are put in their places. */
+/* The lowest number of a file that is handed on, so that none is written over as they are put in
+ * their places. */
 enum { ABOVE_ALL = 16, FILES_HANDED = 3 };
 
 /* The words of a guest's process. */
-static unsigned make_words(const struct seat *seat, char features[24], char lines[16], const char *words[16])
+static unsigned make_words(const struct seat *seat, char features[24], char lines[16],
+                           const char *words[16])
 {
     const struct host *host = seat->host;
     unsigned count = 0;
     snprintf(features, 24, "%llx", (unsigned long long)host->features);
     snprintf(lines, 16, "%u", most_lines);
-    const char *const always[] = {host->program, "--lent", "--features", features, "--lines", lines};
+    const char *const always[] = {host->program, "--lent",  "--features",
+                                  features,      "--lines", lines};
     for (; count < sizeof always / sizeof always[0]; count++)
         words[count] = always[count];
     if (host->strict_pages)
@@ -78,19 +82,21 @@ static int listen_later(const char *path)
     int listener = socket(AF_UNIX, SOCK_SEQPACKET | SOCK_CLOEXEC | SOCK_NONBLOCK, 0);
     strcpy(address.sun_path, path);
     remove_socket(path);
-    if (listener < 0 || (!bind(listener, (struct sockaddr *)&address, sizeof address) && !listen(listener, 1)))
+    if (listener < 0 ||
+        (!bind(listener, (struct sockaddr *)&address, sizeof address) && !listen(listener, 1)))
         return listener;
     int why = errno;
     file_close(listener);
     return errno = why, -1;
 }
 
-/* The files of a process that is to begin, in `handed`, and the lender's end of the channel; 0 or an errno, and then there is none. */
+/* The files of a process that is to begin, in `handed`, and the lender's end of the channel; 0 or
+ * an errno, and then there is none. */
 static int open_files(struct seat *seat, int handed[FILES_HANDED])
 {
     int pair[2] = {-1, -1}, later = -1, why = 0;
-    if (socketpair(AF_UNIX, SOCK_SEQPACKET | SOCK_CLOEXEC | SOCK_NONBLOCK, 0, pair) || !lending_names_senders(pair[0])
-        || (later = listen_later(seat->later_path)) < 0)
+    if (socketpair(AF_UNIX, SOCK_SEQPACKET | SOCK_CLOEXEC | SOCK_NONBLOCK, 0, pair) ||
+        !lending_names_senders(pair[0]) || (later = listen_later(seat->later_path)) < 0)
         why = errno;
     const int files[FILES_HANDED] = {seat->listener, pair[1], later};
     for (int i = 0; i < FILES_HANDED; i++) {
@@ -157,7 +163,8 @@ static void mark_seat(const struct seat *seat)
         file_close(listener);
 }
 
-/* Connects to a process of the lender's user that an earlier lender has started; -1 where there is none. */
+/* Connects to a process of the lender's user that an earlier lender has started; -1 where there is
+ * none. */
 static int connect_later(const char *path, pid_t *process)
 {
     struct sockaddr_un address = {.sun_family = AF_UNIX};
@@ -165,7 +172,8 @@ static int connect_later(const char *path, pid_t *process)
     strcpy(address.sun_path, path);
     if (channel < 0)
         return -1;
-    bool connects = lending_names_senders(channel) && !connect(channel, (struct sockaddr *)&address, sizeof address);
+    bool connects = lending_names_senders(channel) &&
+                    !connect(channel, (struct sockaddr *)&address, sizeof address);
     *process = connects ? process_peer(channel) : 0;
     if (*process > 0)
         return channel;

@@ -1,4 +1,5 @@
-/* An upgrade of the programs while guests live on: the lender becomes the program that is there now, and so do guests' processes. */
+/* An upgrade of the programs while guests live on: the lender becomes the program that is there
+ * now, and so do guests' processes. */
 #include "host.h"
 
 #include <fcntl.h>
@@ -23,7 +24,8 @@ static const char *fault_of(const char *path)
     posix_spawn_file_actions_destroy(&actions);
     if (code != 0)
         return strerror(code);
-    bool runs = waitpid(process, &status, 0) == process && WIFEXITED(status) && WEXITSTATUS(status) == 0;
+    bool runs =
+        waitpid(process, &status, 0) == process && WIFEXITED(status) && WEXITSTATUS(status) == 0;
     return runs ? NULL : "it doesn't say its version";
 }
 

@@ -4,26 +4,31 @@
 
 struct guest_terms host_usual_terms(const struct host *host)
 {
-    return (struct guest_terms){.most = UINT32_MAX, .strict = host->strict, .overhead = USUAL_OVERHEAD};
+    return (struct guest_terms){
+        .most = UINT32_MAX, .strict = host->strict, .overhead = USUAL_OVERHEAD};
 }
 
 const char *guest_state_word(enum guest_state state)
 {
-    static const char *const words[] = {[GUEST_ABSENT] = "absent",     [GUEST_COMING] = "coming", [GUEST_WAITING] = "waiting",
-                                        [GUEST_STARTING] = "starting", [GUEST_READY] = "ready",   [GUEST_LEAVING] = "leaving"};
+    static const char *const words[] = {
+        [GUEST_ABSENT] = "absent",     [GUEST_COMING] = "coming", [GUEST_WAITING] = "waiting",
+        [GUEST_STARTING] = "starting", [GUEST_READY] = "ready",   [GUEST_LEAVING] = "leaving"};
     return words[state];
 }
 
 const char *guest_wait_word(enum guest_wait wait)
 {
-    static const char *const words[] = {
-        [WAITS_FOR_NOTHING] = "nothing", [WAITS_FOR_ROOM] = "room", [WAITS_FOR_DEFLATE] = "deflate", [WAITS_FOR_RESET] = "reset"};
+    static const char *const words[] = {[WAITS_FOR_NOTHING] = "nothing",
+                                        [WAITS_FOR_ROOM] = "room",
+                                        [WAITS_FOR_DEFLATE] = "deflate",
+                                        [WAITS_FOR_RESET] = "reset"};
     return words[wait];
 }
 
 const char *wait_end_word(enum wait_end how)
 {
-    static const char *const words[] = {[WAS_GRANTED] = "granted", [WAS_REFUSED] = "refused", [WAS_WITHDRAWN] = "withdrawn"};
+    static const char *const words[] = {
+        [WAS_GRANTED] = "granted", [WAS_REFUSED] = "refused", [WAS_WITHDRAWN] = "withdrawn"};
     return words[how];
 }
 
@@ -49,11 +54,25 @@ static bool cooperates(const struct seat *seat)
 void host_see(const struct host *host, struct host_view *view)
 {
     const struct host_counters *its = &host->counters;
-    *view = (struct host_view){
-        .folder = host->folder, .guests = host->count, .budget = host->frames, .floor = host->floor, .step = host->step,
-        .held_kib = host_held(host), .short_by = host->missing, .strict = host->strict, .period = host->period, .looks = its->looks,
-        .above = its->above, .peak_kib = its->peak, .decisions = its->decisions, .changed = its->changed, .shorts = its->shorts,
-        .admitted = its->admitted, .refused = its->refused, .gone = its->gone, .dropped = lines_dropped};
+    *view = (struct host_view){.folder = host->folder,
+                               .guests = host->count,
+                               .budget = host->frames,
+                               .floor = host->floor,
+                               .step = host->step,
+                               .held_kib = host_held(host),
+                               .short_by = host->missing,
+                               .strict = host->strict,
+                               .period = host->period,
+                               .looks = its->looks,
+                               .above = its->above,
+                               .peak_kib = its->peak,
+                               .decisions = its->decisions,
+                               .changed = its->changed,
+                               .shorts = its->shorts,
+                               .admitted = its->admitted,
+                               .refused = its->refused,
+                               .gone = its->gone,
+                               .dropped = lines_dropped};
     for (unsigned i = 0; i < host->count; i++) {
         const struct seat *seat = host->seats[i];
         view->lent += loan_of(seat)->lent;
@@ -88,14 +107,33 @@ void host_see_guest(const struct host *host, unsigned number, struct guest_view 
     const struct seat *seat = host->seats[number];
     const struct lending_message *report = &seat->report;
     const VbLoan *loan = &host->loans[seat->place];
-    *view = (struct guest_view){
-        .name = seat->name, .path = seat->path, .process = seat->serving, .version = report->words, .state = state_of(seat), .terms = seat->terms,
-        .pages = seat->pages, .held_kib = report->held_kib, .loan = loan->lent, .excess = loan_excess(seat), .asked = loan->asked,
-        .granted = seat->granted, .limit = seat->writer.written, .limit_failures = seat->writer.failures, .target = seat->target,
-        .ballooned = report->ballooned, .actual = report->actual, .free = seat->free, .available = seat->available,
-        .spare = policy_spare(seat), .answers = seat_answers(seat), .reports = seat_reports(seat),
-        .cooperates = cooperates(seat), .waits_for = seat->waits_for, .ended = seat->ended, .clients = seat->clients,
-        .lost = seat->lost + report->lost};
+    *view = (struct guest_view){.name = seat->name,
+                                .path = seat->path,
+                                .process = seat->serving,
+                                .version = report->words,
+                                .state = state_of(seat),
+                                .terms = seat->terms,
+                                .pages = seat->pages,
+                                .held_kib = report->held_kib,
+                                .loan = loan->lent,
+                                .excess = loan_excess(seat),
+                                .asked = loan->asked,
+                                .granted = seat->granted,
+                                .limit = seat->writer.written,
+                                .limit_failures = seat->writer.failures,
+                                .target = seat->target,
+                                .ballooned = report->ballooned,
+                                .actual = report->actual,
+                                .free = seat->free,
+                                .available = seat->available,
+                                .spare = policy_spare(seat),
+                                .answers = seat_answers(seat),
+                                .reports = seat_reports(seat),
+                                .cooperates = cooperates(seat),
+                                .waits_for = seat->waits_for,
+                                .ended = seat->ended,
+                                .clients = seat->clients,
+                                .lost = seat->lost + report->lost};
     if (seat->waits_for != WAITS_FOR_NOTHING)
         view->waits = seconds_since(seat->waits_since);
     if (seat_is_taken(seat)) {
@@ -131,7 +169,8 @@ static const char nobody[] = "no guest has that name";
 
 const char *host_refuses(const struct host *host, const char *name, const struct guest_terms *terms)
 {
-    return terms->least > terms->most ? "a guest's least is above its most" : limit_refusal(host, name, terms);
+    return terms->least > terms->most ? "a guest's least is above its most"
+                                      : limit_refusal(host, name, terms);
 }
 
 const char *host_add(struct host *host, const char *name, const struct guest_terms *terms)

@@ -1,5 +1,6 @@
-/* What the lender knows of itself and of each guest, and what may be changed: for a control socket, for metrics and for the lines of
- * standard input alike. Nothing here waits, and nothing asks a guest's process: numbers are those of its last report. */
+/* What the lender knows of itself and of each guest, and what may be changed: for a control socket,
+ * for metrics and for the lines of standard input alike. Nothing here waits, and nothing asks a
+ * guest's process: numbers are those of its last report. */
 #ifndef VIEW_H
 #define VIEW_H
 #include "limit.h"
@@ -13,23 +14,24 @@ struct host;
 
 /* What a guest is just now. */
 enum guest_state {
-    GUEST_ABSENT,               /* nobody is at its socket */
-    GUEST_COMING,               /* a client is there, and hasn't handed over its memory */
-    GUEST_WAITING,              /* its memory waits for room */
-    GUEST_STARTING,             /* it has room, and its driver isn't ready */
+    GUEST_ABSENT,   /* nobody is at its socket */
+    GUEST_COMING,   /* a client is there, and hasn't handed over its memory */
+    GUEST_WAITING,  /* its memory waits for room */
+    GUEST_STARTING, /* it has room, and its driver isn't ready */
     GUEST_READY,
-    GUEST_LEAVING,              /* its client has gone, its process hasn't ended yet: it may still hold memory */
+    GUEST_LEAVING, /* its client has gone, its process hasn't ended yet: it may still hold memory */
 };
 
 /* What it waits for. */
 enum guest_wait { WAITS_FOR_NOTHING, WAITS_FOR_ROOM, WAITS_FOR_DEFLATE, WAITS_FOR_RESET };
 
-/* How a wait ended: withdrawn is one whose guest has gone, or waits for something else, or for nothing, without an answer. */
+/* How a wait ended: withdrawn is one whose guest has gone, or waits for something else, or for
+ * nothing, without an answer. */
 enum wait_end { WAS_GRANTED, WAS_REFUSED, WAS_WITHDRAWN, WAIT_ENDS };
 
 /* A wait of a guest that ended. */
 struct ended_wait {
-    uint64_t number;            /* how many have; 0: none */
+    uint64_t number; /* how many have; 0: none */
     enum guest_wait what;
     enum wait_end how;
     double seconds;
@@ -37,64 +39,72 @@ struct ended_wait {
 
 /* What was agreed with a guest; all but the priority count pages. */
 struct guest_terms {
-    uint32_t least;             /* frames that always stay to it, as far as it has them; 0: none */
-    uint32_t most;              /* frames that it may hold at most, whatever the budget leaves; UINT32_MAX: all it has */
-    uint32_t priority;          /* those of a lower one give first */
-    bool strict;                /* its deflates and resets wait for their grant, and it waits for room as it comes */
-    uint32_t overhead;          /* frames that it may hold beside its loan: the VMM's own, and memory that isn't handed over */
-    struct guest_limit limit;   /* the kernel has it hold no more than its loan and its overhead */
+    uint32_t least; /* frames that always stay to it, as far as it has them; 0: none */
+    uint32_t most;  /* frames that it may hold at most, whatever the budget leaves; UINT32_MAX: all
+                       it has */
+    uint32_t priority; /* those of a lower one give first */
+    bool strict;       /* its deflates and resets wait for their grant, and it waits for room as it
+                   * comes */
+    uint32_t overhead; /* frames that it may hold beside its loan: the VMM's own, and memory that
+                          isn't handed over */
+    struct guest_limit limit; /* the kernel has it hold no more than its loan and its overhead */
 };
 
 /* The overhead of a guest of whom nothing was said. */
 enum { USUAL_OVERHEAD = 64 * 256 };
 
-/* One guest. Pages are of 4096 bytes; seconds have fractions, and are 0 where there is nothing to count. */
+/* One guest. Pages are of 4096 bytes; seconds have fractions, and are 0 where there is nothing to
+ * count. */
 struct guest_view {
-    const char *name;           /* until the next call that adds or removes a guest */
-    const char *path;           /* of the socket where its client comes */
-    pid_t process;              /* that serves it; 0: none, or none that has reported */
-    const char *version;        /* of its process, as that one says: letters, digits, dots and signs; empty where it says none */
+    const char *name;    /* until the next call that adds or removes a guest */
+    const char *path;    /* of the socket where its client comes */
+    pid_t process;       /* that serves it; 0: none, or none that has reported */
+    const char *version; /* of its process, as that one says: letters, digits, dots and signs; empty
+                            where it says none */
     enum guest_state state;
     struct guest_terms terms;
-    uint32_t pages;             /* of its memory */
-    uint64_t held_kib;          /* what its files have in blocks on the host */
-    uint32_t loan;              /* frames that are lent to it */
-    uint32_t excess;            /* frames that it holds above its loan */
-    uint32_t asked;             /* frames for which it waits */
-    uint64_t granted;           /* frames that were lent to it since it came, as it asked for them or was told to take them */
-    uint64_t limit;             /* frames that its limit was written to last; 0: it wasn't yet */
-    uint64_t limit_failures;    /* how often its limit couldn't be written */
+    uint32_t pages;    /* of its memory */
+    uint64_t held_kib; /* what its files have in blocks on the host */
+    uint32_t loan;     /* frames that are lent to it */
+    uint32_t excess;   /* frames that it holds above its loan */
+    uint32_t asked;    /* frames for which it waits */
+    uint64_t granted; /* frames that were lent to it since it came, as it asked for them or was told
+                         to take them */
+    uint64_t limit;   /* frames that its limit was written to last; 0: it wasn't yet */
+    uint64_t limit_failures; /* how often its limit couldn't be written */
     uint32_t target, ballooned, actual;
-    uint32_t free, available;   /* as it told them last; 0 where it didn't */
-    uint32_t spare;             /* what it can spare by these numbers, what is ballooned included */
-    bool answers;               /* its statistics have come within three periods */
-    bool reports;               /* its process has answered within three periods; true where there is none */
-    bool cooperates;            /* it hasn't taken pages unasked since it came */
+    uint32_t free, available; /* as it told them last; 0 where it didn't */
+    uint32_t spare;           /* what it can spare by these numbers, what is ballooned included */
+    bool answers;             /* its statistics have come within three periods */
+    bool reports;    /* its process has answered within three periods; true where there is none */
+    bool cooperates; /* it hasn't taken pages unasked since it came */
     enum guest_wait waits_for;
-    double waits;               /* seconds, for that */
-    struct ended_wait ended;    /* its last wait that ended */
-    double silent;              /* seconds since its last statistics */
-    double process_silent;      /* seconds since its process answered last */
-    uint64_t inflated, deflated, reported, taken, statistics, told, discarded, skipped, chains, kicks;   /* see counters.h */
-    uint64_t clients;           /* how many have come to its socket */
-    uint64_t lost;              /* messages that its process or the lender didn't read in time */
+    double waits;            /* seconds, for that */
+    struct ended_wait ended; /* its last wait that ended */
+    double silent;           /* seconds since its last statistics */
+    double process_silent;   /* seconds since its process answered last */
+    uint64_t inflated, deflated, reported, taken, statistics, told, discarded, skipped, chains,
+        kicks;        /* see counters.h */
+    uint64_t clients; /* how many have come to its socket */
+    uint64_t lost;    /* messages that its process or the lender didn't read in time */
 };
 
 /* All of them together. */
 struct host_view {
     const char *folder;
-    unsigned guests;            /* how many seats there are, taken or not */
-    uint32_t budget, floor, step;   /* pages; `step`: a guest's pages divided by it, in a second */
-    uint64_t held_kib, lent;    /* lent: frames of all loans together */
-    uint64_t short_by;          /* pages by which the guests can't give what is missing */
-    unsigned waiting, silent, uncooperative;    /* guests */
-    bool strict;                /* of a guest that comes without terms of its own */
-    int64_t period;             /* milliseconds */
+    unsigned guests;              /* how many seats there are, taken or not */
+    uint32_t budget, floor, step; /* pages; `step`: a guest's pages divided by it, in a second */
+    uint64_t held_kib, lent;      /* lent: frames of all loans together */
+    uint64_t short_by;            /* pages by which the guests can't give what is missing */
+    unsigned waiting, silent, uncooperative; /* guests */
+    bool strict;                             /* of a guest that comes without terms of its own */
+    int64_t period;                          /* milliseconds */
     uint64_t looks, above, peak_kib, decisions, changed, shorts, admitted, refused, gone;
-    uint64_t dropped;           /* lines of words or answers that nobody read in time */
+    uint64_t dropped; /* lines of words or answers that nobody read in time */
 };
 
-/* What there is; `number` is below guests. A guest's name finds its number: -1 where nobody has it. */
+/* What there is; `number` is below guests. A guest's name finds its number: -1 where nobody has
+  * it. */
 void host_see(const struct host *host, struct host_view *view);
 void host_see_guest(const struct host *host, unsigned number, struct guest_view *view);
 int host_find(const struct host *host, const char *name);
@@ -102,19 +112,22 @@ int host_find(const struct host *host, const char *name);
 /* The terms of a guest of whom nothing was said. */
 struct guest_terms host_usual_terms(const struct host *host);
 
-/* What may be changed: NULL, or why it wasn't, in words for one line. Numbers are pages. Each is looked at anew at once. */
+/* What may be changed: NULL, or why it wasn't, in words for one line. Numbers are pages. Each is
+ * looked at anew at once. */
 const char *host_set_budget(struct host *host, uint32_t pages);
 const char *host_set_floor(struct host *host, uint32_t pages);
 const char *host_add(struct host *host, const char *name, const struct guest_terms *terms);
 const char *host_remove(struct host *host, const char *name);
 const char *host_set_terms(struct host *host, const char *name, const struct guest_terms *terms);
 /* Why a guest of this name, which there may be, can't have these terms; NULL: it can. */
-const char *host_refuses(const struct host *host, const char *name, const struct guest_terms *terms);
+const char *host_refuses(const struct host *host, const char *name,
+                         const struct guest_terms *terms);
 /* A target by hand: it stays while it serves. */
 const char *host_set_target(struct host *host, const char *name, uint32_t pages);
 
-/* An upgrade: the lender ends this turn as the program that is there now, where that runs; and a guest's process is to go on as the one that is
- * there now, which its next report shows. One that waits for pages isn't asked in vain: it has to be asked again. */
+/* An upgrade: the lender ends this turn as the program that is there now, where that runs; and a
+ * guest's process is to go on as the one that is there now, which its next report shows. One that
+ * waits for pages isn't asked in vain: it has to be asked again. */
 const char *host_upgrade(struct host *host);
 const char *host_renew(struct host *host, const char *name);
 

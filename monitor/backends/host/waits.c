@@ -1,4 +1,5 @@
-/* What a guest's process waits for, and how its waits end: by what the lender has answered to the number of each. */
+/* What a guest's process waits for, and how its waits end: by what the lender has answered to the
+ * number of each. */
 #include "host.h"
 #include "measures.h"
 
@@ -27,7 +28,8 @@ void seat_ends_wait(struct seat *seat)
     if (seat->waits_for == WAITS_FOR_NOTHING)
         return;
     double seconds = (double)(loop_now() - seat->waits_since) / 1000;
-    seat->ended = (struct ended_wait){seat->ended.number + 1, seat->waits_for, end_of_wait(seat), seconds};
+    seat->ended =
+        (struct ended_wait){seat->ended.number + 1, seat->waits_for, end_of_wait(seat), seconds};
     seat->waits_for = WAITS_FOR_NOTHING;
     measure_wait(seat->ended.how, seconds);
 }

@@ -63,7 +63,10 @@ static void wait_for_all(struct loop *loop)
     for (unsigned i = 0; i < loop->part_count; i++)
         loop->parts[i].waits(loop->parts[i].context, loop);
     int64_t left = loop->until - loop_now();
-    loop->came = poll_some(loop->files, loop->count, left > INT_MAX ? -1 : left > 0 ? (int)left : 0);
+    loop->came = poll_some(loop->files, loop->count,
+                           left > INT_MAX ? -1
+                           : left > 0     ? (int)left
+                                          : 0);
     loop->woke_at = loop_seconds();
     loop->processor_at = loop_processor_seconds();
 }

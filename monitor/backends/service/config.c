@@ -12,7 +12,8 @@
 #include <stdlib.h>
 #include <string.h>
 
-/* Bytes of a line with its end, as the parser reads it; keys of a file that are remembered, so that none is said twice. */
+/* Bytes of a line with its end, as the parser reads it; keys of a file that are remembered, so that
+ * none is said twice. */
 enum { MOST_LINE = 190, MOST_SAID = 512 };
 
 /* A file that is being read. */
@@ -20,13 +21,16 @@ struct reader {
     const char *path;
     FILE *file;
     struct config *config;
-    unsigned line;              /* of the last line that was read */
+    unsigned line; /* of the last line that was read */
     bool faulty;
     unsigned count;
-    struct { const void *at; } said[MOST_SAID];
+    struct {
+        const void *at;
+    } said[MOST_SAID];
 };
 
-/* One key: where it belongs, what it holds, and where that goes in a configuration or in a guest of it. */
+/* One key: where it belongs, what it holds, and where that goes in a configuration or in a guest of
+ * it. */
 struct key {
     const char *section, *name;
     enum word_kind kind;
@@ -60,7 +64,8 @@ static const struct key guest_keys[] = {
 static bool fault(struct reader *reader, const char *key, const char *words)
 {
     reader->faulty = true;
-    return say_fault("%s: line %u: %s%s%s", reader->path, reader->line, key, *key ? ": " : "", words);
+    return say_fault("%s: line %u: %s%s%s", reader->path, reader->line, key, *key ? ": " : "",
+                     words);
 }
 
 /* The guest of a section `guest NAME`, which may be new; NULL, which is said, where it is none. */
@@ -101,7 +106,8 @@ static bool keep(struct reader *reader, const struct key *key, void *whole, cons
     return !wanted || fault(reader, key->name, wanted);
 }
 
-static const struct key *key_of(const struct key *table, size_t count, const char *section, const char *name)
+static const struct key *key_of(const struct key *table, size_t count, const char *section,
+                                const char *name)
 {
     for (size_t i = 0; i < count; i++)
         if (!strcmp(table[i].section, section) && !strcmp(table[i].name, name))
@@ -116,9 +122,11 @@ static int take(void *context, const char *section, const char *name, const char
 {
     struct reader *reader = context;
     bool of_guest = !strncmp(section, "guest ", strlen("guest "));
-    const struct key *key = of_guest ? key_of(guest_keys, COUNT(guest_keys), "guest", name) : key_of(keys, COUNT(keys), section, name);
+    const struct key *key = of_guest ? key_of(guest_keys, COUNT(guest_keys), "guest", name)
+                                     : key_of(keys, COUNT(keys), section, name);
     if (!key) {
-        fault(reader, name, *section ? "this section has no such key" : "a key comes after its section");
+        fault(reader, name,
+              *section ? "this section has no such key" : "a key comes after its section");
         return 1;
     }
     struct config_guest *guest = of_guest ? guest_of(reader, section) : NULL;
@@ -139,7 +147,8 @@ static bool is_section(const char *line)
     return false;
 }
 
-/* Takes note of a section's first line: the parser hands over keys alone, and a guest may have none. */
+/* Takes note of a section's first line: the parser hands over keys alone, and a guest may have
+ * none. */
 static void take_section(struct reader *reader, const char *line)
 {
     char name[MOST_LINE];
@@ -149,14 +158,16 @@ static void take_section(struct reader *reader, const char *line)
         guest_of(reader, name);
 }
 
-/* The next line for the parser, which doesn't count them itself. One that it can't take is a fault, and empty. */
+/* The next line for the parser, which doesn't count them itself. One that it can't take is a fault,
+ * and empty. */
 static char *next_line(char *bytes, int room, void *context)
 {
     struct reader *reader = context;
     char *line = NULL;
     size_t size = 0;
     ssize_t length = getline(&line, &size, reader->file);
-    bool whole = length >= 0 && length < room && length < MOST_LINE && strlen(line) == (size_t)length;
+    bool whole =
+        length >= 0 && length < room && length < MOST_LINE && strlen(line) == (size_t)length;
     reader->line++;
     if (length >= 0 && !whole)
         fault(reader, "", "a line has 189 bytes at most, and none of them is 0");
@@ -192,8 +203,12 @@ static void check_guests(struct reader *reader)
 
 struct config config_empty(void)
 {
-    return (struct config){.budget = UINT32_MAX, .floor = UINT32_MAX, .lines = UINT32_MAX, .level = UINT32_MAX,
-                           .fixed.sockets = {[MAY_CHANGE] = {.mode = UINT32_MAX}, [MAY_LOOK] = {.mode = UINT32_MAX}}};
+    return (struct config){
+        .budget = UINT32_MAX,
+        .floor = UINT32_MAX,
+        .lines = UINT32_MAX,
+        .level = UINT32_MAX,
+        .fixed.sockets = {[MAY_CHANGE] = {.mode = UINT32_MAX}, [MAY_LOOK] = {.mode = UINT32_MAX}}};
 }
 
 bool config_read(const char *path, struct config *config)
@@ -215,7 +230,7 @@ bool config_read(const char *path, struct config *config)
 /* Whether what a key says stays as long as the host runs. */
 static bool is_fixed(const struct key *key)
 {
-    return key->at - offsetof(struct config, fixed) < sizeof ((struct config *)NULL)->fixed;
+    return key->at - offsetof(struct config, fixed) < sizeof((struct config *)NULL)->fixed;
 }
 
 /* Whether two configurations say the same by a key. */
@@ -226,7 +241,8 @@ static bool is_same(const struct key *key, const struct config *old, const struc
     return is_text ? !strcmp(was, is) : !memcmp(was, is, sizeof(uint32_t));
 }
 
-bool config_stays(const struct config *old, const struct config *new, const char **section, const char **key)
+bool config_stays(const struct config *old, const struct config *new, const char **section,
+                  const char **key)
 {
     for (size_t i = 0; i < COUNT(keys); i++) {
         if (!is_fixed(&keys[i]) || is_same(&keys[i], old, new))

@@ -1,4 +1,5 @@
-/* The configuration file of a host, in INI's format: what it says, and by line and key what it says wrongly. */
+/* The configuration file of a host, in INI's format: what it says, and by line and key what it says
+ * wrongly. */
 #ifndef CONFIG_H
 #define CONFIG_H
 #include "../control/control.h"
@@ -11,27 +12,28 @@ enum { MOST_CONFIG_GUESTS = 64, MOST_CONFIG_NAME = 32, MOST_CONFIG_WORD = 128 };
 struct config_guest {
     char name[MOST_CONFIG_NAME];
     struct guest_terms terms;
-    bool says_strict;           /* else it is as the host's guests are */
+    bool says_strict; /* else it is as the host's guests are */
 };
 
 /* A control socket. */
 struct config_socket {
-    char path[MOST_CONFIG_WORD], group[MOST_CONFIG_WORD];       /* empty: not said */
-    uint32_t mode;                      /* UINT32_MAX: not said */
+    char path[MOST_CONFIG_WORD], group[MOST_CONFIG_WORD]; /* empty: not said */
+    uint32_t mode;                                        /* UINT32_MAX: not said */
 };
 
 /* What stays as long as the host runs. */
 struct config_fixed {
-    char folder[MOST_CONFIG_WORD];      /* empty: not said */
+    char folder[MOST_CONFIG_WORD]; /* empty: not said */
     struct config_socket sockets[CONTROL_SOCKETS];
-    uint32_t period;                    /* milliseconds; 0: not said */
+    uint32_t period; /* milliseconds; 0: not said */
 };
 
 struct config {
     struct config_fixed fixed;
-    uint32_t budget, floor;     /* pages; UINT32_MAX: not said */
-    uint32_t lines;             /* lines of a guest's in a second; UINT32_MAX: not said */
-    uint32_t level;             /* the least severe lines that are said, as syslog(3) numbers them; UINT32_MAX: not said */
+    uint32_t budget, floor; /* pages; UINT32_MAX: not said */
+    uint32_t lines;         /* lines of a guest's in a second; UINT32_MAX: not said */
+    uint32_t level; /* the least severe lines that are said, as syslog(3) numbers them; UINT32_MAX:
+                       not said */
     unsigned count;
     struct config_guest guests[MOST_CONFIG_GUESTS];
 };
@@ -39,12 +41,14 @@ struct config {
 /* A configuration that says nothing. */
 struct config config_empty(void);
 
-/* Reads a file into a configuration; false where it can't be read or says something wrong, and each fault is a line
- * of say_fault(): the file, the line, the key and what should be there. */
+/* Reads a file into a configuration; false where it can't be read or says something wrong, and each
+ * fault is a line of say_fault(): the file, the line, the key and what should be there. */
 bool config_read(const char *path, struct config *config);
 
-/* Whether two configurations agree in what stays; else the first key that differs is in `*key`, with its section. */
-bool config_stays(const struct config *old, const struct config *new, const char **section, const char **key);
+/* Whether two configurations agree in what stays; else the first key that differs is in `*key`,
+ * with its section. */
+bool config_stays(const struct config *old, const struct config *new, const char **section,
+                  const char **key);
 
 /* The number of a level's word (error, warning, notice, info, debug); false where it is none. */
 bool config_level(const char *word, uint32_t *level);

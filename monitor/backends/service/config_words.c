@@ -16,7 +16,8 @@
 
 bool word_is_name(const char *name)
 {
-    static const char letters[] = "abcdefghijklmnopqrstuvwxyzABCDEFGHIJKLMNOPQRSTUVWXYZ0123456789-_";
+    static const char letters[] =
+        "abcdefghijklmnopqrstuvwxyzABCDEFGHIJKLMNOPQRSTUVWXYZ0123456789-_";
     size_t length = strlen(name);
     return length > 0 && length < MOST_CONFIG_NAME && strspn(name, letters) == length;
 }
@@ -27,7 +28,8 @@ static bool read_size(const char *word, uint32_t least, uint32_t *pages)
     static const char units[] = "MGT";
     char digits[MOST_CONFIG_WORD];
     size_t length = strlen(word);
-    const char *unit = length > 0 && length < sizeof digits ? strchr(units, word[length - 1]) : NULL;
+    const char *unit =
+        length > 0 && length < sizeof digits ? strchr(units, word[length - 1]) : NULL;
     uint64_t number, each = UINT64_C(1) << (8 + 10 * (unit ? unit - units : 0));
     if (!unit || !*unit)
         return false;
@@ -51,7 +53,8 @@ static bool read_between(const char *word, uint64_t least, uint64_t most, uint32
 static bool read_mode(const char *word, uint32_t *mode)
 {
     size_t length = strlen(word);
-    if (length < 3 || length > 4 || strspn(word, "01234567") != length || (length == 4 && word[0] != '0'))
+    if (length < 3 || length > 4 || strspn(word, "01234567") != length ||
+        (length == 4 && word[0] != '0'))
         return false;
     *mode = (uint32_t)strtoul(word, NULL, 8);
     return true;
@@ -88,17 +91,21 @@ const char *word_read(enum word_kind kind, const char *word, void *at)
 {
     switch (kind) {
     case WORD_PATH:
-        return read_text(word, word[0] == '/', at) ? NULL : "a path from / on, of 127 bytes at most";
+        return read_text(word, word[0] == '/', at) ? NULL
+                                                   : "a path from / on, of 127 bytes at most";
     case WORD_GROUP:
         return read_text(word, getgrnam(word) != NULL, at) ? NULL : "a group of this machine";
     case WORD_SIZE:
-        return read_size(word, 1, at) ? NULL : "a size of 1M or more: a number with M, G or T, under 16T";
+        return read_size(word, 1, at) ? NULL
+                                      : "a size of 1M or more: a number with M, G or T, under 16T";
     case WORD_SIZE_OR_NONE:
         return read_size(word, 0, at) ? NULL : "a size: a number with M, G or T, under 16T";
     case WORD_NUMBER:
         return read_between(word, 0, UINT32_MAX - 1, at) ? NULL : "a number up to 4294967294";
     case WORD_MILLISECONDS:
-        return read_between(word, LEAST_PERIOD, MOST_PERIOD, at) ? NULL : MILLISECONDS(LEAST_PERIOD, MOST_PERIOD);
+        return read_between(word, LEAST_PERIOD, MOST_PERIOD, at)
+                   ? NULL
+                   : MILLISECONDS(LEAST_PERIOD, MOST_PERIOD);
     case WORD_MODE:
         return read_mode(word, at) ? NULL : "an octal mode, as 0660";
     case WORD_LEVEL:

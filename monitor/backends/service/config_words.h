@@ -4,10 +4,20 @@
 #include <stdbool.h>
 #include <stdint.h>
 
-/* Each says what the word is, and what it is read into: WORD_PATH and WORD_GROUP into MOST_CONFIG_WORD bytes, WORD_BOOLEAN into a bool,
- * WORD_LIMIT into a struct guest_limit, the others into a uint32_t. Sizes are read as pages: a number of whole MiB with M, or of GiB or TiB with G or T. */
+/* Each says what the word is, and what it is read into: WORD_PATH and WORD_GROUP into
+ * MOST_CONFIG_WORD bytes, WORD_BOOLEAN into a bool, WORD_LIMIT into a struct guest_limit, the
+ * others into a uint32_t. Sizes are read as pages: a number of whole MiB with M, or of GiB or TiB
+ * with G or T. */
 enum word_kind {
-    WORD_PATH, WORD_GROUP, WORD_SIZE, WORD_SIZE_OR_NONE, WORD_NUMBER, WORD_MILLISECONDS, WORD_MODE, WORD_LEVEL, WORD_BOOLEAN,
+    WORD_PATH,
+    WORD_GROUP,
+    WORD_SIZE,
+    WORD_SIZE_OR_NONE,
+    WORD_NUMBER,
+    WORD_MILLISECONDS,
+    WORD_MODE,
+    WORD_LEVEL,
+    WORD_BOOLEAN,
     WORD_LIMIT
 };
 

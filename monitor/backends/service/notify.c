@@ -56,7 +56,8 @@ void notify_hand_on(const int *files, const char *const *names, unsigned count)
     int moved[MOST_HANDED_ON];
     for (unsigned i = 0; i < count && i < MOST_HANDED_ON; i++) {
         moved[i] = fcntl(files[i], F_DUPFD_CLOEXEC, SD_LISTEN_FDS_START + MOST_HANDED_ON);
-        snprintf(words[0] + strlen(words[0]), sizeof words[0] - strlen(words[0]), "%s%s", i > 0 ? ":" : "", names[i]);
+        snprintf(words[0] + strlen(words[0]), sizeof words[0] - strlen(words[0]), "%s%s",
+                 i > 0 ? ":" : "", names[i]);
     }
     for (unsigned i = 0; i < count && i < MOST_HANDED_ON; i++)
         dup2(moved[i], SD_LISTEN_FDS_START + (int)i);
@@ -72,7 +73,8 @@ int notify_socket(const char *name)
     char **names = NULL;
     int count = sd_listen_fds_with_names(0, &names), found = -1;
     for (int i = 0; i < count; i++) {
-        if (found < 0 && !strcmp(names[i], name) && sd_is_socket(SD_LISTEN_FDS_START + i, AF_UNIX, SOCK_STREAM, 1) > 0)
+        if (found < 0 && !strcmp(names[i], name) &&
+            sd_is_socket(SD_LISTEN_FDS_START + i, AF_UNIX, SOCK_STREAM, 1) > 0)
             found = SD_LISTEN_FDS_START + i;
         free(names[i]);
     }

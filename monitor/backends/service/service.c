@@ -17,14 +17,16 @@
 #include <string.h>
 #include <unistd.h>
 
-/* Milliseconds between two looks for what followers of events are told, and after a look that had no time for all; and between two words for the service manager's status at most. */
+/* Milliseconds between two looks for what followers of events are told, and after a look that had
+ * no time for all; and between two words for the service manager's status at most. */
 enum { LOOK_EVERY = 100, GO_ON_AFTER = 5, STATUS_EVERY = 5000 };
 
 void service_defaults(struct service *service)
 {
     *service = (struct service){.hangup = -1, .config = config_empty()};
     for (unsigned i = 0; i < CONTROL_SOCKETS; i++)
-        service->sockets[i] = (struct control_options){.path = service->paths[i], .mode = 0660, .group = (gid_t)-1, .listener = -1};
+        service->sockets[i] = (struct control_options){
+            .path = service->paths[i], .mode = 0660, .group = (gid_t)-1, .listener = -1};
 }
 
 /* The number of a group; false where there is none of that name. */
@@ -37,7 +39,8 @@ static bool group_of(const char *name, gid_t *group)
 }
 
 /* What the file says of a control socket. */
-static void take_socket(const struct config_socket *its, struct control_options *options, char *path)
+static void take_socket(const struct config_socket *its, struct control_options *options,
+                        char *path)
 {
     if (its->path[0])
         strcpy(path, its->path);
@@ -103,15 +106,17 @@ static struct guest_terms terms_of(const struct config_guest *guest, const struc
     return terms;
 }
 
-/* Adds the guests of the file that the host hasn't, and gives the others their terms. A guest that the file doesn't name stays. */
+/* Adds the guests of the file that the host hasn't, and gives the others their terms. A guest that
+ * the file doesn't name stays. */
 static bool apply_guests(const char *file, const struct config *config, struct host *host)
 {
     bool good = true;
     for (unsigned i = 0; i < config->count; i++) {
         const struct config_guest *guest = &config->guests[i];
         struct guest_terms terms = terms_of(guest, host);
-        const char *fault = host_find(host, guest->name) < 0 ? host_add(host, guest->name, &terms)
-                                                             : host_set_terms(host, guest->name, &terms);
+        const char *fault = host_find(host, guest->name) < 0
+                                ? host_add(host, guest->name, &terms)
+                                : host_set_terms(host, guest->name, &terms);
         if (fault)
             say_fault("%s: guest %s: %s", file, guest->name, fault);
         good &= !fault;
@@ -142,7 +147,8 @@ static void reload(struct service *service, struct host *host)
     if (!config_read(service->file, &config) || !guests_fit(service->file, &config, host))
         say_fault("%s: the old configuration stays", service->file);
     else if (!config_stays(&service->config, &config, &section, &key))
-        say_fault("%s: %s of [%s] can't change while the host runs: the old configuration stays", service->file, key, section);
+        say_fault("%s: %s of [%s] can't change while the host runs: the old configuration stays",
+                  service->file, key, section);
     else {
         service->config = config;
         take_config(service);
@@ -162,13 +168,14 @@ static void tell_manager(struct service *service, const struct host *host)
     char status[128];
     struct host_view view;
     host_see(host, &view);
-    snprintf(status, sizeof status, "%u guests, %" PRIu64 " of %" PRIu32 " MiB held, %u wait", view.guests, view.held_kib / 1024,
-             view.budget / 256, view.waiting);
+    snprintf(status, sizeof status, "%u guests, %" PRIu64 " of %" PRIu32 " MiB held, %u wait",
+             view.guests, view.held_kib / 1024, view.budget / 256, view.waiting);
     notify_lives(status);
     service->word = loop_now() + service->every;
 }
 
-/* A look that is due is before what clients ask for, however late this turn is: so followers hear of what was before it. */
+/* A look that is due is before what clients ask for, however late this turn is: so followers hear
+ * of what was before it. */
 static void look(struct service *service)
 {
     if (loop_now() < service->look)
@@ -214,7 +221,8 @@ static int turn(void *context)
     return LOOP_GOES_ON;
 }
 
-/* Where a control socket is, unless that was said: in the host's folder, by its word; and whether a service manager has kept it. */
+/* Where a control socket is, unless that was said: in the host's folder, by its word; and whether a
+ * service manager has kept it. */
 static bool find_socket(struct service *service, enum control_rights rights, const char *folder)
 {
     const char *word = control_socket_word(rights);
@@ -232,13 +240,16 @@ bool service_begin(struct service *service, struct host *host, const char *folde
         if (!find_socket(service, i, folder))
             return false;
     service->hangup = service->file ? process_reload() : -1;
-    if ((service->file && service->hangup < 0) || !control_open(&service->control, service->sockets)
-        || !apply_guests(service->file, &service->config, host))
+    if ((service->file && service->hangup < 0) ||
+        !control_open(&service->control, service->sockets) ||
+        !apply_guests(service->file, &service->config, host))
         return false;
     for (unsigned i = 0; i < CONTROL_SOCKETS; i++)
         notify_keep(control_socket_word(i), service->control.sockets[i].listener);
     int64_t wanted = notify_every();
-    service->every = wanted > 0 && wanted < STATUS_EVERY ? wanted : getenv("NOTIFY_SOCKET") ? STATUS_EVERY : 0;
+    service->every = wanted > 0 && wanted < STATUS_EVERY ? wanted
+                     : getenv("NOTIFY_SOCKET")           ? STATUS_EVERY
+                                                         : 0;
     service->host = host;
     host->service = (struct loop_part){service, waits, turn};
     notify_ready();

@@ -6,8 +6,8 @@
 
 enum { ARENA = 16 * 4096 };
 
-extern uint64_t answers[VB_BAD_ARGUMENT + 1];   /* how often each code came */
-extern uint64_t went;                           /* how often large pages did */
+extern uint64_t answers[VB_BAD_ARGUMENT + 1]; /* how often each code came */
+extern uint64_t went;                         /* how often large pages did */
 
 /* At random. Each of three lists ends where nothing is mapped. */
 uint64_t any(void);

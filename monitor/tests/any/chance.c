@@ -12,13 +12,20 @@ uint64_t any(void)
     return state;
 }
 
-bool once_in(uint32_t times) { return any() % times == 0; }
+bool once_in(uint32_t times)
+{
+    return any() % times == 0;
+}
 
 /* A number at a bound, or any. */
 uint64_t any_number(void)
 {
-    const uint64_t bounds[] = { 0, 1, 2, 3, 4, 8, 15, 16, 255, 256, 257, 512, 1023, 1024, 1025, 2048, 4095, 4096, 8192, 65535, 65536, 1ull << 32,
-                                UINT32_MAX, 1ull << 43, (1ull << 44) + 4096, UINT64_MAX };
+    const uint64_t bounds[] = {0,         1,          2,          3,          4,
+                               8,         15,         16,         255,        256,
+                               257,       512,        1023,       1024,       1025,
+                               2048,      4095,       4096,       8192,       65535,
+                               65536,     1ull << 32, UINT32_MAX, 1ull << 43, (1ull << 44) + 4096,
+                               UINT64_MAX};
     uint64_t number = once_in(4) ? any() : bounds[any() % (sizeof bounds / 8)];
     return once_in(4) ? number + any() % 3 - 1 : number;
 }
@@ -40,17 +47,19 @@ uint8_t *any_bytes(int arena, size_t count)
 
 static VbQueue any_queue(void)
 {
-    VbQueue queue = { 0x10000, 0x12000, 0x14000, 8, (uint16_t)any(), (uint16_t)any() };
+    VbQueue queue = {0x10000, 0x12000, 0x14000, 8, (uint16_t)any(), (uint16_t)any()};
     queue.size = (uint16_t)(once_in(4) ? any_number() : 2u << any() % 8);
     if (once_in(8))
-        queue = (VbQueue){ any_number(), any_number(), any_number(), queue.size, queue.next_avail, queue.next_used };
+        queue = (VbQueue){any_number(), any_number(),     any_number(),
+                          queue.size,   queue.next_avail, queue.next_used};
     return queue;
 }
 
 VbDevice any_device(void)
 {
-    VbDevice device = { .settings = { .memory_end = 16ull << 20 } };
-    device.settings.offered = LINUX_FEATURES | (once_in(2) ? VB_F_PAGE_POISON : 0) | (once_in(4) ? 0 : VB_F_FREE_PAGE_HINT);
+    VbDevice device = {.settings = {.memory_end = 16ull << 20}};
+    device.settings.offered = LINUX_FEATURES | (once_in(2) ? VB_F_PAGE_POISON : 0) |
+                              (once_in(4) ? 0 : VB_F_FREE_PAGE_HINT);
     device.settings.reserved_pages = once_in(2) ? 0 : (uint32_t)any_number();
     device.settings.skips_bad_pages = once_in(2);
     device.settings.discards_hints = once_in(2);
@@ -58,7 +67,9 @@ VbDevice any_device(void)
         device.settings.memory_end = any_number();
     if (once_in(16))
         device.settings.offered = any();
-    device.features = once_in(8) ? any() : once_in(4) ? VERSION_1 | any() % 64 : LINUX_FEATURES | VB_F_FREE_PAGE_HINT;
+    device.features = once_in(8)   ? any()
+                      : once_in(4) ? VERSION_1 | any() % 64
+                                   : LINUX_FEATURES | VB_F_FREE_PAGE_HINT;
     device.target = (uint32_t)any();
     device.actual = (uint32_t)any();
     device.poison = once_in(2) ? 0 : (uint32_t)any_number();
@@ -68,7 +79,7 @@ VbDevice any_device(void)
     device.statistics = any_queue();
     device.hint = any_queue();
     device.report = any_queue();
-    device.round = (VbRound){ (uint32_t)any_number(), (uint32_t)any_number(), once_in(2) };
+    device.round = (VbRound){(uint32_t)any_number(), (uint32_t)any_number(), once_in(2)};
     return device;
 }
 
@@ -78,9 +89,10 @@ VbRegion *any_regions(size_t *count)
     *count = any() % 5;
     VbRegion *regions = list_of(0, *count * sizeof *regions);
     for (size_t i = 0; i < *count; i++) {
-        regions[i] = (VbRegion){ i * (6 << 20), (1 + any() % 6) << 20, once_in(2) ? 0 : any() % 64 * 4096 };
+        regions[i] =
+            (VbRegion){i * (6 << 20), (1 + any() % 6) << 20, once_in(2) ? 0 : any() % 64 * 4096};
         if (once_in(16))
-            regions[i] = (VbRegion){ any_number(), any_number(), any_number() };
+            regions[i] = (VbRegion){any_number(), any_number(), any_number()};
     }
     return regions;
 }
@@ -89,7 +101,8 @@ VbRegion *any_regions(size_t *count)
 void make_arenas(void)
 {
     for (int i = 0; i < 3; i++) {
-        uint8_t *all = mmap(NULL, ARENA + 4096, PROT_READ | PROT_WRITE, MAP_PRIVATE | MAP_ANONYMOUS, -1, 0);
+        uint8_t *all =
+            mmap(NULL, ARENA + 4096, PROT_READ | PROT_WRITE, MAP_PRIVATE | MAP_ANONYMOUS, -1, 0);
         EXPECT(all != MAP_FAILED && mprotect(all + ARENA, 4096, PROT_NONE) == 0);
         arena_ends[i] = all + ARENA;
     }

@@ -6,14 +6,18 @@ void call_driver(void)
     VbDevice before = any_device(), device = before, twin = before;
     uint32_t number = (uint32_t)any_number(), kind = (uint32_t)any_number();
     uint16_t size = (uint16_t)any_number();
-    uint64_t table = any_number(), avail = any_number(), used = any_number(), features = once_in(2) ? any() : VERSION_1;
+    uint64_t table = any_number(), avail = any_number(), used = any_number(),
+             features = once_in(2) ? any() : VERSION_1;
     uint8_t status = (uint8_t)any_number();
     device.status = twin.status = once_in(2) ? (uint8_t)any_number() : 3;
     EXPECT(vb_kind(&device, number) == reference_kind(&twin, number));
-    EXPECT(vb_place(&device, kind, table, avail, used, size) == reference_place(&twin, kind, table, avail, used, size));
-    EXPECT(vb_negotiate(&device, features) == reference_negotiate(&twin, features) && same(&device, &twin));
+    EXPECT(vb_place(&device, kind, table, avail, used, size) ==
+           reference_place(&twin, kind, table, avail, used, size));
+    EXPECT(vb_negotiate(&device, features) == reference_negotiate(&twin, features) &&
+           same(&device, &twin));
     device.settings.needs_must_tell = twin.settings.needs_must_tell = once_in(2);
-    EXPECT(vb_write_status(&device, status) == reference_write_status(&twin, status) && same(&device, &twin));
+    EXPECT(vb_write_status(&device, status) == reference_write_status(&twin, status) &&
+           same(&device, &twin));
     vb_set_target(&device, kind);
     EXPECT(device.target == kind && (device.target = twin.target, same(&device, &twin)));
 }
@@ -41,7 +45,8 @@ void call_config(void)
     uint32_t offset = once_in(4) ? (uint32_t)any_number() : any() % 20;
     size_t length = once_in(2) ? any() % 32 : once_in(2) ? 16 : 4;
     uint8_t *bytes = any_bytes(0, length), *out = list_of(2, length), why[32];
-    EXPECT(vb_write_config(&device, offset, bytes, length) == reference_write_config(&twin, offset, bytes, length));
+    EXPECT(vb_write_config(&device, offset, bytes, length) ==
+           reference_write_config(&twin, offset, bytes, length));
     EXPECT(same(&device, &twin) && vb_keeps_reports(&device) == reference_keeps_reports(&twin));
     vb_read_config(&device, offset, out, length);
     reference_read_config(&twin, offset, why, length);

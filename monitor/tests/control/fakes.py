@@ -21,7 +21,9 @@ class Fake:
         """Serves each client in a thread of its own."""
         try:
             while True:
-                threading.Thread(target=self.serve, args=self.listener.accept()[:1], daemon=True).start()
+                threading.Thread(
+                    target=self.serve, args=self.listener.accept()[:1], daemon=True
+                ).start()
         except OSError:
             pass
 

@@ -55,10 +55,18 @@ class Host:
     started = []
 
     def __init__(self, program, folder, *options, environment=None, files=()):
-        self.folder, self.control, self.shown = str(folder), f"{folder}/.control", f"{folder}/.status"
+        self.folder, self.control, self.shown = (
+            str(folder),
+            f"{folder}/.control",
+            f"{folder}/.status",
+        )
         self.log = open(f"{folder}/log", "ab+")
         self.process = subprocess.Popen(
-            [program, *options, "--step", "0"], stdin=subprocess.PIPE, stdout=subprocess.PIPE, stderr=self.log, pass_fds=files,
+            [program, *options, "--step", "0"],
+            stdin=subprocess.PIPE,
+            stdout=subprocess.PIPE,
+            stderr=self.log,
+            pass_fds=files,
             env={**os.environ, **(environment or {})},
         )
         self.lines = Lines(self.process.stdout, "the host")
@@ -119,7 +127,9 @@ class Answering(threading.Thread):
             while not self.ended.wait(0.02):
                 while select.select([self.client.own], [], [], 0)[0]:
                     # Another process that goes on may tell of what was used long ago.
-                    if self.client.told(PATIENCE) == STATISTICS and self.client.is_all_used(STATISTICS):
+                    if self.client.told(PATIENCE) == STATISTICS and self.client.is_all_used(
+                        STATISTICS
+                    ):
                         self.tell()
         except (OSError, TypeError, AssertionError):
             pass

@@ -8,7 +8,14 @@ import linux_kit
 
 
 # What a number of each type begins at: a multiple of a prime is added. Of those that are no more than guests or processes there are few.
-FIRST = {"uint64_t": 1 << 33, "int64_t": 1 << 34, "uint32_t": 1 << 31, "double": float(1 << 33), "unsigned": 1 << 20, "pid_t": 1 << 21}
+FIRST = {
+    "uint64_t": 1 << 33,
+    "int64_t": 1 << 34,
+    "uint32_t": 1 << 31,
+    "double": float(1 << 33),
+    "unsigned": 1 << 20,
+    "pid_t": 1 << 21,
+}
 PRIME = 104729
 PHASES, GUESTS = 2, 6
 
@@ -16,9 +23,20 @@ PHASES, GUESTS = 2, 6
 # end that the second doesn't have any longer.
 FLAGS = {"strict": 0b000111, "answers": 0b011001, "reports": 0b101010, "cooperates": 0b110101}
 STATES = ("ABSENT", "COMING", "WAITING", "STARTING", "READY", "LEAVING")
-WAITS = (("NOTHING", "ROOM"), ("ROOM", "DEFLATE"), ("DEFLATE", "RESET"), ("RESET", "NOTHING"), ("ROOM", "ROOM"), ("NOTHING", "NOTHING"))
+WAITS = (
+    ("NOTHING", "ROOM"),
+    ("ROOM", "DEFLATE"),
+    ("DEFLATE", "RESET"),
+    ("RESET", "NOTHING"),
+    ("ROOM", "ROOM"),
+    ("NOTHING", "NOTHING"),
+)
 ENDS = {1: "GRANTED", 2: "REFUSED", 3: "WITHDRAWN"}
-LIMITS = ({"kind": "LIMIT_NONE", "path": ""}, {"kind": "LIMIT_CGROUP", "path": "/a/b"}, {"kind": "LIMIT_TMPFS", "path": "/c"})
+LIMITS = (
+    {"kind": "LIMIT_NONE", "path": ""},
+    {"kind": "LIMIT_CGROUP", "path": "/a/b"},
+    {"kind": "LIMIT_TMPFS", "path": "/c"},
+)
 
 
 def members(header, struct):
@@ -48,35 +66,69 @@ class Made:
 
     def struct(self, header, struct, **given):
         """Returns the values of a struct's members, of which some are given."""
-        return {name: given[name] if name in given else self.value(kind, name) for name, kind in members(header, struct).items()}
+        return {
+            name: given[name] if name in given else self.value(kind, name)
+            for name, kind in members(header, struct).items()
+        }
 
     def guest(self, number, phase):
         """Returns a guest: in the second phase it has the state and the flags that the next one had."""
-        flags = {name: bool((bits >> (number + phase) % GUESTS) & 1) for name, bits in FLAGS.items()}
+        flags = {
+            name: bool((bits >> (number + phase) % GUESTS) & 1) for name, bits in FLAGS.items()
+        }
         strict = flags.pop("strict")
         most = {"most": (1 << 32) - 1} if number == 0 else {}
-        terms = self.struct("host/view.h", "guest_terms", strict=strict, limit=LIMITS[number % len(LIMITS)], **most)
-        ended = self.struct("host/view.h", "ended_wait", what=f"WAITS_FOR_{WAITS[number][0]}", how=f"WAS_{ENDS.get(number, 'GRANTED')}")
+        terms = self.struct(
+            "host/view.h", "guest_terms", strict=strict, limit=LIMITS[number % len(LIMITS)], **most
+        )
+        ended = self.struct(
+            "host/view.h",
+            "ended_wait",
+            what=f"WAITS_FOR_{WAITS[number][0]}",
+            how=f"WAS_{ENDS.get(number, 'GRANTED')}",
+        )
         ended["number"] = phase if number in ENDS else 0
-        state = {"state": f"GUEST_{STATES[(number + phase) % GUESTS]}", "waits_for": f"WAITS_FOR_{WAITS[number][phase]}"}
-        return self.struct("host/view.h", "guest_view", terms=terms, ended=ended, name=f"guest-{number}", **state, **flags)
+        state = {
+            "state": f"GUEST_{STATES[(number + phase) % GUESTS]}",
+            "waits_for": f"WAITS_FOR_{WAITS[number][phase]}",
+        }
+        return self.struct(
+            "host/view.h",
+            "guest_view",
+            terms=terms,
+            ended=ended,
+            name=f"guest-{number}",
+            **state,
+            **flags,
+        )
 
     def durations(self):
         """Returns counts and their sum."""
-        return {"counts": [self.value("uint64_t", "") for _ in range(8)], "sum": self.value("double", "")}
+        return {
+            "counts": [self.value("uint64_t", "") for _ in range(8)],
+            "sum": self.value("double", ""),
+        }
 
     def measures(self):
         """Returns what the host has measured."""
-        counts = {name: [self.value("uint64_t", "") for _ in range(many)] for name, many in (("gone", 4), ("ungranted", 3))}
+        counts = {
+            name: [self.value("uint64_t", "") for _ in range(many)]
+            for name, many in (("gone", 4), ("ungranted", 3))
+        }
         durations = {it: self.durations() for it in ("waits", "decisions", "turns", "processor")}
         return self.struct("host/measures.h", "measures", **counts, **durations)
 
     def decision(self, reason):
         """Returns a decision about two guests."""
         shares = [
-            self.struct("host/journal.h", "share", name=f"guest-{it}", bound="BY_LOAN", need=self.need()) for it in range(2)
+            self.struct(
+                "host/journal.h", "share", name=f"guest-{it}", bound="BY_LOAN", need=self.need()
+            )
+            for it in range(2)
         ]
-        return self.struct("host/journal.h", "decision", reason=reason, who="guest-1", count=2, shares=shares)
+        return self.struct(
+            "host/journal.h", "decision", reason=reason, who="guest-1", count=2, shares=shares
+        )
 
     def need(self):
         """Returns what a guest has and can spare (vb_lending.h)."""
@@ -101,7 +153,10 @@ class MadeHost:
 
     def __init__(self):
         made = Made()
-        self.hosts = [made.struct("host/view.h", "host_view", guests=GUESTS, strict=True) for _ in range(PHASES)]
+        self.hosts = [
+            made.struct("host/view.h", "host_view", guests=GUESTS, strict=True)
+            for _ in range(PHASES)
+        ]
         self.hosts[1]["decisions"] = self.hosts[0]["decisions"] + 1
         self.guests = [[made.guest(it, phase) for it in range(GUESTS)] for phase in range(PHASES)]
         self.decisions = [made.decision("BY_SPARE"), made.decision("BY_MISSING")]
@@ -113,8 +168,10 @@ class MadeHost:
         return "".join(
             f"static const struct {kind} {name} = {written(values)};\n"
             for kind, name, values in (
-                ("host_view", f"made_hosts[{PHASES}]", self.hosts), ("guest_view", f"made_guests[{PHASES}][{GUESTS}]", self.guests),
-                ("decision", "made_decisions[]", self.decisions), ("measures", "made_measures", self.measures),
+                ("host_view", f"made_hosts[{PHASES}]", self.hosts),
+                ("guest_view", f"made_guests[{PHASES}][{GUESTS}]", self.guests),
+                ("decision", "made_decisions[]", self.decisions),
+                ("measures", "made_measures", self.measures),
                 ("control_counters", "made_counters[]", self.counters),
             )
         )

@@ -12,25 +12,50 @@ from waiting import PATIENCE, patience_from_now
 def test_a_folder_that_is_not_utf_8_is_refused(program, folder):
     path = os.fsencode(folder) + b"/\xff"
     os.mkdir(path)
-    ran = subprocess.run([program, path, "--budget", "480"], stdin=subprocess.DEVNULL, capture_output=True, timeout=PATIENCE)
-    assert (ran.returncode, ran.stdout, ran.stderr) == (2, b"", b"the path of the folder isn't UTF-8\n")
+    ran = subprocess.run(
+        [program, path, "--budget", "480"],
+        stdin=subprocess.DEVNULL,
+        capture_output=True,
+        timeout=PATIENCE,
+    )
+    assert (ran.returncode, ran.stdout, ran.stderr) == (
+        2,
+        b"",
+        b"the path of the folder isn't UTF-8\n",
+    )
 
 
 @pytest.fixture
 def broken(wrong_program, folder):
     """A host that has a guest, whose state is called by a byte that isn't UTF-8."""
-    it = Host(wrong_program, folder, str(folder), "--budget", "480", environment={"CONTROL_WRONG": "no-utf-8"})
+    it = Host(
+        wrong_program,
+        folder,
+        str(folder),
+        "--budget",
+        "480",
+        environment={"CONTROL_WRONG": "no-utf-8"},
+    )
     it.lines.next(patience_from_now())
     yield it
     assert it.end() == 0, it.said()
 
 
-REQUESTS = ({"request": "status"}, {"request": "guest", "name": "a"}, {"request": "guest", "name": "a", "least": 0})
+REQUESTS = (
+    {"request": "status"},
+    {"request": "guest", "name": "a"},
+    {"request": "guest", "name": "a", "least": 0},
+)
 
 
 def test_an_answer_that_cannot_be_made_is_an_internal_error(broken):
     raw = Raw(broken.control)
-    refusal = {"version": 1, "id": 5, "ok": False, "error": {"code": "internal", "text": "the host couldn't make its answer"}}
+    refusal = {
+        "version": 1,
+        "id": 5,
+        "ok": False,
+        "error": {"code": "internal", "text": "the host couldn't make its answer"},
+    }
     assert raw.answer(say(request="add", name="a", id=5)) == refusal
     for fields in REQUESTS:
         assert raw.answer(say(id=5, **fields)) == refusal, fields

@@ -47,18 +47,58 @@ COMMANDS = (
     ("guest web-1", 0, "web-1: absent, at {folder}/web-1\n  memory            0 MiB\n", ""),
     ("guest web-2", 1, "", "bigvasta: name: no guest is named web-2\n"),
     ("guest web-1 target=4M", 1, "", "bigvasta: nobody is there\n"),
-    ("guest web-1 target", 2, "", "bigvasta: 'target' is none of least=, most=, priority=, strict=, overhead=, limit=, target=\n"),
-    ("guest web-1 size=4M", 2, "", "bigvasta: 'size=4M' is none of least=, most=, priority=, strict=, overhead=, limit=, target=\n"),
+    (
+        "guest web-1 target",
+        2,
+        "",
+        "bigvasta: 'target' is none of least=, most=, priority=, strict=, overhead=, limit=, target=\n",
+    ),
+    (
+        "guest web-1 size=4M",
+        2,
+        "",
+        "bigvasta: 'size=4M' is none of least=, most=, priority=, strict=, overhead=, limit=, target=\n",
+    ),
     ("guest web-1 target=1M target=2M", 2, "", "bigvasta: target= is said twice\n"),
-    ("guest web-1 target=4", 2, "", "bigvasta: target: '4' is no size: a number with K, M, G or T, in pages of 4K, such as 480M\n"),
-    ("guest web-1 priority=-1", 2, "", "bigvasta: priority: '-1' is no whole number up to 4294967295\n"),
+    (
+        "guest web-1 target=4",
+        2,
+        "",
+        "bigvasta: target: '4' is no size: a number with K, M, G or T, in pages of 4K, such as 480M\n",
+    ),
+    (
+        "guest web-1 priority=-1",
+        2,
+        "",
+        "bigvasta: priority: '-1' is no whole number up to 4294967295\n",
+    ),
     ("guest web-1 strict=true", 2, "", "bigvasta: strict: 'true' is neither yes nor no\n"),
-    ("guest web-1 limit=/x", 2, "", "bigvasta: limit: '/x' is none of cgroup:PATH, tmpfs:MOUNT and none\n"),
-    ("guest web-1 strict=yes limit=tmpfs:/x/..", 1, "", "bigvasta: limit: a path from / on, without ., .. or a slash too many\n"),
+    (
+        "guest web-1 limit=/x",
+        2,
+        "",
+        "bigvasta: limit: '/x' is none of cgroup:PATH, tmpfs:MOUNT and none\n",
+    ),
+    (
+        "guest web-1 strict=yes limit=tmpfs:/x/..",
+        1,
+        "",
+        "bigvasta: limit: a path from / on, without ., .. or a slash too many\n",
+    ),
     ("guest web-1 strict=yes limit=tmpfs:/etc", 1, "", "bigvasta: no mount of tmpfs\n"),
-    ("guest web-1 strict=no limit=tmpfs:/etc", 1, "", "bigvasta: a limit is for a strict guest, whose deflates wait until it is raised\n"),
+    (
+        "guest web-1 strict=no limit=tmpfs:/etc",
+        1,
+        "",
+        "bigvasta: a limit is for a strict guest, whose deflates wait until it is raised\n",
+    ),
     ("guest web-1 overhead=8M limit=none", 0, "web-1: absent, at {folder}/web-1\n", ""),
-    ("add web-3 target=1M", 2, "", "bigvasta: 'target=1M' is none of least=, most=, priority=, strict=, overhead=, limit=\n"),
+    (
+        "add web-3 target=1M",
+        2,
+        "",
+        "bigvasta: 'target=1M' is none of least=, most=, priority=, strict=, overhead=, limit=\n",
+    ),
     ("budget", 0, "480 MiB\n", ""),
     ("budget 500M", 0, "500 MiB\n", ""),
     ("budget 1G", 0, "1024 MiB\n", ""),
@@ -71,9 +111,19 @@ COMMANDS = (
     ("", 2, "", "usage: bigvasta"),
     ("nope", 2, "", "usage: bigvasta"),
     ("watch --interval 0", 2, "", "bigvasta: --interval: 0.0 isn't from 0.1 to 60 seconds\n"),
-    ("metrics --listen 5", 2, "", "bigvasta: --listen: '5' is no HOST:PORT, such as localhost:9750\n"),
+    (
+        "metrics --listen 5",
+        2,
+        "",
+        "bigvasta: --listen: '5' is no HOST:PORT, such as localhost:9750\n",
+    ),
     ("metrics --listen localhost:0", 2, "", "bigvasta: --listen: 'localhost:0' is no HOST:PORT"),
-    ("metrics --listen localhost:65536", 2, "", "bigvasta: --listen: 'localhost:65536' is no HOST:PORT"),
+    (
+        "metrics --listen localhost:65536",
+        2,
+        "",
+        "bigvasta: --listen: 'localhost:65536' is no HOST:PORT",
+    ),
 )
 
 
@@ -81,12 +131,21 @@ def test_commands(host):
     for words, code, said, fault in COMMANDS:
         ran = bigvasta(host.control, *words.split())
         assert ran.returncode == code, (words, ran)
-        assert ran.stdout.startswith(said.format(folder=host.folder)) and bool(ran.stdout) == bool(said), (words, ran.stdout)
+        assert ran.stdout.startswith(said.format(folder=host.folder)) and bool(ran.stdout) == bool(
+            said
+        ), (words, ran.stdout)
         assert ran.stderr.startswith(fault) and bool(ran.stderr) == bool(fault), (words, ran.stderr)
 
 
 def test_json_of_each_command(host):
-    for words, field in (("status", "guests"), ("add a", "guest"), ("guest a", "guest"), ("budget", "budget"), ("floor", "floor"), ("remove a", "ok")):
+    for words, field in (
+        ("status", "guests"),
+        ("add a", "guest"),
+        ("guest a", "guest"),
+        ("budget", "budget"),
+        ("floor", "floor"),
+        ("remove a", "ok"),
+    ):
         ran = bigvasta(host.control, *words.split(), "--json")
         assert field in json.loads(ran.stdout) and ran.stdout.count("\n") == 1, (words, ran)
     host.ask("budget", bytes=400 * MIB)
@@ -95,7 +154,11 @@ def test_json_of_each_command(host):
 
 
 def test_no_host(tmp_path):
-    for path, why in ((f"{tmp_path}/none", "No such file or directory"), ("/dev/null", "Connection refused"), ("x" * 200, "AF_UNIX path too long")):
+    for path, why in (
+        (f"{tmp_path}/none", "No such file or directory"),
+        ("/dev/null", "Connection refused"),
+        ("x" * 200, "AF_UNIX path too long"),
+    ):
         ran = bigvasta(path, "status")
         assert (ran.returncode, ran.stdout, ran.stderr) == (3, "", f"bigvasta: {path}: {why}\n")
     ran = bigvasta("", "status", "--control", f"{tmp_path}/none")
@@ -104,8 +167,11 @@ def test_no_host(tmp_path):
 
 # What a host might answer that is none.
 ANSWERS = (
-    (b"", "the host went away amid an answer"), (b'{"version": 1', "the host went away amid an answer"), (b"x\n", "the host's answer is no JSON"),
-    (b"[]\n", "the host doesn't speak version 1 of the protocol"), (b'{"version": 2}\n', "the host doesn't speak version 1 of the protocol"),
+    (b"", "the host went away amid an answer"),
+    (b'{"version": 1', "the host went away amid an answer"),
+    (b"x\n", "the host's answer is no JSON"),
+    (b"[]\n", "the host doesn't speak version 1 of the protocol"),
+    (b'{"version": 2}\n', "the host doesn't speak version 1 of the protocol"),
 )
 
 
@@ -130,7 +196,9 @@ def test_a_host_that_is_none(folder, answer, why):
 def test_log_that_is_followed(host, arrive):
     host.ask("budget", bytes=400 * MIB)
     words = ["/usr/bin/python3", "-B", "-m", "bigvasta", "log", "-f", "--control", host.control]
-    with subprocess.Popen(words, stdout=subprocess.PIPE, text=True, env={**os.environ, "PYTHONPATH": CLIENT}) as it:
+    with subprocess.Popen(
+        words, stdout=subprocess.PIPE, text=True, env={**os.environ, "PYTHONPATH": CLIENT}
+    ) as it:
         assert it.stdout.readline() == "decision 0: budget; budget 400; targets: no guests\n"
         eventually(lambda: host.status()["control"]["clients"] == 2)
         arrive("a")
@@ -152,30 +220,67 @@ def test_who_follows_waits_longer_than_for_an_answer(host):
 def test_a_reader_that_goes_ends_it(host):
     host.ask("budget", bytes=400 * MIB)
     ran = subprocess.run(
-        ["/bin/sh", "-c", f"/usr/bin/python3 -B -m bigvasta status --control {host.control} | true; exit 0"], capture_output=True, text=True,
-        env={**os.environ, "PYTHONPATH": CLIENT}, timeout=PATIENCE,
+        [
+            "/bin/sh",
+            "-c",
+            f"/usr/bin/python3 -B -m bigvasta status --control {host.control} | true; exit 0",
+        ],
+        capture_output=True,
+        text=True,
+        env={**os.environ, "PYTHONPATH": CLIENT},
+        timeout=PATIENCE,
     )
     assert ran.stderr == ""
 
 
-@pytest.mark.parametrize("text, size", (("4K", 4096), ("480M", 503316480), ("480MiB", 503316480), ("1G", 1 << 30), ("2T", 2 << 40), ("0M", 0)))
+@pytest.mark.parametrize(
+    "text, size",
+    (
+        ("4K", 4096),
+        ("480M", 503316480),
+        ("480MiB", 503316480),
+        ("1G", 1 << 30),
+        ("2T", 2 << 40),
+        ("0M", 0),
+    ),
+)
 def test_sizes(text, size):
     assert parse_size(text) == size
 
 
-@pytest.mark.parametrize("text", ("", "M", "480", "4.5M", "-1M", "+1M", "1 M", "1m", "1MB", "1K", "٤M", "9999999999999M"))
+@pytest.mark.parametrize(
+    "text", ("", "M", "480", "4.5M", "-1M", "+1M", "1 M", "1m", "1MB", "1K", "٤M", "9999999999999M")
+)
 def test_words_that_are_no_sizes(text):
     with pytest.raises(Usage):
         parse_size(text)
 
 
 def test_columns():
-    assert [mebibytes(it) for it in (0, 1, 512 << 10, 9 * MIB, 10 * MIB, 480 * MIB)] == ["0", "0.0", "0.5", "9.0", "10", "480"]
-    assert [seconds(it) for it in (0, 0.25, 99.9, 100, 5999, 7200)] == ["0.0 s", "0.2 s", "99.9 s", "2 min", "100 min", "2 h"]
+    assert [mebibytes(it) for it in (0, 1, 512 << 10, 9 * MIB, 10 * MIB, 480 * MIB)] == [
+        "0",
+        "0.0",
+        "0.5",
+        "9.0",
+        "10",
+        "480",
+    ]
+    assert [seconds(it) for it in (0, 0.25, 99.9, 100, 5999, 7200)] == [
+        "0.0 s",
+        "0.2 s",
+        "99.9 s",
+        "2 min",
+        "100 min",
+        "2 h",
+    ]
 
 
 ADDRESSES = (
-    ("localhost:9750", ("127.0.0.1", 9750)), (":9750", ("127.0.0.1", 9750)), ("[::1]:9750", ("::1", 9750)), ("a:1", ("a", 1)), ("a:65535", ("a", 65535)),
+    ("localhost:9750", ("127.0.0.1", 9750)),
+    (":9750", ("127.0.0.1", 9750)),
+    ("[::1]:9750", ("::1", 9750)),
+    ("a:1", ("a", 1)),
+    ("a:65535", ("a", 65535)),
 )
 
 
@@ -186,8 +291,19 @@ def test_addresses(text, address):
 
 def guest(name="a", **fields):
     """Returns a guest of 100 MiB as the host shows it."""
-    sizes = dict.fromkeys(("memory", "held", "loan", "excess", "target", "ballooned", "free", "available", "spare"), 0)
-    its = {"name": name, "state": "ready", "answers": True, "cooperates": True, "waits_for": "nothing", "waits": 0.0, **sizes, "memory": 100 * MIB}
+    sizes = dict.fromkeys(
+        ("memory", "held", "loan", "excess", "target", "ballooned", "free", "available", "spare"), 0
+    )
+    its = {
+        "name": name,
+        "state": "ready",
+        "answers": True,
+        "cooperates": True,
+        "waits_for": "nothing",
+        "waits": 0.0,
+        **sizes,
+        "memory": 100 * MIB,
+    }
     return its | {it: value * MIB if it in sizes else value for it, value in fields.items()}
 
 
@@ -218,8 +334,12 @@ def test_a_smaller_guest_has_a_shorter_bar():
 
 # Who waits is told apart from who is silent, and from who took memory unasked.
 WAITS = (
-    ({}, ""), ({"waits_for": "deflate", "waits": 0.42}, "deflate, 0.4 s"), ({"answers": False}, "silent"), ({"cooperates": False}, "uncooperative"),
-    ({"answers": False, "state": "coming"}, ""), ({"waits_for": "room", "waits": 120, "answers": False}, "room, 2 min"),
+    ({}, ""),
+    ({"waits_for": "deflate", "waits": 0.42}, "deflate, 0.4 s"),
+    ({"answers": False}, "silent"),
+    ({"cooperates": False}, "uncooperative"),
+    ({"answers": False, "state": "coming"}, ""),
+    ({"waits_for": "room", "waits": 120, "answers": False}, "room, 2 min"),
 )
 
 
@@ -231,17 +351,26 @@ def test_who_waits(fields, said):
 def a_status(guests, **host):
     """Returns the status of a host of 480 MiB with these guests."""
     counts = dict.fromkeys(("waiting", "silent", "uncooperative", "missing", "lent", "held"), 0)
-    return {"host": {"budget": 480 * MIB, "guests": len(guests), **counts, **host}, "guests": guests}
+    return {
+        "host": {"budget": 480 * MIB, "guests": len(guests), **counts, **host},
+        "guests": guests,
+    }
 
 
 def test_a_picture_of_a_screen():
     guests = [guest("b", held=80, waits_for="deflate", waits=1.5), guest("a", held=20)]
-    shown = picture.picture(a_status(guests, held=100 * MIB, waiting=1), 80, 10, Shown(blocks=PLAIN))
+    shown = picture.picture(
+        a_status(guests, held=100 * MIB, waiting=1), 80, 10, Shown(blocks=PLAIN)
+    )
     lines = [it.text.rstrip() for it in shown]
     assert len(lines) == 10 and all(len(it) <= 80 for it in lines)
     assert lines[0] == "budget 480  held 100  lent 0  promised 200 MiB"
     assert lines[1].startswith("[" + "#" * 16) and lines[2] == "2 guests, 1 waiting, by name"
-    assert lines[5].startswith("a                20") and lines[6].startswith("b                80") and lines[6].endswith("deflate, 1.5 s")
+    assert (
+        lines[5].startswith("a                20")
+        and lines[6].startswith("b                80")
+        and lines[6].endswith("deflate, 1.5 s")
+    )
     assert shown[6].kind == "warning" and shown[5].kind == "plain"
     by_held = picture.picture(a_status(guests), 80, 10, Shown(sort="held", blocks=PLAIN))
     assert [it.text[0] for it in by_held[5:7]] == ["b", "a"]
@@ -255,6 +384,19 @@ def test_pictures_fit_their_screens(width, height):
 
 
 def test_a_decision_s_line():
-    shares = [{"guest": "a", "old": 0, "target": 60 * MIB}, {"guest": "b", "old": MIB, "target": MIB}]
-    decision = {"number": 7, "reason": "spare", "guest": "a", "budget": 480 * MIB, "missing": 2 * MIB, "shares": shares}
-    assert log.decision_line(decision) == "decision 7: spare of a; budget 480, 2.0 missing; targets: a 0>60, b 1.0"
+    shares = [
+        {"guest": "a", "old": 0, "target": 60 * MIB},
+        {"guest": "b", "old": MIB, "target": MIB},
+    ]
+    decision = {
+        "number": 7,
+        "reason": "spare",
+        "guest": "a",
+        "budget": 480 * MIB,
+        "missing": 2 * MIB,
+        "shares": shares,
+    }
+    assert (
+        log.decision_line(decision)
+        == "decision 7: spare of a; budget 480, 2.0 missing; targets: a 0>60, b 1.0"
+    )

@@ -34,8 +34,16 @@ lines = 2000
 # A key's line in that file, and what is in its place; then what is said of it, after the file's name.
 SIZE = "a number with M, G or T, under 16T"
 WRONG = (
-    ("folder = {folder}", "folder = relative", "line 3: folder: a path from / on, of 127 bytes at most"),
-    ("folder = {folder}", "folder = /" + "x" * 127, "line 3: folder: a path from / on, of 127 bytes at most"),
+    (
+        "folder = {folder}",
+        "folder = relative",
+        "line 3: folder: a path from / on, of 127 bytes at most",
+    ),
+    (
+        "folder = {folder}",
+        "folder = /" + "x" * 127,
+        "line 3: folder: a path from / on, of 127 bytes at most",
+    ),
     ("folder = {folder}", "folder =", "line 3: folder: a path from / on, of 127 bytes at most"),
     ("budget = 480M", "budget = 480", f"line 4: budget: a size of 1M or more: {SIZE}"),
     ("budget = 480M", "budget = 0M", f"line 4: budget: a size of 1M or more: {SIZE}"),
@@ -46,7 +54,11 @@ WRONG = (
     ("floor = 8M", "floor = 8k", f"line 5: floor: a size: {SIZE}"),
     ("period = 100", "period = 9", "line 6: period: milliseconds, from 10 to 60000"),
     ("period = 100", "period = 60001", "line 6: period: milliseconds, from 10 to 60000"),
-    ("socket = {folder}/.control", "socket = .control", "line 9: socket: a path from / on, of 127 bytes at most"),
+    (
+        "socket = {folder}/.control",
+        "socket = .control",
+        "line 9: socket: a path from / on, of 127 bytes at most",
+    ),
     ("mode = 0600", "mode = 999", "line 10: mode: an octal mode, as 0660"),
     ("mode = 0600", "mode = 60", "line 10: mode: an octal mode, as 0660"),
     ("mode = 0600", "mode = 00600", "line 10: mode: an octal mode, as 0660"),
@@ -58,28 +70,88 @@ WRONG = (
     ("lines = 2000", "lines = 2000\nlines = 21", "line 16: lines: it is said twice"),
     ("[guest web-1]", "[guest web-1]\nleast = 5", f"line 18: least: a size: {SIZE}"),
     ("[guest web-1]", "[guest web-1]\nmost = 0M", f"line 18: most: a size of 1M or more: {SIZE}"),
-    ("[guest web-1]", "[guest web-1]\npriority = high", "line 18: priority: a number up to 4294967294"),
+    (
+        "[guest web-1]",
+        "[guest web-1]\npriority = high",
+        "line 18: priority: a number up to 4294967294",
+    ),
     ("[guest web-1]", "[guest web-1]\nstrict = true", "line 18: strict: yes or no"),
-    ("[guest web-1]", "[guest web-1]\nlimit = /x", "line 18: limit: none, cgroup:PATH or tmpfs:MOUNT"),
-    ("[guest web-1]", "[guest web-1]\nlimit = cgroup:x", "line 18: limit: a path from / on, without ., .. or a slash too many"),
+    (
+        "[guest web-1]",
+        "[guest web-1]\nlimit = /x",
+        "line 18: limit: none, cgroup:PATH or tmpfs:MOUNT",
+    ),
+    (
+        "[guest web-1]",
+        "[guest web-1]\nlimit = cgroup:x",
+        "line 18: limit: a path from / on, without ., .. or a slash too many",
+    ),
     ("[guest web-1]", "[guest web-1]\noverhead = 1", f"line 18: overhead: a size: {SIZE}"),
-    ("[guest web-1]", "[guest web-1]\nlimit = tmpfs:/etc", "guest web-1: a limit is for a strict guest, whose deflates wait until it is raised"),
-    ("[guest web-1]", "[guest web-1]\nstrict = yes\nlimit = tmpfs:/etc", "guest web-1: no mount of tmpfs"),
-    ("[guest web-1]", "[guest a]\nlimit = cgroup:/x\n[guest web-1]\nlimit = cgroup:/x/y", "guest web-1: the limit is another guest's"),
-    ("[guest web-1]", "[guest web-1]\ncolour = red", "line 18: colour: this section has no such key"),
-    ("[guest web-1]", "[guest web-1]\nleast = 9M\nmost = 8M", "guest web-1: its least is more than its most"),
-    ("[guest web-1]", "[guest web.1]\nleast = 9M", "line 17: guest web.1: a guest's name has 1 to 31 letters, digits, - and _"),
-    ("[guest web-1]", "\n".join(f"[guest {it}]" for it in range(63)) + "\n[guest web-1]", "line 82: guest web-2: there are as many guests as can be"),
+    (
+        "[guest web-1]",
+        "[guest web-1]\nlimit = tmpfs:/etc",
+        "guest web-1: a limit is for a strict guest, whose deflates wait until it is raised",
+    ),
+    (
+        "[guest web-1]",
+        "[guest web-1]\nstrict = yes\nlimit = tmpfs:/etc",
+        "guest web-1: no mount of tmpfs",
+    ),
+    (
+        "[guest web-1]",
+        "[guest a]\nlimit = cgroup:/x\n[guest web-1]\nlimit = cgroup:/x/y",
+        "guest web-1: the limit is another guest's",
+    ),
+    (
+        "[guest web-1]",
+        "[guest web-1]\ncolour = red",
+        "line 18: colour: this section has no such key",
+    ),
+    (
+        "[guest web-1]",
+        "[guest web-1]\nleast = 9M\nmost = 8M",
+        "guest web-1: its least is more than its most",
+    ),
+    (
+        "[guest web-1]",
+        "[guest web.1]\nleast = 9M",
+        "line 17: guest web.1: a guest's name has 1 to 31 letters, digits, - and _",
+    ),
+    (
+        "[guest web-1]",
+        "\n".join(f"[guest {it}]" for it in range(63)) + "\n[guest web-1]",
+        "line 82: guest web-2: there are as many guests as can be",
+    ),
     ("[log]", "[status]\nmode = 8\n[log]", "line 14: mode: an octal mode, as 0660"),
-    ("[log]", "[status]\nsocket = x\n[log]", "line 14: socket: a path from / on, of 127 bytes at most"),
+    (
+        "[log]",
+        "[status]\nsocket = x\n[log]",
+        "line 14: socket: a path from / on, of 127 bytes at most",
+    ),
     ("[log]", "[status]\ngroup = no-such-group\n[log]", "line 14: group: a group of this machine"),
-    ("[host]", "[hosts]", "line 2: the sections are [host], [control], [status], [log] and [guest NAME]"),
+    (
+        "[host]",
+        "[hosts]",
+        "line 2: the sections are [host], [control], [status], [log] and [guest NAME]",
+    ),
     ("[host]", "", "line 3: folder: a key comes after its section"),
-    ("[host]", "[host", "line 2: the sections are [host], [control], [status], [log] and [guest NAME]"),
+    (
+        "[host]",
+        "[host",
+        "line 2: the sections are [host], [control], [status], [log] and [guest NAME]",
+    ),
     ("period = 100", "perid = 100", "line 6: perid: this section has no such key"),
     ("period = 100", "mode = 0600", "line 6: mode: this section has no such key"),
-    ("period = 100", "words without a key", "line 6: neither a section, nor a key with its value, nor a comment"),
-    ("period = 100", "x = " + "y" * 190, "line 6: a line has 189 bytes at most, and none of them is 0"),
+    (
+        "period = 100",
+        "words without a key",
+        "line 6: neither a section, nor a key with its value, nor a comment",
+    ),
+    (
+        "period = 100",
+        "x = " + "y" * 190,
+        "line 6: a line has 189 bytes at most, and none of them is 0",
+    ),
     ("period = 100", "period = 1\0", "line 6: a line has 189 bytes at most, and none of them is 0"),
 )
 
@@ -112,16 +184,46 @@ def term(name):
 
 # What changes while the host runs: the key, its line, what is in its place, and what shows that, with its value.
 TAKEN = (
-    ("budget of [host]", "budget = 480M", "budget = 300M", lambda host: host.status()["budget"], 300 * MIB),
+    (
+        "budget of [host]",
+        "budget = 480M",
+        "budget = 300M",
+        lambda host: host.status()["budget"],
+        300 * MIB,
+    ),
     ("floor of [host]", "floor = 8M", "floor = 3M", lambda host: host.status()["floor"], 3 * MIB),
-    ("level of [log]", "level = info", "level = notice", lambda host: [it for it in host.said() if it.endswith("read anew")], []),
-    ("lines of [log]", "lines = 2000", "lines = 0", lines_of_a_client, ["web-1: further lines of this second are left out"]),
+    (
+        "level of [log]",
+        "level = info",
+        "level = notice",
+        lambda host: [it for it in host.said() if it.endswith("read anew")],
+        [],
+    ),
+    (
+        "lines of [log]",
+        "lines = 2000",
+        "lines = 0",
+        lines_of_a_client,
+        ["web-1: further lines of this second are left out"],
+    ),
     ("least of [guest]", "[guest web-1]", "[guest web-1]\nleast = 5M", term("least"), 5 * MIB),
     ("most of [guest]", "[guest web-1]", "[guest web-1]\nmost = 7M", term("most"), 7 * MIB),
     ("priority of [guest]", "[guest web-1]", "[guest web-1]\npriority = 9", term("priority"), 9),
     ("strict of [guest]", "[guest web-1]", "[guest web-1]\nstrict = yes", term("strict"), True),
-    ("overhead of [guest]", "[guest web-1]", "[guest web-1]\noverhead = 11M", term("overhead"), 11 * MIB),
-    ("limit of [guest]", "[guest web-1]", "[guest web-1]\nstrict = yes\nlimit = tmpfs:/dev/shm", term("limit"), "tmpfs:/dev/shm"),
+    (
+        "overhead of [guest]",
+        "[guest web-1]",
+        "[guest web-1]\noverhead = 11M",
+        term("overhead"),
+        11 * MIB,
+    ),
+    (
+        "limit of [guest]",
+        "[guest web-1]",
+        "[guest web-1]\nstrict = yes\nlimit = tmpfs:/dev/shm",
+        term("limit"),
+        "tmpfs:/dev/shm",
+    ),
 )
 
 
@@ -135,7 +237,11 @@ def group_name():
 def filled(folder, old="", new=""):
     """Returns the good file with one line changed."""
     assert not old or GOOD.count(old) == 1, old
-    return GOOD.replace(old, new, 1).format(folder=folder, group=group_name()) if old else GOOD.format(folder=folder, group=group_name())
+    return (
+        GOOD.replace(old, new, 1).format(folder=folder, group=group_name())
+        if old
+        else GOOD.format(folder=folder, group=group_name())
+    )
 
 
 @pytest.fixture
@@ -166,14 +272,24 @@ def test_each_key_is_wrong_once(folder):
     for old, new, said in WRONG:
         line = re.match(r"line (\d+): (\w+): ", said)
         if line:
-            section = "".join(it for it in filled(folder, old, new).splitlines()[: int(line[1])] if it.startswith("["))
+            section = "".join(
+                it
+                for it in filled(folder, old, new).splitlines()[: int(line[1])]
+                if it.startswith("[")
+            )
             wrong.add((re.findall(r"\[(\w+)", section or "[none")[-1], line[2]))
     assert len(keys) == 18 and keys <= wrong, keys - wrong
 
 
 def test_what_the_file_says_is_done(configured, folder):
     host = configured.status()
-    assert [host[it] for it in ("folder", "budget", "floor", "period", "guests")] == [str(folder), 480 * MIB, 8 * MIB, 0.1, 2]
+    assert [host[it] for it in ("folder", "budget", "floor", "period", "guests")] == [
+        str(folder),
+        480 * MIB,
+        8 * MIB,
+        0.1,
+        2,
+    ]
     assert [it["name"] for it in configured.ask("status")["guests"]] == ["web-1", "web-2"]
     assert os.stat(configured.control).st_mode & 0o777 == 0o600
 
@@ -186,7 +302,18 @@ def test_as_many_guests_as_there_can_be(program, folder, file):
 
 
 def test_the_command_line_is_before_the_file(program, folder, file):
-    it = Host(program, folder, "--config", str(file), "--budget", "100", "--floor", "1", "--control-mode", "0640")
+    it = Host(
+        program,
+        folder,
+        "--config",
+        str(file),
+        "--budget",
+        "100",
+        "--floor",
+        "1",
+        "--control-mode",
+        "0640",
+    )
     it.lines.next(patience_from_now())
     assert [it.status()[name] for name in ("budget", "floor")] == [100 * MIB, MIB]
     assert os.stat(it.control).st_mode & 0o777 == 0o640
@@ -215,7 +342,10 @@ def test_the_old_configuration_stays_where_the_new_one_is_wrong(configured, fold
         file.write_text(filled(folder, old, new))
         count = len(configured.said())
         configured.process.send_signal(signal.SIGHUP)
-        eventually(lambda: f"{file}: the old configuration stays" in configured.said()[count:], lambda: (old, new, configured.said()[count:]))
+        eventually(
+            lambda: f"{file}: the old configuration stays" in configured.said()[count:],
+            lambda: (old, new, configured.said()[count:]),
+        )
         assert f"{file}: {said}" in configured.said()[count:], configured.said()[count:]
     after = configured.ask("status")
     for it in before, after:
@@ -227,12 +357,17 @@ def test_the_old_configuration_stays_where_the_new_one_is_wrong(configured, fold
 def test_what_cannot_change_while_the_host_runs(configured, folder, file, old, new, key):
     file.write_text(filled(folder, old, new).replace("480M", "400M"))
     configured.process.send_signal(signal.SIGHUP)
-    eventually(lambda: f"{file}: {key} can't change while the host runs: the old configuration stays" in configured.said())
+    eventually(
+        lambda: f"{file}: {key} can't change while the host runs: the old configuration stays"
+        in configured.said()
+    )
     assert configured.status()["budget"] == 480 * MIB
 
 
 def test_each_key_changes_while_the_host_runs_or_cannot():
-    assert {f"{key} of [{section}]" for section, key in keys_of_sources()} == {it[-1] for it in FIXED} | {it[0] for it in TAKEN}
+    assert {f"{key} of [{section}]" for section, key in keys_of_sources()} == {
+        it[-1] for it in FIXED
+    } | {it[0] for it in TAKEN}
 
 
 @pytest.mark.parametrize("key, old, new, shown, value", TAKEN, ids=[it[0] for it in TAKEN])
@@ -245,7 +380,11 @@ def test_what_changes_while_the_host_runs(configured, folder, file, key, old, ne
 
 
 def test_a_file_that_is_read_anew(configured, folder, file):
-    file.write_text(filled(folder, "[guest web-2]", "[guest web-3]").replace("480M", "400M").replace("floor = 8M", "floor = 0M"))
+    file.write_text(
+        filled(folder, "[guest web-2]", "[guest web-3]")
+        .replace("480M", "400M")
+        .replace("floor = 8M", "floor = 0M")
+    )
     configured.process.send_signal(signal.SIGHUP)
     eventually(lambda: configured.status()["budget"] == 400 * MIB)
     # A guest that the file doesn't name any longer stays: a reload ends nobody's service.

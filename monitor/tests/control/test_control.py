@@ -21,15 +21,40 @@ WRONG = (
     (b"status", "trash", None, "no JSON: column 6: '[' or '{' expected near 'status'"),
     (b'{"version": 1', "trash", None, "no JSON: column 13: '}' expected near end of file"),
     (b'{"version": 1} {}', "trash", None, "no JSON: column 16: end of file expected near '{'"),
-    (b'{"version": 1, "version": 1}', "trash", None, "no JSON: column 24: duplicate object key near '\"version\"'"),
+    (
+        b'{"version": 1, "version": 1}',
+        "trash",
+        None,
+        "no JSON: column 24: duplicate object key near '\"version\"'",
+    ),
     (b"[1]", "trash", None, "JSON, but no object"),
     (b"\xff\xfe", "trash", None, "no JSON: column 0: unable to decode byte 0xff"),
     (b"\0", "trash", None, "no JSON: column 1: '[' or '{' expected near end of file"),
     (b"[" * 3000, "trash", None, "no JSON: column 2049: maximum parsing depth reached near '['"),
-    (b'{"request": "status"}', "missing-field", "version", "a request says the version of the protocol: 1"),
-    (b'{"version": 2, "request": "status"}', "version", "version", "version 1 is spoken, and no other"),
-    (b'{"version": 1.0, "request": "status"}', "version", "version", "version 1 is spoken, and no other"),
-    (b'{"version": true, "request": "status"}', "version", "version", "version 1 is spoken, and no other"),
+    (
+        b'{"request": "status"}',
+        "missing-field",
+        "version",
+        "a request says the version of the protocol: 1",
+    ),
+    (
+        b'{"version": 2, "request": "status"}',
+        "version",
+        "version",
+        "version 1 is spoken, and no other",
+    ),
+    (
+        b'{"version": 1.0, "request": "status"}',
+        "version",
+        "version",
+        "version 1 is spoken, and no other",
+    ),
+    (
+        b'{"version": true, "request": "status"}',
+        "version",
+        "version",
+        "version 1 is spoken, and no other",
+    ),
     (say(), "missing-field", "request", "a request says what is asked for"),
     (say(request=1), "bad-field", "request", "a string"),
     (say(request=""), "unknown-request", "request", "no request is named so"),
@@ -40,7 +65,12 @@ WRONG = (
     (say(request="guest"), "missing-field", "name", "this request needs it"),
     (say(request="guest", name=5), "bad-field", "name", "a string"),
     (say(request="guest", name="b"), "no-guest", "name", "no guest is named b"),
-    (say(request="guest", name="a", targt=0), "unknown-field", "targt", "this request has no such field"),
+    (
+        say(request="guest", name="a", targt=0),
+        "unknown-field",
+        "targt",
+        "this request has no such field",
+    ),
     (say(request="guest", name="a", target=1), "bad-field", "target", PAGES),
     (say(request="guest", name="a", target=-PAGE), "bad-field", "target", PAGES),
     (say(request="guest", name="a", target=1.0), "bad-field", "target", PAGES),
@@ -49,25 +79,80 @@ WRONG = (
     (say(request="guest", name="a", least=PAGE * 0xFFFFFFFF), "bad-field", "least", PAGES),
     (say(request="guest", name="a", most=2**63), "trash", None, "too big integer"),
     (say(request="guest", name="a", most=False), "bad-field", "most", f"{PAGES}, or null"),
-    (say(request="guest", name="a", priority=2**32), "bad-field", "priority", "a whole number from 0 to 4294967295"),
-    (say(request="guest", name="a", priority=-1), "bad-field", "priority", "a whole number from 0 to 4294967295"),
+    (
+        say(request="guest", name="a", priority=2**32),
+        "bad-field",
+        "priority",
+        "a whole number from 0 to 4294967295",
+    ),
+    (
+        say(request="guest", name="a", priority=-1),
+        "bad-field",
+        "priority",
+        "a whole number from 0 to 4294967295",
+    ),
     (say(request="guest", name="a", strict=1), "bad-field", "strict", "true or false"),
-    (say(request="guest", name="a", limit=1), "bad-field", "limit", "cgroup:PATH, tmpfs:MOUNT, or null"),
-    (say(request="guest", name="a", limit="tmpfs:x"), "bad-field", "limit", "a path from / on, without ., .. or a slash too many"),
-    (say(request="guest", name="a", limit="tmpfs:/\u00e9"), "bad-field", "limit", "a path of 151 bytes at most, each of them a letter, a digit or a sign of ASCII"),
+    (
+        say(request="guest", name="a", limit=1),
+        "bad-field",
+        "limit",
+        "cgroup:PATH, tmpfs:MOUNT, or null",
+    ),
+    (
+        say(request="guest", name="a", limit="tmpfs:x"),
+        "bad-field",
+        "limit",
+        "a path from / on, without ., .. or a slash too many",
+    ),
+    (
+        say(request="guest", name="a", limit="tmpfs:/\u00e9"),
+        "bad-field",
+        "limit",
+        "a path of 151 bytes at most, each of them a letter, a digit or a sign of ASCII",
+    ),
     (say(request="guest", name="a", overhead=1), "bad-field", "overhead", PAGES),
     (say(request="guest", name="a", target=0), "refused", None, "nobody is there"),
     (say(request="guest", name="a", least=PAGE, target=0), "refused", None, "nobody is there"),
-    (say(request="guest", name="a", least=2 * PAGE, most=PAGE), "refused", None, "its least is more than its most"),
+    (
+        say(request="guest", name="a", least=2 * PAGE, most=PAGE),
+        "refused",
+        None,
+        "its least is more than its most",
+    ),
     (say(request="add", name="a"), "guest-exists", "name", "a guest is named a already"),
-    (say(request="add", name="a/b"), "refused", None, "a name has 1 to 31 letters, digits, - and _, and no other guest has it"),
-    (say(request="add", name="." * 2), "refused", None, "a name has 1 to 31 letters, digits, - and _, and no other guest has it"),
-    (say(request="add", name="x" * 32), "refused", None, "a name has 1 to 31 letters, digits, - and _, and no other guest has it"),
-    (say(request="add", name=""), "refused", None, "a name has 1 to 31 letters, digits, - and _, and no other guest has it"),
+    (
+        say(request="add", name="a/b"),
+        "refused",
+        None,
+        "a name has 1 to 31 letters, digits, - and _, and no other guest has it",
+    ),
+    (
+        say(request="add", name="." * 2),
+        "refused",
+        None,
+        "a name has 1 to 31 letters, digits, - and _, and no other guest has it",
+    ),
+    (
+        say(request="add", name="x" * 32),
+        "refused",
+        None,
+        "a name has 1 to 31 letters, digits, - and _, and no other guest has it",
+    ),
+    (
+        say(request="add", name=""),
+        "refused",
+        None,
+        "a name has 1 to 31 letters, digits, - and _, and no other guest has it",
+    ),
     (say(request="remove", name="b"), "no-guest", "name", "no guest is named b"),
     (say(request="budget", bytes=0), "bad-field", "bytes", "a budget of one page or more"),
     (say(request="budget", bytes=PAGE + 1), "bad-field", "bytes", PAGES),
-    (say(request="log", since=-1), "bad-field", "since", "a whole number from 0 to 9223372036854775807"),
+    (
+        say(request="log", since=-1),
+        "bad-field",
+        "since",
+        "a whole number from 0 to 9223372036854775807",
+    ),
     (say(request="log", limit=0), "bad-field", "limit", "a whole number from 1 to 16"),
     (say(request="log", limit=17), "bad-field", "limit", "a whole number from 1 to 16"),
     (say(request="events", since=0), "unknown-field", "since", "this request has no such field"),
@@ -88,8 +173,16 @@ def test_each_wrong_line_is_refused_by_its_words_and_changes_nothing(host, raw):
     for line, code, field, text in WRONG:
         answer = raw.answer(line)
         error = answer["error"]
-        assert (answer["version"], answer["ok"], error["code"], error.get("field")) == (1, False, code, field), (line, answer)
-        assert error["text"].startswith(text) or (code == "trash" and text in error["text"]), (line, error)
+        assert (answer["version"], answer["ok"], error["code"], error.get("field")) == (
+            1,
+            False,
+            code,
+            field,
+        ), (line, answer)
+        assert error["text"].startswith(text) or (code == "trash" and text in error["text"]), (
+            line,
+            error,
+        )
     after = host.ask("status")
     assert after["host"]["control"]["refused"] - before["host"]["control"]["refused"] == len(WRONG)
     for it in before, after:
@@ -115,7 +208,10 @@ def test_a_line_of_the_most_bytes_and_one_more(host, raw):
     line = say(request="budget", id="x")
     assert raw.answer(line + b" " * (4095 - len(line)))["ok"]
     raw.socket.sendall(b"x" * 4096)
-    assert json.loads(raw.lines.readline())["error"] == {"code": "too-long", "text": "a request has at most 4096 bytes with its end of line"}
+    assert json.loads(raw.lines.readline())["error"] == {
+        "code": "too-long",
+        "text": "a request has at most 4096 bytes with its end of line",
+    }
     assert raw.lines.readline() == b""
     assert host.status()["control"]["clients"] == 1
 
@@ -127,7 +223,12 @@ def test_who_ends_what_it_sends_is_answered_and_then_closed(raw):
 
 
 def test_sizes_set_and_asked_for(host):
-    assert host.ask("budget", bytes=500 * MIB)["budget"] == 500 * MIB == host.ask("budget")["budget"] == host.status()["budget"]
+    assert (
+        host.ask("budget", bytes=500 * MIB)["budget"]
+        == 500 * MIB
+        == host.ask("budget")["budget"]
+        == host.status()["budget"]
+    )
     assert host.ask("floor", bytes=3 * PAGE)["floor"] == 3 * PAGE == host.status()["floor"]
     assert host.ask("floor", bytes=0)["floor"] == 0
 
@@ -135,11 +236,20 @@ def test_sizes_set_and_asked_for(host):
 def test_a_guest_comes_is_changed_and_goes(host, arrive):
     guest = arrive("web-1")
     ready = eventually(lambda: host.guest("web-1")["answers"] and host.guest("web-1"))
-    assert (ready["state"], ready["memory"], ready["held"], ready["free"]) == ("ready", 128 * PAGE, 128 * PAGE, 60 * PAGE)
+    assert (ready["state"], ready["memory"], ready["held"], ready["free"]) == (
+        "ready",
+        128 * PAGE,
+        128 * PAGE,
+        60 * PAGE,
+    )
     assert ready["socket"] == f"{host.folder}/web-1"
     host.ask("floor", bytes=0)
     changed = host.ask("guest", name="web-1", least=2 * PAGE, priority=3, target=5 * PAGE)["guest"]
-    assert [changed["target"], *(changed["terms"][it] for it in ("least", "priority"))] == [5 * PAGE, 2 * PAGE, 3]
+    assert [changed["target"], *(changed["terms"][it] for it in ("least", "priority"))] == [
+        5 * PAGE,
+        2 * PAGE,
+        3,
+    ]
     eventually(lambda: host.guest("web-1")["target"] == 0)  # other terms are decided on
     host.ask("guest", name="web-1", target=5 * PAGE)
     with pytest.raises(Refused, match="no mount of tmpfs"):
@@ -169,17 +279,27 @@ def test_decisions_by_their_numbers(host, arrive):
     last = next(it for it in log["decisions"] if it["budget"] == 156 * PAGE)
     assert (last["reason"], last["floor"], last["missing"]) == ("budget", 0, 0)
     assert last["shares"] == [
-        {"guest": name, "memory": 128 * PAGE, "spare": 60 * PAGE, "old": 0, "target": target * PAGE} for name, target in (("a", 60), ("b", 40))
+        {"guest": name, "memory": 128 * PAGE, "spare": 60 * PAGE, "old": 0, "target": target * PAGE}
+        for name, target in (("a", 60), ("b", 40))
     ]
     assert [it["number"] for it in log["decisions"]] == list(range(log["next"]))
     assert host.ask("log", since=log["next"] - 1, limit=1)["decisions"] == log["decisions"][-1:]
-    assert host.ask("log", since=10**15) == {"version": 1, "ok": True, "decisions": [], "next": log["next"], "lost": 0}
+    assert host.ask("log", since=10**15) == {
+        "version": 1,
+        "ok": True,
+        "decisions": [],
+        "next": log["next"],
+        "lost": 0,
+    }
 
 
 def test_decisions_that_are_lost_are_counted(host):
     for it in range(520):
         host.ask("budget", bytes=(it + 1) * PAGE)
-    decisions = eventually(lambda: host.status()["counters"]["decisions"] >= 520 and host.status()["counters"]["decisions"])
+    decisions = eventually(
+        lambda: host.status()["counters"]["decisions"] >= 520
+        and host.status()["counters"]["decisions"]
+    )
     log = host.ask("log", since=3, limit=2)
     assert log["lost"] == decisions - 512 - 3
     assert [it["number"] for it in log["decisions"]] == [decisions - 512, decisions - 511]
@@ -203,7 +323,9 @@ class Follower(threading.Thread):
 
     def hears(self, name):
         """Waits for an event of this name."""
-        eventually(lambda: name in [it["event"] for it in self.heard], lambda: f"no {name}: {self.heard}")
+        eventually(
+            lambda: name in [it["event"] for it in self.heard], lambda: f"no {name}: {self.heard}"
+        )
 
 
 def test_followers_hear_each_event_once_and_in_order(host, arrive):
@@ -219,18 +341,27 @@ def test_followers_hear_each_event_once_and_in_order(host, arrive):
     for it in first, second:
         it.join(PATIENCE)
     assert first.heard == second.heard
-    assert [it["number"] for it in first.heard] == list(range(first.heard[0]["number"], first.heard[0]["number"] + len(first.heard)))
+    assert [it["number"] for it in first.heard] == list(
+        range(first.heard[0]["number"], first.heard[0]["number"] + len(first.heard))
+    )
     names = [it["event"] for it in first.heard]
     # On a loaded machine its statistics may come late, and then it is silent for a while: so it answers, is silent, answers, ..
     manners = [it for it in names if it in ("answers", "silent")]
-    assert manners == ["answers", "silent"] * (len(manners) // 2) + ["answers"] * (len(manners) % 2), manners
+    assert manners == ["answers", "silent"] * (len(manners) // 2) + ["answers"] * (
+        len(manners) % 2
+    ), manners
     others = [it for it in names if it not in ("decision", "state", *manners)]
     # A look may find it while it waits for the room that it is granted at once, and while it leaves.
     waits = ["waits", "granted"] if "waits" in others else []
     assert others == ["added", "arrived", *waits, "budget", "gone", "removed"], names
     states = [it["state"] for it in first.heard if it["event"] == "state"]
-    assert [it for it in states if it not in ("coming", "waiting", "starting")] in (["ready"], ["ready", "leaving"]), states
-    assert any(it["event"] == "decision" and it["decision"]["budget"] == 100 * MIB for it in first.heard)
+    assert [it for it in states if it not in ("coming", "waiting", "starting")] in (
+        ["ready"],
+        ["ready", "leaving"],
+    ), states
+    assert any(
+        it["event"] == "decision" and it["decision"]["budget"] == 100 * MIB for it in first.heard
+    )
     for it in first, second:
         it.connection.close()
 
@@ -258,7 +389,9 @@ def test_twenty_clients_of_which_some_never_read_and_one_sends_trash(host, arriv
     looks, slowest, sent = host.status()["counters"]["looks"], 0.0, 0
     begun = time.monotonic()
     # On a machine with other work it takes longer until they have left as much unread as they may.
-    while time.monotonic() < begun + 5 or (time.monotonic() < begun + 40 and host.status()["control"]["dropped"] < 6):
+    while time.monotonic() < begun + 5 or (
+        time.monotonic() < begun + 40 and host.status()["control"]["dropped"] < 6
+    ):
         for it in mute:
             try:
                 sent += it.socket.send((say(request="status") + b"\n") * 50)
@@ -275,7 +408,10 @@ def test_twenty_clients_of_which_some_never_read_and_one_sends_trash(host, arriv
     status = host.status()
     assert slowest < 3, f"a client waits for {slowest} s beside others that don't read"
     assert status["counters"]["looks"] - looks >= 3, "the host looks at its guests less often"
-    assert status["control"]["dropped"] in (6, 7), f"six that don't read, and maybe the one with trash: {status['control']}"
+    assert status["control"]["dropped"] in (
+        6,
+        7,
+    ), f"six that don't read, and maybe the one with trash: {status['control']}"
     assert host.guest("a")["answers"]
     guest.leave()
     for it in (*mute, trash, *asking, follower):
@@ -307,7 +443,10 @@ def test_one_client_too_many_is_told_so(host):
     clients = [Raw(host.control) for _ in range(256)]
     eventually(lambda: clients[-1].answer(say(request="budget"))["ok"])
     late = Raw(host.control)
-    assert json.loads(late.lines.readline())["error"] == {"code": "too-many-clients", "text": "256 clients are connected already"}
+    assert json.loads(late.lines.readline())["error"] == {
+        "code": "too-many-clients",
+        "text": "256 clients are connected already",
+    }
     assert late.lines.readline() == b""
     clients.pop().close()
     eventually(lambda: is_taken(host), "a place that is free isn't given to the next client")
@@ -318,7 +457,17 @@ def test_one_client_too_many_is_told_so(host):
 
 def test_the_mode_and_the_group_of_the_socket(program, folder):
     group = os.getgid()
-    it = Host(program, folder, str(folder), "--budget", "480", "--control-mode", "0600", "--control-group", group_name(group))
+    it = Host(
+        program,
+        folder,
+        str(folder),
+        "--budget",
+        "480",
+        "--control-mode",
+        "0600",
+        "--control-group",
+        group_name(group),
+    )
     it.lines.next(patience_from_now())
     its = os.stat(it.control)
     assert (stat.S_IMODE(its.st_mode), its.st_gid) == (0o600, group)
@@ -333,10 +482,19 @@ def group_name(number):
     return grp.getgrgid(number).gr_name
 
 
-@pytest.mark.parametrize("words", (
-    ("--control-mode", "999"), ("--control-mode", "66"), ("--control-mode", "01777"), ("--control-group", "no-such-group"),
-    ("--control", "relative"), ("--log-level", "loud"), ("--config",), ("--control",),
-))
+@pytest.mark.parametrize(
+    "words",
+    (
+        ("--control-mode", "999"),
+        ("--control-mode", "66"),
+        ("--control-mode", "01777"),
+        ("--control-group", "no-such-group"),
+        ("--control", "relative"),
+        ("--log-level", "loud"),
+        ("--config",),
+        ("--control",),
+    ),
+)
 def test_command_lines_that_are_none(program, folder, words):
     it = Host(program, folder, str(folder), "--budget", "480", *words)
     assert it.process.wait(PATIENCE) == 2

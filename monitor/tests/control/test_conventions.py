@@ -25,7 +25,11 @@ class Running:
 
     def __init__(self, program, *words, files=()):
         self.process = subprocess.Popen(
-            [program, *words], stdin=subprocess.DEVNULL, stdout=subprocess.PIPE, stderr=subprocess.PIPE, pass_fds=files
+            [program, *words],
+            stdin=subprocess.DEVNULL,
+            stdout=subprocess.PIPE,
+            stderr=subprocess.PIPE,
+            pass_fds=files,
         )
         self.first = Lines(self.process.stdout, "the backend").next(patience_from_now())
 
@@ -44,7 +48,14 @@ def serve(client):
     assert client.holes() == [0x180]
 
 
-@pytest.mark.parametrize("words", (["--socket-path", "{path}"], ["--socket-path={path}"], ["--strict", "--socket-path={path}", "--lines", "5"]))
+@pytest.mark.parametrize(
+    "words",
+    (
+        ["--socket-path", "{path}"],
+        ["--socket-path={path}"],
+        ["--strict", "--socket-path={path}", "--lines", "5"],
+    ),
+)
 def test_by_a_path(backend, tmp_path_factory, words):
     path = f"{tmp_path_factory.mktemp('b')}/socket"
     it = Running(backend, *(word.format(path=path) for word in words))
@@ -87,18 +98,37 @@ def test_by_a_client_s_socket(backend):
 
 
 def test_what_it_can(backend):
-    ran = subprocess.run([backend, "--nonsense", "--print-capabilities", "--fd=x"], capture_output=True, text=True, timeout=PATIENCE)
+    ran = subprocess.run(
+        [backend, "--nonsense", "--print-capabilities", "--fd=x"],
+        capture_output=True,
+        text=True,
+        timeout=PATIENCE,
+    )
     assert (ran.returncode, json.loads(ran.stdout), ran.stderr) == (0, {"type": "balloon"}, "")
 
 
 def test_the_description_file():
     with open(f"{ROOT}/packaging/qemu/50-bigvasta-balloon.json", encoding="utf-8") as file:
         its = json.load(file)
-    assert (its["type"], its["binary"], set(its)) == ("balloon", "/usr/bin/vhost_user_balloon", {"description", "type", "binary"})
+    assert (its["type"], its["binary"], set(its)) == (
+        "balloon",
+        "/usr/bin/vhost_user_balloon",
+        {"description", "type", "binary"},
+    )
 
 
-WRONG = (["--fd"], ["--fd", "x"], ["--fd", "-1"], ["--fd=99"], ["--fd", "0"], ["--fd="], ["--socket-path"], ["--socket-path", "a", "--fd", "{}"],
-         ["--fd", "{}", "--fd", "{}"], ["path", "--fd", "{}"])
+WRONG = (
+    ["--fd"],
+    ["--fd", "x"],
+    ["--fd", "-1"],
+    ["--fd=99"],
+    ["--fd", "0"],
+    ["--fd="],
+    ["--socket-path"],
+    ["--socket-path", "a", "--fd", "{}"],
+    ["--fd", "{}", "--fd", "{}"],
+    ["path", "--fd", "{}"],
+)
 
 
 @pytest.mark.parametrize("words", WRONG)
@@ -107,7 +137,12 @@ def test_command_lines_that_are_none(backend, words):
     with ours, theirs:
         number = theirs.fileno()
         ran = subprocess.run(
-            [backend, *(it.format(number) for it in words)], capture_output=True, text=True, timeout=PATIENCE, stdin=subprocess.DEVNULL, pass_fds=[number]
+            [backend, *(it.format(number) for it in words)],
+            capture_output=True,
+            text=True,
+            timeout=PATIENCE,
+            stdin=subprocess.DEVNULL,
+            pass_fds=[number],
         )
     assert (ran.returncode, ran.stdout) == (2, "")
     assert "vhost_user_balloon SOCKET | --socket-path SOCKET | --fd FD" in ran.stderr
@@ -115,14 +150,27 @@ def test_command_lines_that_are_none(backend, words):
 
 # A command line, and what is said of it before the help.
 NAMED = (
-    (["--nonsense"], "unrecognized option '--nonsense'"), (["--fd"], "option '--fd' requires an argument"), (["--strict=1"], "option '--strict' doesn't allow an argument"),
-    (["--s"], "option '--s' is ambiguous; possibilities: '--state' '--strict' '--socket-path'"), (["--fd", "x"], "--fd: x can't be taken"),
-    (["--lines", "-1"], "--lines: -1 can't be taken"), (["--features", "g"], "--features: g can't be taken"), (["a", "b"], ""), ([], ""),
+    (["--nonsense"], "unrecognized option '--nonsense'"),
+    (["--fd"], "option '--fd' requires an argument"),
+    (["--strict=1"], "option '--strict' doesn't allow an argument"),
+    (["--s"], "option '--s' is ambiguous; possibilities: '--state' '--strict' '--socket-path'"),
+    (["--fd", "x"], "--fd: x can't be taken"),
+    (["--lines", "-1"], "--lines: -1 can't be taken"),
+    (["--features", "g"], "--features: g can't be taken"),
+    (["a", "b"], ""),
+    ([], ""),
 )
 
 
 @pytest.mark.parametrize("words, said", NAMED)
 def test_what_is_wrong_is_named(backend, words, said):
-    ran = subprocess.run([backend, *words], capture_output=True, text=True, timeout=PATIENCE, stdin=subprocess.DEVNULL, env={"LC_ALL": "C"})
+    ran = subprocess.run(
+        [backend, *words],
+        capture_output=True,
+        text=True,
+        timeout=PATIENCE,
+        stdin=subprocess.DEVNULL,
+        env={"LC_ALL": "C"},
+    )
     first, _, rest = ran.stderr.partition("vhost_user_balloon SOCKET |")
     assert (ran.returncode, first.removeprefix(f"{backend}: ").rstrip("\n")) == (2, said) and rest

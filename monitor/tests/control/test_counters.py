@@ -11,12 +11,18 @@ from waiting import patience_from_now
 
 # Each counter, by when it begins at 0: with a lender; with a client of a guest, which its process counts; with both.
 OF_LENDERS, OF_CLIENTS, OF_BOTH = {"lender"}, {"client"}, {"lender", "client"}
-HOST = dict.fromkeys("looks above peak decisions changed shorts admitted refused gone dropped".split(), OF_LENDERS)
+HOST = dict.fromkeys(
+    "looks above peak decisions changed shorts admitted refused gone dropped".split(), OF_LENDERS
+)
 SOCKET = dict.fromkeys("accepted dropped turned_away requests refused".split(), OF_LENDERS)
 MEASURES = dict.fromkeys("above gone waits ungranted decisions turns processor".split(), OF_LENDERS)
 GUEST = {
-    **dict.fromkeys("inflated deflated reported taken discarded skipped statistics told chains kicks".split(), OF_CLIENTS),
-    **dict.fromkeys("clients limit_failures".split(), OF_LENDERS), **dict.fromkeys("granted lost".split(), OF_BOTH),
+    **dict.fromkeys(
+        "inflated deflated reported taken discarded skipped statistics told chains kicks".split(),
+        OF_CLIENTS,
+    ),
+    **dict.fromkeys("clients limit_failures".split(), OF_LENDERS),
+    **dict.fromkeys("granted lost".split(), OF_BOTH),
 }
 
 # Pages that each guest gives, takes back and reports, of its second region, and of those that it takes the ones that the host wants back.
@@ -25,7 +31,10 @@ FIRST = REGIONS[1][0] // PAGE
 
 # What has counted something of a guest that did so.
 SOME = ("statistics", "told", "chains", "kicks", "clients")
-TERMS = {"strict": {"strict": True, "least": 3 * PAGE, "priority": 9, "overhead": 5 * PAGE}, "free": {"most": 200 * PAGE, "priority": 4}}
+TERMS = {
+    "strict": {"strict": True, "least": 3 * PAGE, "priority": 9, "overhead": 5 * PAGE},
+    "free": {"most": 200 * PAGE, "priority": 4},
+}
 
 
 def numbers(value, name=()):
@@ -41,18 +50,34 @@ def counters(host):
     """Returns each counter, by the part of the status that has it and its name; each has a row."""
     status = host.ask("status")
     its = status["host"]
-    sockets = {it: {name: count for name, count in its[it].items() if name != "clients"} for it in ("control", "status")}
-    parts = {"host": (its["counters"], HOST), "measures": (its["measures"], MEASURES)} | {it: (value, SOCKET) for it, value in sockets.items()}
+    sockets = {
+        it: {name: count for name, count in its[it].items() if name != "clients"}
+        for it in ("control", "status")
+    }
+    parts = {"host": (its["counters"], HOST), "measures": (its["measures"], MEASURES)} | {
+        it: (value, SOCKET) for it, value in sockets.items()
+    }
     parts |= {it["name"]: (it["counters"], GUEST) for it in status["guests"]}
     for values, rows in parts.values():
         assert values.keys() == rows.keys(), values.keys() ^ rows.keys()
-    return {(name, *it): (value, rows[it[0]]) for name, (values, rows) in parts.items() for it, value in numbers(values)}
+    return {
+        (name, *it): (value, rows[it[0]])
+        for name, (values, rows) in parts.items()
+        for it, value in numbers(values)
+    }
 
 
 def wanted_of(name):
     """Returns what a guest has counted that did so, in pages."""
     given, taken, reported, wanted = WORK[name]
-    return {"inflated": given, "deflated": taken, "reported": reported, "taken": taken - wanted, "discarded": given + reported, "skipped": 0}
+    return {
+        "inflated": given,
+        "deflated": taken,
+        "reported": reported,
+        "taken": taken - wanted,
+        "discarded": given + reported,
+        "skipped": 0,
+    }
 
 
 def set_target(host, name, pages):
@@ -68,10 +93,17 @@ def work(host, name):
     guest = Answering(host, name)
     eventually(lambda: host.guest(name)["answers"])
     guest.stop()
-    for queue, target, count, left in (INFLATE, given, given, given), (DEFLATE, given - wanted, taken, given - taken):
+    for queue, target, count, left in (INFLATE, given, given, given), (
+        DEFLATE,
+        given - wanted,
+        taken,
+        given - taken,
+    ):
         set_target(host, name, target)
         guest.client.post_pages(queue, [FIRST + it for it in range(count)])
-        eventually(lambda left=left: host.guest(name)["ballooned"] == left * PAGE, lambda: host.guest(name))
+        eventually(
+            lambda left=left: host.guest(name)["ballooned"] == left * PAGE, lambda: host.guest(name)
+        )
     guest.client.describe(REPORT, 0, REGIONS[1][0] + 30 * PAGE, reported * PAGE, WRITE)
     guest.client.publish(REPORT, 0)
     guest.client.kick(REPORT)
@@ -91,7 +123,17 @@ class Town:
 
     def begin(self):
         """Starts a lender."""
-        self.host = Host(self.program, self.folder, str(self.folder), "--budget", "480", "--floor", "0", "--period", "100")
+        self.host = Host(
+            self.program,
+            self.folder,
+            str(self.folder),
+            "--budget",
+            "480",
+            "--floor",
+            "0",
+            "--period",
+            "100",
+        )
         self.host.lines.next(patience_from_now())
 
     def come(self):
@@ -145,8 +187,13 @@ def town(program, folder):
 
 # What comes over a host, one after the other, and the counters that begin then.
 EVENTS = (
-    (Town.renew, set()), (Town.kill_processes, set()), (Town.kill_lender, {"lender"}), (Town.renew, set()), (Town.go, {"client"}),
-    (Town.come, {"client"}), (Town.kill_processes, set()),
+    (Town.renew, set()),
+    (Town.kill_processes, set()),
+    (Town.kill_lender, {"lender"}),
+    (Town.renew, set()),
+    (Town.go, {"client"}),
+    (Town.come, {"client"}),
+    (Town.kill_processes, set()),
 )
 
 
@@ -155,7 +202,11 @@ def test_no_counter_falls(town):
     for act, begins in EVENTS:
         act(town)
         after = counters(town.host)
-        fallen = {name: (value, after[name][0]) for name, (value, row) in before.items() if not row & begins and after[name][0] < value}
+        fallen = {
+            name: (value, after[name][0])
+            for name, (value, row) in before.items()
+            if not row & begins and after[name][0] < value
+        }
         assert not fallen, (act.__name__, fallen)
         before = after
 
@@ -164,8 +215,12 @@ def test_what_a_guest_has_counted(town):
     for each in range(2):
         for name in WORK:
             found = town.host.guest(name)["counters"]
-            assert {it: found[it] // PAGE for it in wanted_of(name)} == wanted_of(name) and found["clients"] == 1 + each, found
-            assert all(found[it] > 0 for it in SOME) and (found["granted"] > 0) == (name == "strict"), found
+            assert {it: found[it] // PAGE for it in wanted_of(name)} == wanted_of(name) and found[
+                "clients"
+            ] == 1 + each, found
+            assert all(found[it] > 0 for it in SOME) and (found["granted"] > 0) == (
+                name == "strict"
+            ), found
         town.go(), town.come()
 
 
@@ -173,37 +228,76 @@ def test_what_a_host_says_of_all_guests(town):
     eventually(lambda: town.host.status()["silent"] == 2, town.host.status)
     status = town.host.ask("status")
     host, guests = status["host"], status["guests"]
-    assert [it["cooperates"] for it in guests] == [True, False] and [it["answers"] for it in guests] == [False, False]
-    assert [host[it] for it in ("guests", "silent", "uncooperative", "waiting", "missing")] == [2, 2, 1, 0, 0]
-    assert [host[it] for it in ("held", "lent")] == [sum(guest[it] for guest in guests) for it in ("held", "loan")]
+    assert [it["cooperates"] for it in guests] == [True, False] and [
+        it["answers"] for it in guests
+    ] == [False, False]
+    assert [host[it] for it in ("guests", "silent", "uncooperative", "waiting", "missing")] == [
+        2,
+        2,
+        1,
+        0,
+        0,
+    ]
+    assert [host[it] for it in ("held", "lent")] == [
+        sum(guest[it] for guest in guests) for it in ("held", "loan")
+    ]
     assert host["counters"]["peak"] >= host["held"] > 0 and host["lent"] > 0
 
 
 # Words of the lines of standard output, by what an answer has in their place, and how many of its unit each counts.
 KIB = 1024
 OF_GUESTS = {
-    **{it: (f"counters.{it}", PAGE) for it in ("inflated", "deflated", "reported", "taken")}, "statistics": ("counters.statistics", 1),
-    **{it: (it, PAGE) for it in ("ballooned", "target", "free", "spare", "available")}, "pages": ("memory", PAGE), "lent": ("loan", PAGE),
-    "held_kib": ("held", KIB), "limit": ("limit", PAGE), "limit_failures": ("counters.limit_failures", 1), "process": ("process", 1),
-    **{it: (f"terms.{it}", PAGE) for it in ("least", "most", "overhead")}, "priority": ("terms.priority", 1),
-    "answers": ("answers", 1), "reports": ("reports", 1), "waits": ("waits_for", 1),
+    **{it: (f"counters.{it}", PAGE) for it in ("inflated", "deflated", "reported", "taken")},
+    "statistics": ("counters.statistics", 1),
+    **{it: (it, PAGE) for it in ("ballooned", "target", "free", "spare", "available")},
+    "pages": ("memory", PAGE),
+    "lent": ("loan", PAGE),
+    "held_kib": ("held", KIB),
+    "limit": ("limit", PAGE),
+    "limit_failures": ("counters.limit_failures", 1),
+    "process": ("process", 1),
+    **{it: (f"terms.{it}", PAGE) for it in ("least", "most", "overhead")},
+    "priority": ("terms.priority", 1),
+    "answers": ("answers", 1),
+    "reports": ("reports", 1),
+    "waits": ("waits_for", 1),
 }
 OF_HOST = {
-    "frames": ("budget", PAGE), "floor": ("floor", PAGE), "short": ("missing", PAGE), "held_kib": ("held", KIB), "lent": ("lent", PAGE),
+    "frames": ("budget", PAGE),
+    "floor": ("floor", PAGE),
+    "short": ("missing", PAGE),
+    "held_kib": ("held", KIB),
+    "lent": ("lent", PAGE),
     "peak_kib": ("counters.peak", KIB),
-    **{it: (f"counters.{it}", 1) for it in "looks above decisions changed shorts admitted refused gone dropped".split()},
+    **{
+        it: (f"counters.{it}", 1)
+        for it in "looks above decisions changed shorts admitted refused gone dropped".split()
+    },
 }
-OF_DECISIONS = {"ms": ("seconds", 0.001), "frames": ("budget", PAGE), "floor": ("floor", PAGE), "short": ("missing", PAGE)}
+OF_DECISIONS = {
+    "ms": ("seconds", 0.001),
+    "frames": ("budget", PAGE),
+    "floor": ("floor", PAGE),
+    "short": ("missing", PAGE),
+}
 OF_SHARES = {"pages": ("memory", PAGE), **{it: (it, PAGE) for it in ("spare", "old", "target")}}
 # What only a line has.
-MORE = {"guests": {"here", "ready", "asked", "cooperates"}, "counters": {"grants"}, "log": {"most", "ballooned", "by"}}
+MORE = {
+    "guests": {"here", "ready", "asked", "cooperates"},
+    "counters": {"grants"},
+    "log": {"most", "ballooned", "by"},
+}
 
 
 def lines_of(host, word):
     """Asks for a line, or for as many as the first one says; returns them."""
     host.process.stdin.write(f"{word}\n".encode()), host.process.stdin.flush()
     head = host.lines.next(patience_from_now())
-    return [host.lines.next(patience_from_now()) for _ in range(int(head.split()[1]))] if word in ("guests", "log") else [head]
+    return (
+        [host.lines.next(patience_from_now()) for _ in range(int(head.split()[1]))]
+        if word in ("guests", "log")
+        else [head]
+    )
 
 
 def agrees(words, rows, answer, more):
@@ -214,7 +308,13 @@ def agrees(words, rows, answer, more):
         found = answer
         for it in place.split("."):
             found = found[it]
-        wanted = str((1 << 32) - 1) if found is None else found if isinstance(found, str) else str(round(found / unit))
+        wanted = (
+            str((1 << 32) - 1)
+            if found is None
+            else found
+            if isinstance(found, str)
+            else str(round(found / unit))
+        )
         assert said[name] == wanted, (name, said[name], found)
 
 
@@ -222,7 +322,11 @@ def test_lines_say_what_answers_do(town):
     town.host.ask("budget", bytes=200 * PAGE)
     eventually(lambda: town.host.status()["counters"]["shorts"] > 0)
     for _ in range(20):
-        looks, lines, guests = town.host.status()["counters"]["looks"], lines_of(town.host, "counters"), lines_of(town.host, "guests")
+        looks, lines, guests = (
+            town.host.status()["counters"]["looks"],
+            lines_of(town.host, "counters"),
+            lines_of(town.host, "guests"),
+        )
         status, log = town.host.ask("status"), lines_of(town.host, "log")
         if status["host"]["counters"]["looks"] == looks:
             break

@@ -19,7 +19,14 @@ TRASH = (GONE, None, True, -1, 1.5, 1 << 63, float("inf"), ESCAPES, "\ud800", []
 
 # Commands, and what of a host's answers is wrong.
 COMMANDS = {
-    "status": "status", "metrics": "status", "guest a": "guest", "add a": "add", "remove a": "remove", "budget": "budget", "floor": "floor", "log": "log",
+    "status": "status",
+    "metrics": "status",
+    "guest a": "guest",
+    "add a": "add",
+    "remove a": "remove",
+    "budget": "budget",
+    "floor": "floor",
+    "log": "log",
     "log -f": "event",
 }
 
@@ -31,9 +38,21 @@ def good(host, arrive):
     eventually(lambda: host.guest("a")["answers"] and host.ask("log")["decisions"])
     answers = {it: host.ask(it) for it in ("status", "budget", "floor")}
     log = host.ask("log", since=0, limit=1)
-    event = {"version": 1, "event": "decision", "number": 5, "time": 1e9, "decision": log["decisions"][0]}
+    event = {
+        "version": 1,
+        "event": "decision",
+        "number": 5,
+        "time": 1e9,
+        "decision": log["decisions"][0],
+    }
     guest = host.ask("guest", name="a")
-    return answers | {"guest": guest, "add": guest, "remove": {"version": 1, "ok": True}, "log": log, "event": event}
+    return answers | {
+        "guest": guest,
+        "add": guest,
+        "remove": {"version": 1, "ok": True},
+        "log": log,
+        "event": event,
+    }
 
 
 @pytest.fixture
@@ -58,7 +77,13 @@ def path(folder, answers):
 
 def places(value, before=()):
     """Yields the place of each part of an answer."""
-    parts = value.items() if isinstance(value, dict) else enumerate(value) if isinstance(value, list) else ()
+    parts = (
+        value.items()
+        if isinstance(value, dict)
+        else enumerate(value)
+        if isinstance(value, list)
+        else ()
+    )
     for key, it in parts:
         yield (*before, key)
         yield from places(it, (*before, key))
@@ -93,7 +118,9 @@ def is_plain(text):
 def test_each_part_of_an_answer_may_be_anything(capsys, good, answers, path, words, request_of):
     for place in places(good[request_of]):
         for trash in TRASH:
-            answers.clear(), answers.update(good), answers.update({request_of: changed(good[request_of], place, trash)})
+            answers.clear(), answers.update(good), answers.update(
+                {request_of: changed(good[request_of], place, trash)}
+            )
             status, said, fault = run(capsys, path, words)
             assert (status, fault.count("\n")) in ((0, 0), (4, 1)), (place, trash, fault)
             assert is_plain(said) and is_plain(fault), (place, trash, said, fault)
@@ -101,11 +128,19 @@ def test_each_part_of_an_answer_may_be_anything(capsys, good, answers, path, wor
 
 # A command, what it is answered in place of a good answer, and what it says then.
 LACKS = (
-    ("status", ("host", "budget"), GONE, "host.budget"), ("status", ("host", "version"), 5, "host.version"), ("status", ("guests",), {}, "guests"),
-    ("status", ("guests", 0, "held"), -1, "guests[0].held"), ("status", ("host", "measures", "waits", "counts"), [], "host.measures.waits"),
-    ("status", ("ok",), GONE, "ok"), ("status", ("ok",), 1, "ok"), ("status", ("ok",), False, "error"), ("guest a", ("guest", "terms", "most"), "none", "guest.terms.most"),
-    ("guest a", ("guest", "waits"), float("nan"), "guest.waits"), ("budget", ("budget",), True, "budget"),
-    ("log", ("decisions", 0, "shares", 0, "target"), None, "decisions[0].shares[0].target"), ("log -f", ("time",), 1e300, "time"),
+    ("status", ("host", "budget"), GONE, "host.budget"),
+    ("status", ("host", "version"), 5, "host.version"),
+    ("status", ("guests",), {}, "guests"),
+    ("status", ("guests", 0, "held"), -1, "guests[0].held"),
+    ("status", ("host", "measures", "waits", "counts"), [], "host.measures.waits"),
+    ("status", ("ok",), GONE, "ok"),
+    ("status", ("ok",), 1, "ok"),
+    ("status", ("ok",), False, "error"),
+    ("guest a", ("guest", "terms", "most"), "none", "guest.terms.most"),
+    ("guest a", ("guest", "waits"), float("nan"), "guest.waits"),
+    ("budget", ("budget",), True, "budget"),
+    ("log", ("decisions", 0, "shares", 0, "target"), None, "decisions[0].shares[0].target"),
+    ("log -f", ("time",), 1e300, "time"),
 )
 
 
@@ -114,7 +149,10 @@ def test_what_an_answer_lacks_is_said(capsys, good, answers, path, words, place,
     answers.update(good)
     answers[COMMANDS[words]] = changed(good[COMMANDS[words]], place, trash)
     status, _, fault = run(capsys, path, words)
-    assert (status, fault) == (4, f"bigvasta: {path}: the host's answer has no {lacks}, or a wrong one\n")
+    assert (status, fault) == (
+        4,
+        f"bigvasta: {path}: the host's answer has no {lacks}, or a wrong one\n",
+    )
 
 
 def test_an_older_host_is_understood(capsys, good, answers, path):
@@ -126,7 +164,13 @@ def test_an_older_host_is_understood(capsys, good, answers, path):
     assert run(capsys, path, "status")[0] == 0
 
 
-REFUSALS = ({"error": "x"}, {"error": {"code": 1, "text": "x"}}, {"error": {"code": "x"}}, {"error": {"code": "x", "text": "x", "field": 1}}, {"error": None})
+REFUSALS = (
+    {"error": "x"},
+    {"error": {"code": 1, "text": "x"}},
+    {"error": {"code": "x"}},
+    {"error": {"code": "x", "text": "x", "field": 1}},
+    {"error": None},
+)
 
 
 @pytest.mark.parametrize("refusal", REFUSALS)
@@ -137,7 +181,11 @@ def test_a_refusal_that_is_none(capsys, answers, path, refusal):
 
 
 def test_a_refusal_s_words_are_escaped(capsys, answers, path):
-    answers["budget"] = {"version": 1, "ok": False, "error": {"code": "refused", "field": "bytes", "text": ESCAPES}}
+    answers["budget"] = {
+        "version": 1,
+        "ok": False,
+        "error": {"code": "refused", "field": "bytes", "text": ESCAPES},
+    }
     assert run(capsys, path, "budget") == (1, "", "bigvasta: bytes: \\x1b]0;x\\x07\\u202e\\n\n")
 
 
@@ -147,7 +195,15 @@ def test_a_screen_is_drawn_without_escapes():
     assert screen.addnstr.call_args[0][2] == "\\x1b]0;x\\x07\\u202e\\n"
 
 
-@pytest.mark.parametrize("line", (b"[" * 100000, b'{"version": 1, "ok": true, "budget": ' + b"9" * 5000 + b"}", b"\xff", b"x" * (3 << 20)))
+@pytest.mark.parametrize(
+    "line",
+    (
+        b"[" * 100000,
+        b'{"version": 1, "ok": true, "budget": ' + b"9" * 5000 + b"}",
+        b"\xff",
+        b"x" * (3 << 20),
+    ),
+)
 def test_a_line_that_is_no_json(capsys, answers, path, line):
     answers["budget"] = line + b"\n"
     status, said, fault = run(capsys, path, "budget")
@@ -163,7 +219,9 @@ def test_one_limit_is_for_a_whole_answer(folder):
     """An answer that comes byte by byte, each of them in time, isn't waited for any longer."""
     fake = Fake(folder, lambda asked: drip(b" " * 1000, 0.2))
     begin = time.monotonic()
-    with pytest.raises(Unclear, match="the host doesn't answer in time"), Connection(fake.path, limit=1) as it:
+    with pytest.raises(Unclear, match="the host doesn't answer in time"), Connection(
+        fake.path, limit=1
+    ) as it:
         it.ask("budget")
     assert 1 <= time.monotonic() - begin < 20
     fake.close()

@@ -16,36 +16,74 @@ ALL = (1 << 32) - 1
 
 # What a number counts, and what is shown of it.
 UNITS = {
-    "pages": lambda it: it * PAGE, "kib": lambda it: it * KIB, "count": lambda it: it, "seconds": lambda it: it, "ms": lambda it: it / 1000,
-    "flag": lambda it: it, "text": lambda it: it, "word": lambda it: it.split("_")[-1].lower(), "limit": lambda it: None if it == ALL else it * PAGE,
-    "kernel": lambda it: {"NONE": None, "CGROUP": f"cgroup:{it['path']}", "TMPFS": f"tmpfs:{it['path']}"}[it["kind"].split("_")[1]],
+    "pages": lambda it: it * PAGE,
+    "kib": lambda it: it * KIB,
+    "count": lambda it: it,
+    "seconds": lambda it: it,
+    "ms": lambda it: it / 1000,
+    "flag": lambda it: it,
+    "text": lambda it: it,
+    "word": lambda it: it.split("_")[-1].lower(),
+    "limit": lambda it: None if it == ALL else it * PAGE,
+    "kernel": lambda it: {
+        "NONE": None,
+        "CGROUP": f"cgroup:{it['path']}",
+        "TMPFS": f"tmpfs:{it['path']}",
+    }[it["kind"].split("_")[1]],
 }
 
 
 def rows(unit, words):
     """Returns rows of one unit: a member's name and where an answer has it, `counters.` before it where it is there."""
-    return {name: (place or name, unit) for name, _, place in (it.partition("=") for it in words.split())}
+    return {
+        name: (place or name, unit)
+        for name, _, place in (it.partition("=") for it in words.split())
+    }
 
 
 TERMS = {
-    **rows("pages", "least overhead"), **rows("limit", "most"), **rows("count", "priority"), **rows("flag", "strict"), **rows("kernel", "limit"),
+    **rows("pages", "least overhead"),
+    **rows("limit", "most"),
+    **rows("count", "priority"),
+    **rows("flag", "strict"),
+    **rows("kernel", "limit"),
 }
 COUNTERS_IN_PAGES = "granted inflated deflated reported taken discarded skipped"
 COUNTERS = "limit_failures statistics told chains kicks clients lost"
 GUEST = {
-    **rows("text", "name path=socket version"), **rows("count", "process"), **rows("word", "state waits_for"), **rows("kib", "held_kib=held"),
-    **rows("pages", "pages=memory loan excess asked limit target ballooned actual free available spare"),
-    **rows("flag", "answers reports cooperates"), **rows("seconds", "waits silent process_silent"),
+    **rows("text", "name path=socket version"),
+    **rows("count", "process"),
+    **rows("word", "state waits_for"),
+    **rows("kib", "held_kib=held"),
+    **rows(
+        "pages", "pages=memory loan excess asked limit target ballooned actual free available spare"
+    ),
+    **rows("flag", "answers reports cooperates"),
+    **rows("seconds", "waits silent process_silent"),
     **rows("pages", " ".join(f"{it}=counters.{it}" for it in COUNTERS_IN_PAGES.split())),
     **rows("count", " ".join(f"{it}=counters.{it}" for it in COUNTERS.split())),
 }
 HOST = {
-    **rows("text", "folder"), **rows("count", "guests step waiting silent uncooperative"), **rows("pages", "budget floor lent short_by=missing"),
-    **rows("kib", "held_kib=held peak_kib=counters.peak"), **rows("flag", "strict"), **rows("ms", "period"),
-    **rows("count", " ".join(f"{it}=counters.{it}" for it in "looks above decisions changed shorts admitted refused gone dropped".split())),
+    **rows("text", "folder"),
+    **rows("count", "guests step waiting silent uncooperative"),
+    **rows("pages", "budget floor lent short_by=missing"),
+    **rows("kib", "held_kib=held peak_kib=counters.peak"),
+    **rows("flag", "strict"),
+    **rows("ms", "period"),
+    **rows(
+        "count",
+        " ".join(
+            f"{it}=counters.{it}"
+            for it in "looks above decisions changed shorts admitted refused gone dropped".split()
+        ),
+    ),
 }
 SHARE = rows("text", "name=guest") | rows("pages", "old target")
-DECISION = {**rows("ms", "at=seconds"), **rows("word", "reason"), **rows("pages", "frames=budget floor missing")}
+DECISION = {
+    **rows("ms", "at=seconds"),
+    **rows("word", "reason"),
+    **rows("pages", "frames=budget floor missing"),
+}
 BOUNDS = [0.001, 0.005, 0.02, 0.1, 0.5, 2, 10]
 GONE, UNGRANTED = ("left", "refused", "removed", "died"), ("refused", "withdrawn")
 
@@ -57,7 +95,11 @@ def shown(values, table):
     for name, (place, unit) in table.items():
         *within, last = place.split(".")
         (answer["counters"] if within else answer)[last] = UNITS[unit](values[name])
-    return answer if answer["counters"] else {it: value for it, value in answer.items() if it != "counters"}
+    return (
+        answer
+        if answer["counters"]
+        else {it: value for it, value in answer.items() if it != "counters"}
+    )
 
 
 def shown_guest(guest):
@@ -68,8 +110,14 @@ def shown_guest(guest):
 
 def shown_host(made, phase):
     """Returns what is shown of the host."""
-    measures = {name: it | {"bounds": BOUNDS} if isinstance(it, dict) else it for name, it in made.measures.items()}
-    measures |= {"gone": dict(zip(GONE, made.measures["gone"])), "ungranted": dict(zip(UNGRANTED, made.measures["ungranted"][1:]))}
+    measures = {
+        name: it | {"bounds": BOUNDS} if isinstance(it, dict) else it
+        for name, it in made.measures.items()
+    }
+    measures |= {
+        "gone": dict(zip(GONE, made.measures["gone"])),
+        "ungranted": dict(zip(UNGRANTED, made.measures["ungranted"][1:])),
+    }
     sockets = dict(zip(("control", "status"), made.counters))
     return shown(made.hosts[phase], HOST) | {"version": version(), "measures": measures, **sockets}
 
@@ -82,9 +130,11 @@ def shown_decision(made, phase):
     about = its.pop("who") if its["reason"] == "BY_SPARE" else ""
     told = {name: its[name] for name in DECISION}
     return shown(told, DECISION) | {
-        "number": made.hosts[phase]["decisions"] - 1, "guest": about,
+        "number": made.hosts[phase]["decisions"] - 1,
+        "guest": about,
         "shares": [
-            shown({name: share[name] for name in SHARE}, SHARE) | {"memory": need["pages"] * PAGE, "spare": need["spare"] * PAGE}
+            shown({name: share[name] for name in SHARE}, SHARE)
+            | {"memory": need["pages"] * PAGE, "spare": need["spare"] * PAGE}
             for share, need in zip(shares, needs)
         ],
     }
@@ -94,8 +144,13 @@ def differences(found, wanted):
     """Returns what isn't as it is wanted, by its name: what was found, and what should have been."""
     if not isinstance(found, dict) or not isinstance(wanted, dict):
         return {} if found == wanted else {"": (found, wanted)}
-    inner = {name: differences(found.get(name, "none"), wanted.get(name, "none")) for name in found.keys() | wanted.keys()}
-    return {f"{name}.{it}".strip("."): value for name, its in inner.items() for it, value in its.items()}
+    inner = {
+        name: differences(found.get(name, "none"), wanted.get(name, "none"))
+        for name in found.keys() | wanted.keys()
+    }
+    return {
+        f"{name}.{it}".strip("."): value for name, its in inner.items() for it, value in its.items()
+    }
 
 
 @pytest.fixture(scope="module")
@@ -134,23 +189,45 @@ def test_each_field_of_a_decision(made, host):
         log = host.ask("log", since=made[0].hosts[phase]["decisions"] - 1)
         assert differences(log["decisions"][0], shown_decision(made[0], phase)) == {}
         assert (log["next"], log["lost"]) == (made[0].hosts[phase]["decisions"], 0)
-        assert host.ask("log", since=3, limit=1)["lost"] == made[0].hosts[phase]["decisions"] - 2 - 3
+        assert (
+            host.ask("log", since=3, limit=1)["lost"] == made[0].hosts[phase]["decisions"] - 2 - 3
+        )
 
 
 def test_each_field_of_an_event(made, host):
     """From one phase to the next: what each guest does, by its states, flags and waits in made.py."""
     ends, budget = [it["ended"] for it in made[0].guests[1]], made[0].hosts[1]["budget"] * PAGE
-    state = {it: {"event": "state", "state": it} for it in ("coming", "waiting", "starting", "ready", "leaving")}
-    ended = [{"event": UNITS["word"](it["how"]), "waits_for": UNITS["word"](it["what"]), "waits": it["seconds"]} for it in ends]
+    state = {
+        it: {"event": "state", "state": it}
+        for it in ("coming", "waiting", "starting", "ready", "leaving")
+    }
+    ended = [
+        {
+            "event": UNITS["word"](it["how"]),
+            "waits_for": UNITS["word"](it["what"]),
+            "waits": it["seconds"],
+        }
+        for it in ends
+    ]
     waits = {it: {"event": "waits", "waits_for": it} for it in ("room", "deflate", "reset")}
     about = (
         ({"event": "arrived"}, state["coming"], waits["room"], {"event": "uncooperative"}),
         (ended[1], state["waiting"], waits["deflate"]),
-        (ended[2], state["starting"], waits["reset"], {"event": "uncooperative"}, {"event": "answers"}),
-        (ended[3], state["ready"]), (state["leaving"], {"event": "silent"}), ({"event": "gone"},),
+        (
+            ended[2],
+            state["starting"],
+            waits["reset"],
+            {"event": "uncooperative"},
+            {"event": "answers"},
+        ),
+        (ended[3], state["ready"]),
+        (state["leaving"], {"event": "silent"}),
+        ({"event": "gone"},),
     )
     wanted = [{"event": "budget", "budget": budget}]
-    wanted += [its | {"guest": f"guest-{number}"} for number, events in enumerate(about) for its in events]
+    wanted += [
+        its | {"guest": f"guest-{number}"} for number, events in enumerate(about) for its in events
+    ]
     wanted.append({"event": "decision", "decision": shown_decision(made[0], 1)})
     with Connection(host.control) as follower:
         events = follower.follow()
@@ -158,30 +235,62 @@ def test_each_field_of_an_event(made, host):
         found = list(itertools.islice(events, len(wanted)))
     first, begin = found[0]["number"], found[0]["time"]
     for number, (it, its) in enumerate(zip(found, wanted)):
-        assert (it.pop("version"), it.pop("number"), it.pop("time") - begin < 20) == (1, first + number, True)
+        assert (it.pop("version"), it.pop("number"), it.pop("time") - begin < 20) == (
+            1,
+            first + number,
+            True,
+        )
         assert differences(it, its) == {}, (it, its)
 
 
 # Metrics by what a status has: of the host, of each guest that isn't absent, of each guest.
 METRICS = {
-    "budget_bytes": "budget", "floor_bytes": "floor", "held_bytes": "held", "lent_bytes": "lent", "missing_bytes": "missing",
-    "held_peak_bytes": "counters.peak", "guests": "guests", "guests_waiting": "waiting", "guests_silent": "silent",
-    "guests_uncooperative": "uncooperative", "looks_total": "counters.looks", "looks_above_budget_total": "counters.above",
-    "decisions_total": "counters.decisions", "targets_changed_total": "counters.changed", "decisions_short_total": "counters.shorts",
-    "guests_admitted_total": "counters.admitted", "guests_refused_total": "counters.refused", "lines_dropped_total": "counters.dropped",
+    "budget_bytes": "budget",
+    "floor_bytes": "floor",
+    "held_bytes": "held",
+    "lent_bytes": "lent",
+    "missing_bytes": "missing",
+    "held_peak_bytes": "counters.peak",
+    "guests": "guests",
+    "guests_waiting": "waiting",
+    "guests_silent": "silent",
+    "guests_uncooperative": "uncooperative",
+    "looks_total": "counters.looks",
+    "looks_above_budget_total": "counters.above",
+    "decisions_total": "counters.decisions",
+    "targets_changed_total": "counters.changed",
+    "decisions_short_total": "counters.shorts",
+    "guests_admitted_total": "counters.admitted",
+    "guests_refused_total": "counters.refused",
+    "lines_dropped_total": "counters.dropped",
     "above_budget_seconds_total": "measures.above",
 }
 OF_SOCKETS = {
-    "clients": "clients", "clients_accepted_total": "accepted", "clients_dropped_total": "dropped", "clients_turned_away_total": "turned_away",
-    "requests_total": "requests", "requests_refused_total": "refused",
+    "clients": "clients",
+    "clients_accepted_total": "accepted",
+    "clients_dropped_total": "dropped",
+    "clients_turned_away_total": "turned_away",
+    "requests_total": "requests",
+    "requests_refused_total": "refused",
 }
 OF_GUESTS_HERE = {
-    **{f"{it}_bytes": it for it in "memory held loan asked excess limit target ballooned free available spare".split()},
-    "silent_seconds": "silent", "process_silent_seconds": "process_silent", "waiting_seconds": "waits", "cooperates": "cooperates",
+    **{
+        f"{it}_bytes": it
+        for it in "memory held loan asked excess limit target ballooned free available spare".split()
+    },
+    "silent_seconds": "silent",
+    "process_silent_seconds": "process_silent",
+    "waiting_seconds": "waits",
+    "cooperates": "cooperates",
 }
 OF_GUESTS = {
-    **{f"{it}_bytes_total": f"counters.{it}" for it in "inflated deflated reported taken granted".split()},
-    "clients_total": "counters.clients", "messages_lost_total": "counters.lost", "limit_failures_total": "counters.limit_failures",
+    **{
+        f"{it}_bytes_total": f"counters.{it}"
+        for it in "inflated deflated reported taken granted".split()
+    },
+    "clients_total": "counters.clients",
+    "messages_lost_total": "counters.lost",
+    "limit_failures_total": "counters.limit_failures",
 }
 HISTOGRAMS = {"wait": "waits", "decision": "decisions", "loop": "turns"}
 
@@ -196,29 +305,57 @@ def found_in(answer, place):
 def histogram(name, durations):
     """Returns the metrics of durations: each bucket has those before it, too."""
     counts = list(itertools.accumulate(durations["counts"]))
-    buckets = {f'bigvasta_{name}_seconds_bucket{{le="{bound}"}}': it for bound, it in zip((*map(float, BOUNDS), "+Inf"), counts)}
-    return buckets | {f"bigvasta_{name}_seconds_count": counts[-1], f"bigvasta_{name}_seconds_sum": durations["sum"]}
+    buckets = {
+        f'bigvasta_{name}_seconds_bucket{{le="{bound}"}}': it
+        for bound, it in zip((*map(float, BOUNDS), "+Inf"), counts)
+    }
+    return buckets | {
+        f"bigvasta_{name}_seconds_count": counts[-1],
+        f"bigvasta_{name}_seconds_sum": durations["sum"],
+    }
 
 
 def metrics_of(host, guests):
     """Returns each metric of a status."""
     wanted = {f"bigvasta_{name}": found_in(host, place) for name, place in METRICS.items()}
     for it in ("control", "status"):
-        wanted |= {f'bigvasta_control_{name}{{socket="{it}"}}': found_in(host[it], place) for name, place in OF_SOCKETS.items()}
+        wanted |= {
+            f'bigvasta_control_{name}{{socket="{it}"}}': found_in(host[it], place)
+            for name, place in OF_SOCKETS.items()
+        }
     for guest in guests:
         label = f'{{guest="{guest["name"]}"}}'
-        wanted |= {f"bigvasta_guest_{name}{label}": found_in(guest, place) for name, place in OF_GUESTS.items()}
+        wanted |= {
+            f"bigvasta_guest_{name}{label}": found_in(guest, place)
+            for name, place in OF_GUESTS.items()
+        }
         if guest["state"] == "absent":
             continue
-        wanted |= {f"bigvasta_guest_{name}{label}": found_in(guest, place) for name, place in OF_GUESTS_HERE.items()}
+        wanted |= {
+            f"bigvasta_guest_{name}{label}": found_in(guest, place)
+            for name, place in OF_GUESTS_HERE.items()
+        }
         flags = {"ready": guest["state"] == "ready", "is_waiting": guest["waits_for"] != "nothing"}
         wanted |= {f"bigvasta_guest_{name}{label}": it for name, it in flags.items()}
-        wanted[f'bigvasta_guest_process_info{{guest="{guest["name"]}",version="{guest["version"]}"}}'] = 1
+        wanted[
+            f'bigvasta_guest_process_info{{guest="{guest["name"]}",version="{guest["version"]}"}}'
+        ] = 1
     for name, its in HISTOGRAMS.items():
         wanted |= histogram(name, host["measures"][its])
-    for name, label, its in ("guest_gone", "reason", "gone"), ("waits_ungranted", "end", "ungranted"):
-        wanted |= {f'bigvasta_{name}_total{{{label}="{it}"}}': value for it, value in host["measures"][its].items()}
-    its = {"up": 1, f'build_info{{core="{version()}",version="{version()}"}}': 1, "grants_total": sum(host["measures"]["waits"]["counts"])}
+    for name, label, its in ("guest_gone", "reason", "gone"), (
+        "waits_ungranted",
+        "end",
+        "ungranted",
+    ):
+        wanted |= {
+            f'bigvasta_{name}_total{{{label}="{it}"}}': value
+            for it, value in host["measures"][its].items()
+        }
+    its = {
+        "up": 1,
+        f'build_info{{core="{version()}",version="{version()}"}}': 1,
+        "grants_total": sum(host["measures"]["waits"]["counts"]),
+    }
     return wanted | {f"bigvasta_{name}": it for name, it in its.items()}
 
 
@@ -227,7 +364,9 @@ def test_each_metric(made, host):
     for phase in range(2):
         host.ask("floor", bytes=phase * PAGE)
         ran = bigvasta(host.control, "metrics")
-        wanted = metrics_of(shown_host(made[0], phase), [shown_guest(it) for it in made[0].guests[phase]])
+        wanted = metrics_of(
+            shown_host(made[0], phase), [shown_guest(it) for it in made[0].guests[phase]]
+        )
         assert differences(values(ran.stdout), wanted) == {}
 
 
@@ -242,16 +381,41 @@ def test_each_column_and_each_line(made, host):
     sums = {it: mebibytes(its[it]) for it in ("budget", "held", "lent", "missing")}
     counts = ", ".join(f"{its[it]} {it}" for it in ("waiting", "silent", "uncooperative"))
     head, columns, *rest = bigvasta(host.control, "status").stdout.splitlines()
-    assert head == ", ".join(f"{name} {it}" for name, it in sums.items()) + f" MiB; 6 guests, {counts}; version {version()}"
-    assert columns.split() == ["guest", "state", "memory", "held", "loan", "target", "balloon", "spare", "waits", "for"]
+    assert (
+        head
+        == ", ".join(f"{name} {it}" for name, it in sums.items())
+        + f" MiB; 6 guests, {counts}; version {version()}"
+    )
+    assert columns.split() == [
+        "guest",
+        "state",
+        "memory",
+        "held",
+        "loan",
+        "target",
+        "balloon",
+        "spare",
+        "waits",
+        "for",
+    ]
     for guest, line in zip(guests, rest):
-        wanted = [guest["name"], guest["state"], *words_of(guest, "memory held loan target ballooned spare")]
+        wanted = [
+            guest["name"],
+            guest["state"],
+            *words_of(guest, "memory held loan target ballooned spare"),
+        ]
         assert line.split()[: len(wanted)] == wanted
     head, *rest = [it.text for it in picture(status, 200, 24, Shown())]
     promised = mebibytes(sum(it["memory"] for it in guests))
-    assert head == f"budget {sums['budget']}  held {sums['held']}  lent {sums['lent']}  promised {promised}  missing {sums['missing']} MiB"
+    assert (
+        head
+        == f"budget {sums['budget']}  held {sums['held']}  lent {sums['lent']}  promised {promised}  missing {sums['missing']} MiB"
+    )
     for guest, line in zip(guests, rest[4:]):
-        assert line.startswith(f"{guest['name']:<12}" + "".join(f"{it:>7}" for it in words_of(guest, "held loan target spare")))
+        assert line.startswith(
+            f"{guest['name']:<12}"
+            + "".join(f"{it:>7}" for it in words_of(guest, "held loan target spare"))
+        )
 
 
 def test_each_line_of_a_guest(made, host):
@@ -259,9 +423,25 @@ def test_each_line_of_a_guest(made, host):
     for guest in host.ask("status")["guests"]:
         terms = guest["terms"]
         most = ["none"] if terms["most"] is None else [mebibytes(terms["most"]), "MiB"]
-        lines = [it.split() for it in bigvasta(host.control, "guest", guest["name"]).stdout.splitlines()]
+        lines = [
+            it.split() for it in bigvasta(host.control, "guest", guest["name"]).stdout.splitlines()
+        ]
         wanted = [[name, it, "MiB"] for name, it in zip(sizes.split(), words_of(guest, sizes))]
-        wanted += [["least", mebibytes(terms["least"]), "MiB"], ["most", *most], ["priority", str(terms["priority"])]]
-        wanted += [["strict", "yes" if terms["strict"] else "no"], ["overhead", mebibytes(terms["overhead"]), "MiB"]]
-        wanted += [["limit", mebibytes(guest["limit"]), "MiB,", "by", terms["limit"]]] if terms["limit"] else []
-        assert lines[0] == f"{guest['name']}: {guest['state']}, at {guest['socket']}".split() and lines[1 : len(wanted) + 1] == wanted, lines
+        wanted += [
+            ["least", mebibytes(terms["least"]), "MiB"],
+            ["most", *most],
+            ["priority", str(terms["priority"])],
+        ]
+        wanted += [
+            ["strict", "yes" if terms["strict"] else "no"],
+            ["overhead", mebibytes(terms["overhead"]), "MiB"],
+        ]
+        wanted += (
+            [["limit", mebibytes(guest["limit"]), "MiB,", "by", terms["limit"]]]
+            if terms["limit"]
+            else []
+        )
+        assert (
+            lines[0] == f"{guest['name']}: {guest['state']}, at {guest['socket']}".split()
+            and lines[1 : len(wanted) + 1] == wanted
+        ), lines

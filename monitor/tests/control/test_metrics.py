@@ -23,12 +23,21 @@ PAGE, MIB = 4096, 1 << 20
 # Pages that a driver gives: of its second region, which has no rings.
 GIVEN = [REGIONS[1][0] // PAGE + it for it in range(20)]
 
-pytestmark = pytest.mark.skipif(not shutil.which("promtool"), reason="promtool isn't there: apt-get install prometheus")
+pytestmark = pytest.mark.skipif(
+    not shutil.which("promtool"), reason="promtool isn't there: apt-get install prometheus"
+)
 
 
 def promtool(*words, text=None, folder=None):
     """Runs promtool; returns what it said."""
-    ran = subprocess.run(["promtool", *words], input=text, capture_output=True, text=True, timeout=PATIENCE, cwd=folder)
+    ran = subprocess.run(
+        ["promtool", *words],
+        input=text,
+        capture_output=True,
+        text=True,
+        timeout=PATIENCE,
+        cwd=folder,
+    )
     assert ran.returncode == 0 and "error" not in (ran.stdout + ran.stderr).lower(), ran
     return ran.stdout + ran.stderr
 
@@ -46,10 +55,18 @@ def test_metrics_without_a_remark(host, arrive):
     assert (ran.returncode, promtool("check", "metrics", text=ran.stdout)) == (0, "")
     found = values(ran.stdout)
     wanted = {
-        "bigvasta_up": 1, "bigvasta_budget_bytes": 480 * MIB, "bigvasta_floor_bytes": 12 * MIB, "bigvasta_held_bytes": 128 * PAGE,
-        "bigvasta_guests": 1, "bigvasta_guests_admitted_total": 1, 'bigvasta_guest_memory_bytes{guest="web-1"}': 128 * PAGE,
-        'bigvasta_guest_held_bytes{guest="web-1"}': 128 * PAGE, 'bigvasta_guest_free_bytes{guest="web-1"}': 60 * PAGE,
-        'bigvasta_guest_target_bytes{guest="web-1"}': 0, 'bigvasta_guest_cooperates{guest="web-1"}': 1, 'bigvasta_guest_ready{guest="web-1"}': 1,
+        "bigvasta_up": 1,
+        "bigvasta_budget_bytes": 480 * MIB,
+        "bigvasta_floor_bytes": 12 * MIB,
+        "bigvasta_held_bytes": 128 * PAGE,
+        "bigvasta_guests": 1,
+        "bigvasta_guests_admitted_total": 1,
+        'bigvasta_guest_memory_bytes{guest="web-1"}': 128 * PAGE,
+        'bigvasta_guest_held_bytes{guest="web-1"}': 128 * PAGE,
+        'bigvasta_guest_free_bytes{guest="web-1"}': 60 * PAGE,
+        'bigvasta_guest_target_bytes{guest="web-1"}': 0,
+        'bigvasta_guest_cooperates{guest="web-1"}': 1,
+        'bigvasta_guest_ready{guest="web-1"}': 1,
     }
     assert {it: found.get(it) for it in wanted} == wanted
     with open(os.path.join(ROOT, "VERSION"), encoding="utf-8") as file:
@@ -67,13 +84,24 @@ def test_what_the_host_measures(host, arrive):
     refused.client.socket.sendall(b"\xff" * 12)
     host.ask("remove", name="removed")
     wanted = {"left": 1, "refused": 1, "removed": 1, "died": 0}
-    eventually(lambda: host.status()["measures"]["gone"] == wanted, lambda: host.status()["measures"])
+    eventually(
+        lambda: host.status()["measures"]["gone"] == wanted, lambda: host.status()["measures"]
+    )
     found = values(bigvasta(host.control, "metrics").stdout)
     assert {it: found[f'bigvasta_guest_gone_total{{reason="{it}"}}'] for it in wanted} == wanted
-    assert found["bigvasta_above_budget_seconds_total"] >= 0.4 and found["bigvasta_grants_total"] == found["bigvasta_wait_seconds_count"]
+    assert (
+        found["bigvasta_above_budget_seconds_total"] >= 0.4
+        and found["bigvasta_grants_total"] == found["bigvasta_wait_seconds_count"]
+    )
     for name in "loop", "decision", "wait":
-        counts = [found[f'bigvasta_{name}_seconds_bucket{{le="{it}"}}'] for it in ("0.001", "0.005", "0.02", "0.1", "0.5", "2.0", "10.0", "+Inf")]
-        assert counts == sorted(counts) and counts[-1] == found[f"bigvasta_{name}_seconds_count"], (name, counts)
+        counts = [
+            found[f'bigvasta_{name}_seconds_bucket{{le="{it}"}}']
+            for it in ("0.001", "0.005", "0.02", "0.1", "0.5", "2.0", "10.0", "+Inf")
+        ]
+        assert counts == sorted(counts) and counts[-1] == found[f"bigvasta_{name}_seconds_count"], (
+            name,
+            counts,
+        )
         assert name == "wait" or (counts[-1] > 0 and found[f"bigvasta_{name}_seconds_sum"] > 0)
     for it in refused, removed:
         it.stop()
@@ -105,7 +133,17 @@ def get(port, path):
 def exporter(host):
     """`bigvasta metrics` of the host, and its port."""
     port = free_port()
-    words = ["/usr/bin/python3", "-B", "-m", "bigvasta", "metrics", "--listen", f"localhost:{port}", "--control", host.control]
+    words = [
+        "/usr/bin/python3",
+        "-B",
+        "-m",
+        "bigvasta",
+        "metrics",
+        "--listen",
+        f"localhost:{port}",
+        "--control",
+        host.control,
+    ]
     with subprocess.Popen(words, env={**os.environ, "PYTHONPATH": CLIENT}) as it:
         eventually(lambda: get(port, "/metrics"))
         yield port
@@ -114,7 +152,10 @@ def exporter(host):
 
 def test_a_port_that_somebody_has(host, exporter):
     ran = bigvasta(host.control, "metrics", "--listen", f"localhost:{exporter}")
-    assert (ran.returncode, ran.stderr) == (3, f"bigvasta: --listen: localhost:{exporter}: Address already in use\n")
+    assert (ran.returncode, ran.stderr) == (
+        3,
+        f"bigvasta: --listen: localhost:{exporter}: Address already in use\n",
+    )
 
 
 CONFIGURATION = """global: {{scrape_interval: 1s, evaluation_interval: 1s}}
@@ -132,9 +173,16 @@ def prometheus(exporter, tmp_path):
         rules = [it for it in file if "for:" not in it]
     quick = "".join(rules).replace("silent_seconds > 30", "silent_seconds > 1")
     (tmp_path / "rules.yml").write_text(quick)
-    (tmp_path / "prometheus.yml").write_text(CONFIGURATION.format(rules=tmp_path / "rules.yml", port=exporter))
+    (tmp_path / "prometheus.yml").write_text(
+        CONFIGURATION.format(rules=tmp_path / "rules.yml", port=exporter)
+    )
     port = free_port()
-    words = ["prometheus", f"--config.file={tmp_path}/prometheus.yml", f"--storage.tsdb.path={tmp_path}/data", f"--web.listen-address=localhost:{port}"]
+    words = [
+        "prometheus",
+        f"--config.file={tmp_path}/prometheus.yml",
+        f"--storage.tsdb.path={tmp_path}/data",
+        f"--web.listen-address=localhost:{port}",
+    ]
     with open(tmp_path / "log", "wb") as log, subprocess.Popen(words, stdout=log, stderr=log) as it:
         eventually(lambda: get(port, "/-/ready"), lambda: (tmp_path / "log").read_text()[-2000:])
         yield port
@@ -144,7 +192,11 @@ def prometheus(exporter, tmp_path):
 def alerts(port):
     """Returns the alerts that fire, with the guest that each is about."""
     answer = json.loads(get(port, "/api/v1/alerts"))["data"]["alerts"]
-    return {(it["labels"]["alertname"], it["labels"].get("guest", "")) for it in answer if it["state"] == "firing"}
+    return {
+        (it["labels"]["alertname"], it["labels"].get("guest", ""))
+        for it in answer
+        if it["state"] == "firing"
+    }
 
 
 def test_a_real_prometheus_scrapes_and_its_alerts_fire(host, arrive, prometheus):
@@ -172,7 +224,10 @@ def test_a_real_prometheus_scrapes_and_its_alerts_fire(host, arrive, prometheus)
     eventually(lambda: host.guest("web-1")["ballooned"] == len(GIVEN) * PAGE)
     host.ask("guest", name="web-1", target=len(GIVEN) * PAGE)
     guest.client.post_pages(DEFLATE, GIVEN[:10])
-    eventually(lambda: alerts(prometheus) == {silent, ("BigvastaGuestUncooperative", "web-1")}, lambda: (alerts(prometheus), host.guest("web-1")))
+    eventually(
+        lambda: alerts(prometheus) == {silent, ("BigvastaGuestUncooperative", "web-1")},
+        lambda: (alerts(prometheus), host.guest("web-1")),
+    )
     # The host goes.
     assert host.end() == 0
     eventually(lambda: ("BigvastaAway", "") in alerts(prometheus), lambda: alerts(prometheus))
@@ -191,19 +246,29 @@ def test_days_that_the_planner_reads(host, arrive, prometheus, tmp_path):
     eventually(lambda: host.guest("web-1")["answers"])
     coming = socket.socket(socket.AF_UNIX)
     coming.connect(host.ask("add", name="web-2")["guest"]["socket"])
-    eventually(lambda: get(prometheus, "/api/v1/query?query=bigvasta_guest_memory_bytes==0").count("web-2"))
+    eventually(
+        lambda: get(prometheus, "/api/v1/query?query=bigvasta_guest_memory_bytes==0").count("web-2")
+    )
     begin = time.time()
 
     def answer(query):
-        words = urllib.parse.urlencode({"query": query, "step": 1, "start": begin, "end": time.time()})
+        words = urllib.parse.urlencode(
+            {"query": query, "step": 1, "start": begin, "end": time.time()}
+        )
         text = get(prometheus, f"/api/v1/query_range?{words}")
         return text if len(json.loads(text)["data"]["result"][0]["values"]) > 1 else None
 
     (tmp_path / "day.json").write_text(eventually(lambda: answer(day)))
     unused = host.guest("web-1")["available"] + host.guest("web-1")["ballooned"]
-    found = [(it.name, it.pages, it.uses[-1].pages) for it in reading.read(str(tmp_path / "day.json")).guests]
+    found = [
+        (it.name, it.pages, it.uses[-1].pages)
+        for it in reading.read(str(tmp_path / "day.json")).guests
+    ]
     assert found == [("web-1", 128, 128 - unused // PAGE)]
     (tmp_path / "lending.json").write_text(eventually(lambda: answer(lending_day)))
     for moment in lending.read_lending(str(tmp_path / "lending.json")):
-        assert (moment.frames, moment.guests["web-1"]) == (480 * MIB // PAGE, lending.Look(128, 128, 0, 128, 0.0))
+        assert (moment.frames, moment.guests["web-1"]) == (
+            480 * MIB // PAGE,
+            lending.Look(128, 128, 0, 128, 0.0),
+        )
     coming.close()

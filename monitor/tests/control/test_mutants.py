@@ -30,9 +30,26 @@ HERE = os.path.dirname(os.path.realpath(__file__))
 
 @pytest.mark.parametrize("name", [pytest.param(it, marks=pytest.mark.wrong(it)) for it in WRONG])
 def test_a_wrong_host_is_refused(wrong_program, name):
-    words = [sys.executable, "-m", "pytest", "-q", "-x", "--tb=short", "-o", "timeout=60", os.path.join(HERE, WRONG[name])]
-    environment = {**os.environ, "CONTROL_WRONG": name, "HOST_PROGRAM": wrong_program, "PATIENCE": "20"}
+    words = [
+        sys.executable,
+        "-m",
+        "pytest",
+        "-q",
+        "-x",
+        "--tb=short",
+        "-o",
+        "timeout=60",
+        os.path.join(HERE, WRONG[name]),
+    ]
+    environment = {
+        **os.environ,
+        "CONTROL_WRONG": name,
+        "HOST_PROGRAM": wrong_program,
+        "PATIENCE": "20",
+    }
     ran = subprocess.run(words, env=environment, capture_output=True, text=True, timeout=200)
     faults = [it for it in ran.stdout.splitlines() if it.startswith("E  ")]
-    assert ran.returncode == 1 and faults, f"{WRONG[name]} passes: {ran.stdout[-500:]}{ran.stderr[-200:]}"
+    assert (
+        ran.returncode == 1 and faults
+    ), f"{WRONG[name]} passes: {ran.stdout[-500:]}{ran.stderr[-200:]}"
     print(f"{name} is refused by {WRONG[name]}: {faults[0][4:]}")

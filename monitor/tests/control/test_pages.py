@@ -33,17 +33,38 @@ def test_pages_are_well_formed(name):
     if not shutil.which("man"):
         pytest.skip("man isn't there: apt-get install man-db")
     words = ["man", "--warnings", "-E", "UTF-8", "-l", "-Tutf8", "-Z", f"{MAN}/{name}"]
-    ran = subprocess.run(words, capture_output=True, text=True, timeout=PATIENCE, env={**os.environ, "MANROFFSEQ": "", "MANWIDTH": "80", "LC_ALL": "C.UTF-8"})
+    ran = subprocess.run(
+        words,
+        capture_output=True,
+        text=True,
+        timeout=PATIENCE,
+        env={**os.environ, "MANROFFSEQ": "", "MANWIDTH": "80", "LC_ALL": "C.UTF-8"},
+    )
     assert (ran.returncode, ran.stderr) == (0, "")
 
 
 @pytest.mark.parametrize("name", ("bigvasta-host.conf.5", "vhost_user_host.1"))
 def test_the_period_has_the_bounds_that_its_page_says(program, folder, name):
     least, most = re.search(r"from (\d+) to (\d+)", page(name)).groups()
-    for period, status in ((int(least) - 1, 2), (int(least), 0), (int(most), 0), (int(most) + 1, 2)):
+    for period, status in (
+        (int(least) - 1, 2),
+        (int(least), 0),
+        (int(most), 0),
+        (int(most) + 1, 2),
+    ):
         (folder / "host.conf").write_text(f"[host]\nperiod = {period}\n")
-        words = ["--period", str(period)] if name.endswith(".1") else ["--config", f"{folder}/host.conf"]
-        ran = subprocess.run([program, str(folder), "--budget", "480", *words], input="quit\n", capture_output=True, text=True, timeout=PATIENCE)
+        words = (
+            ["--period", str(period)]
+            if name.endswith(".1")
+            else ["--config", f"{folder}/host.conf"]
+        )
+        ran = subprocess.run(
+            [program, str(folder), "--budget", "480", *words],
+            input="quit\n",
+            capture_output=True,
+            text=True,
+            timeout=PATIENCE,
+        )
         assert ran.returncode == status, (period, ran)
 
 
@@ -61,7 +82,10 @@ def test_what_the_page_of_the_client_shows(host, folder):
     for (program, *words), lines in shown:
         assert program == "bigvasta"
         ran = subprocess.run(
-            ["/usr/bin/python3", "-B", "-m", "bigvasta", *words], capture_output=True, text=True, timeout=PATIENCE,
+            ["/usr/bin/python3", "-B", "-m", "bigvasta", *words],
+            capture_output=True,
+            text=True,
+            timeout=PATIENCE,
             env={**os.environ, "PYTHONPATH": CLIENT, "BIGVASTA_CONTROL": host.control},
         )
         assert (ran.returncode, ran.stderr) == (0, ""), (words, ran)
@@ -69,7 +93,7 @@ def test_what_the_page_of_the_client_shows(host, folder):
 
 
 def test_what_the_page_of_the_host_shows(program, folder):
-    ((name, *words), lines), = examples("vhost_user_host.1")
+    (((name, *words), lines),) = examples("vhost_user_host.1")
     assert name == "vhost_user_host"
     said = [it.replace("/run/bigvasta", str(folder)) for it in words]
     said[said.index("bigvasta")] = "root"
@@ -79,14 +103,23 @@ def test_what_the_page_of_the_host_shows(program, folder):
 
 
 def test_what_the_page_of_the_backend_shows(program):
-    ((name, *words), lines), = examples("vhost_user_balloon.1")
-    ran = subprocess.run([os.path.join(os.path.dirname(program), name), *words], capture_output=True, text=True, timeout=PATIENCE)
+    (((name, *words), lines),) = examples("vhost_user_balloon.1")
+    ran = subprocess.run(
+        [os.path.join(os.path.dirname(program), name), *words],
+        capture_output=True,
+        text=True,
+        timeout=PATIENCE,
+    )
     assert (ran.returncode, ran.stderr, ran.stdout.splitlines()) == (0, "", lines)
 
 
 def test_what_the_page_of_the_configuration_shows(program, folder):
-    block, = re.findall(r"(?s)\n\.EX\n(.*?)\.EE\n", page("bigvasta-host.conf.5"))
-    (folder / "host.conf").write_text(plain(block).replace("/run/bigvasta", str(folder)).replace("group = bigvasta", "group = root"))
+    (block,) = re.findall(r"(?s)\n\.EX\n(.*?)\.EE\n", page("bigvasta-host.conf.5"))
+    (folder / "host.conf").write_text(
+        plain(block)
+        .replace("/run/bigvasta", str(folder))
+        .replace("group = bigvasta", "group = root")
+    )
     host = Host(program, folder, "--config", f"{folder}/host.conf")
     assert host.lines.next(patience_from_now()) == "ready"
     assert [it["name"] for it in host.ask("status")["guests"]] == ["web-1"]
@@ -110,7 +143,9 @@ def test_the_page_of_the_client_names_each_command_and_option():
 def test_the_page_of_the_configuration_names_each_key():
     with open(f"{ROOT}/monitor/backends/service/config.c", encoding="utf-8") as file:
         keys = re.findall(r'(?m)^ +\{"(\w+)", "(\w+)", WORD_', file.read())
-    sections = dict(re.findall(r"(?ms)^\.SH \[(\w+)[^\]]*\]\n(.*?)(?=^\.SH)", page("bigvasta-host.conf.5")))
+    sections = dict(
+        re.findall(r"(?ms)^\.SH \[(\w+)[^\]]*\]\n(.*?)(?=^\.SH)", page("bigvasta-host.conf.5"))
+    )
     assert len(keys) == 18
     for section, key in keys:
         assert f"\n.B {key}\n" in "\n" + sections[section], (section, key)
@@ -119,7 +154,24 @@ def test_the_page_of_the_configuration_names_each_key():
 
 # What is typed, and what it may become.
 COMPLETIONS = (
-    (["bigvasta", ""], {"status", "guest", "add", "remove", "budget", "floor", "log", "watch", "metrics", "upgrade", "plan", "--help", "--version"}),
+    (
+        ["bigvasta", ""],
+        {
+            "status",
+            "guest",
+            "add",
+            "remove",
+            "budget",
+            "floor",
+            "log",
+            "watch",
+            "metrics",
+            "upgrade",
+            "plan",
+            "--help",
+            "--version",
+        },
+    ),
     (["bigvasta", "st"], {"status"}),
     (["bigvasta", "guest", ""], {"web-1", "web-2"}),
     (["bigvasta", "remove", "--control", "{control}", "web-1"], set()),
@@ -138,14 +190,26 @@ def test_completion_in_bash(host, folder):
     for name in ("web-1", "web-2"):
         host.ask("add", name=name)
     program = folder / "bigvasta"
-    program.write_text(f"#!/bin/sh\nPYTHONPATH={CLIENT} exec /usr/bin/python3 -B -m bigvasta \"$@\"\n")
+    program.write_text(
+        f'#!/bin/sh\nPYTHONPATH={CLIENT} exec /usr/bin/python3 -B -m bigvasta "$@"\n'
+    )
     program.chmod(0o755)
     script = ". {file}; COMP_WORDS=({words}); COMP_CWORD=$(({count} - 1)); _bigvasta 2> /dev/null; printf '%s\\n' \"${{COMPREPLY[@]}}\""
     for words, wanted in COMPLETIONS:
         words = [it.format(control=host.control) for it in words]
-        text = script.format(file=f"{ROOT}/packaging/bash-completion/bigvasta", words=" ".join(map(shlex.quote, words)), count=len(words))
-        environment = {**os.environ, "PATH": f"{folder}:{os.environ['PATH']}", "BIGVASTA_CONTROL": host.control}
-        ran = subprocess.run(["bash", "-c", text], capture_output=True, text=True, timeout=PATIENCE, env=environment)
+        text = script.format(
+            file=f"{ROOT}/packaging/bash-completion/bigvasta",
+            words=" ".join(map(shlex.quote, words)),
+            count=len(words),
+        )
+        environment = {
+            **os.environ,
+            "PATH": f"{folder}:{os.environ['PATH']}",
+            "BIGVASTA_CONTROL": host.control,
+        }
+        ran = subprocess.run(
+            ["bash", "-c", text], capture_output=True, text=True, timeout=PATIENCE, env=environment
+        )
         assert set(ran.stdout.split()) == wanted, (words, ran)
 
 

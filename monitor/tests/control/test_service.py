@@ -40,7 +40,9 @@ class Manager:
 
     def environment(self, watchdog=0):
         """Returns what it starts a service with."""
-        return {"NOTIFY_SOCKET": f"{self.folder}/.notify"} | ({"WATCHDOG_USEC": str(watchdog)} if watchdog else {})
+        return {"NOTIFY_SOCKET": f"{self.folder}/.notify"} | (
+            {"WATCHDOG_USEC": str(watchdog)} if watchdog else {}
+        )
 
     def word(self):
         """Returns the next thing that it is told, by names; a file that comes with it is kept."""
@@ -62,9 +64,15 @@ class Manager:
 
     def start(self, program, folder, *words, watchdog=0):
         """Starts a host, with the files that were kept."""
-        kept = {"LISTEN_FDS": str(len(self.kept)), "LISTEN_FDNAMES": ":".join(self.kept)} if self.kept else {}
+        kept = (
+            {"LISTEN_FDS": str(len(self.kept)), "LISTEN_FDNAMES": ":".join(self.kept)}
+            if self.kept
+            else {}
+        )
         environment = self.environment(watchdog) | kept
-        return Started(program, folder, *words, files=list(self.kept.values()), environment=environment)
+        return Started(
+            program, folder, *words, files=list(self.kept.values()), environment=environment
+        )
 
     def close(self):
         """Lets go of all."""
@@ -78,7 +86,17 @@ class Started(Host):
 
     def __init__(self, program, folder, *words, files, environment):
         numbers = " ".join(map(str, files))
-        super().__init__(sys.executable, folder, "-c", STARTER, numbers, program, *words, environment=environment, files=files)
+        super().__init__(
+            sys.executable,
+            folder,
+            "-c",
+            STARTER,
+            numbers,
+            program,
+            *words,
+            environment=environment,
+            files=files,
+        )
 
 
 @pytest.fixture
@@ -92,13 +110,17 @@ def test_what_a_manager_is_told(program, folder, manager):
     (folder / "host.conf").write_text(f"[host]\nfolder = {folder}\nbudget = 480M\n")
     host = manager.start(program, folder, "--config", f"{folder}/host.conf", watchdog=400000)
     # Its sockets are kept, and are there once it is ready.
-    assert [manager.word() for _ in range(2)] == [{"FDSTORE": "1", "FDNAME": it} for it in ("control", "status")]
+    assert [manager.word() for _ in range(2)] == [
+        {"FDSTORE": "1", "FDNAME": it} for it in ("control", "status")
+    ]
     assert manager.word() == {"READY": "1"}
     assert host.status()["budget"] == 480 << 20
     # A word for the watchdog each half of its time, with a line about what there is.
     begin = time.monotonic()
     words = [manager.word() for _ in range(5)]
-    assert all(it == {"WATCHDOG": "1", "STATUS": "0 guests, 0 of 480 MiB held, 0 wait"} for it in words), words
+    assert all(
+        it == {"WATCHDOG": "1", "STATUS": "0 guests, 0 of 480 MiB held, 0 wait"} for it in words
+    ), words
     assert 0.6 < time.monotonic() - begin < 2
     (folder / "host.conf").write_text(f"[host]\nfolder = {folder}\nbudget = 400M\n")
     host.process.send_signal(signal.SIGHUP)
@@ -135,7 +157,12 @@ def test_a_guest_lives_on_while_the_host_starts_anew(program, folder, manager):
     host = manager.start(program, folder, str(folder), "--budget", "480", "--leave")
     manager.until("READY")
     its = eventually(lambda: host.guest("a")["answers"] and host.guest("a"))
-    assert (its["process"], its["state"], its["memory"], its["terms"]["priority"]) == (process, "ready", 128 * 4096, 3)
+    assert (its["process"], its["state"], its["memory"], its["terms"]["priority"]) == (
+        process,
+        "ready",
+        128 * 4096,
+        3,
+    )
     guest.leave()
     eventually(lambda: host.guest("a")["state"] == "absent")
     assert host.end() == 0
@@ -152,13 +179,21 @@ def test_without_a_watchdog(program, folder, manager):
 
 
 def test_without_a_manager(program, folder):
-    host = Host(program, folder, str(folder), "--budget", "480", environment={"NOTIFY_SOCKET": f"{folder}/none"})
+    host = Host(
+        program,
+        folder,
+        str(folder),
+        "--budget",
+        "480",
+        environment={"NOTIFY_SOCKET": f"{folder}/none"},
+    )
     host.lines.next(patience_from_now())
     assert host.end() == 0
 
 
 def test_a_host_without_a_manager_waits_for_what_is_due(host):
     """Ten looks for events a second, one at the guests: it takes no turn for a manager that isn't there."""
+
     def turns():
         return sum(host.status()["measures"]["turns"]["counts"])
 
@@ -169,7 +204,12 @@ def test_a_host_without_a_manager_waits_for_what_is_due(host):
 
 
 # A level, and how the lines begin that are said of a wrong file, of a right one, and of a guest that breaks a rule and goes.
-LEVELS = (("error", ["<3>", "<3>"]), ("warning", ["<3>", "<3>"]), ("notice", ["<3>", "<3>", "<5>"]), ("info", ["<3>", "<3>", "<6>", "<5>", "<6>"]))
+LEVELS = (
+    ("error", ["<3>", "<3>"]),
+    ("warning", ["<3>", "<3>"]),
+    ("notice", ["<3>", "<3>", "<5>"]),
+    ("info", ["<3>", "<3>", "<6>", "<5>", "<6>"]),
+)
 
 
 @pytest.mark.parametrize("level, begins", LEVELS)
@@ -179,7 +219,13 @@ def test_levels_in_the_journal(program, folder, level, begins):
     its = os.stat(path)
     good = f"[host]\nfolder = {folder}\nbudget = 480M\n[log]\nlevel = {level}\n[guest a]\n"
     file.write_text(good)
-    host = Host(program, folder, "--config", str(file), environment={"JOURNAL_STREAM": f"{its.st_dev}:{its.st_ino}"})
+    host = Host(
+        program,
+        folder,
+        "--config",
+        str(file),
+        environment={"JOURNAL_STREAM": f"{its.st_dev}:{its.st_ino}"},
+    )
     host.lines.next(patience_from_now())
     file.write_text(good.replace("480M", "480"))
     host.process.send_signal(signal.SIGHUP)
@@ -198,7 +244,9 @@ def test_levels_in_the_journal(program, folder, level, begins):
 
 def test_lines_elsewhere_have_no_level(program, folder):
     (folder / "host.conf").write_text("[host]\nbudget = 5\n")
-    host = Host(program, folder, "--config", f"{folder}/host.conf", environment={"JOURNAL_STREAM": "1:1"})
+    host = Host(
+        program, folder, "--config", f"{folder}/host.conf", environment={"JOURNAL_STREAM": "1:1"}
+    )
     assert host.process.wait(PATIENCE) == 2
     assert host.said()[0].startswith(f"{folder}/host.conf: line 2: budget: ")
     host.end()
@@ -212,9 +260,21 @@ def test_units(unit, tmp_path):
         text = file.read()
     # The programs aren't installed here.
     (tmp_path / unit).write_text(re.sub(r"(?m)^ExecStart=\S+", "ExecStart=/bin/true", text))
-    ran = subprocess.run(["systemd-analyze", "verify", "--man=no", str(tmp_path / unit)], capture_output=True, text=True, timeout=PATIENCE)
+    ran = subprocess.run(
+        ["systemd-analyze", "verify", "--man=no", str(tmp_path / unit)],
+        capture_output=True,
+        text=True,
+        timeout=PATIENCE,
+    )
     assert (ran.returncode, [it for it in ran.stderr.splitlines() if unit in it]) == (0, []), ran
-    words = ["systemd-analyze", "security", "--offline=yes", "--no-pager", "--threshold=20", f"{SYSTEMD}/{unit}"]
+    words = [
+        "systemd-analyze",
+        "security",
+        "--offline=yes",
+        "--no-pager",
+        "--threshold=20",
+        f"{SYSTEMD}/{unit}",
+    ]
     ran = subprocess.run(words, capture_output=True, text=True, timeout=PATIENCE)
     exposure = float(re.search(r"Overall exposure level for \S+: ([\d.]+)", ran.stdout)[1])
     assert ran.returncode == 0 and exposure <= 2.0, exposure
@@ -224,20 +284,49 @@ def test_the_user_and_the_folder_of_sockets(tmp_path):
     if not shutil.which("systemd-sysusers") or os.geteuid():
         pytest.skip("systemd-sysusers isn't there, or this isn't root")
     (tmp_path / "etc").mkdir()
-    for program, file in (("systemd-sysusers", "sysusers.d/bigvasta.conf"), ("systemd-tmpfiles", "tmpfiles.d/bigvasta.conf")):
-        words = [program, f"--root={tmp_path}", *(["--create"] if program.endswith("tmpfiles") else []), os.path.join(os.path.dirname(SYSTEMD), file)]
+    for program, file in (
+        ("systemd-sysusers", "sysusers.d/bigvasta.conf"),
+        ("systemd-tmpfiles", "tmpfiles.d/bigvasta.conf"),
+    ):
+        words = [
+            program,
+            f"--root={tmp_path}",
+            *(["--create"] if program.endswith("tmpfiles") else []),
+            os.path.join(os.path.dirname(SYSTEMD), file),
+        ]
         ran = subprocess.run(words, capture_output=True, text=True, timeout=PATIENCE)
         assert ran.returncode == 0, ran
-    user, = (it.split(":") for it in (tmp_path / "etc/passwd").read_text().splitlines() if it.startswith("bigvasta:"))
-    groups = {it.split(":")[0]: it.split(":")[2:] for it in (tmp_path / "etc/group").read_text().splitlines()}
+    (user,) = (
+        it.split(":")
+        for it in (tmp_path / "etc/passwd").read_text().splitlines()
+        if it.startswith("bigvasta:")
+    )
+    groups = {
+        it.split(":")[0]: it.split(":")[2:]
+        for it in (tmp_path / "etc/group").read_text().splitlines()
+    }
     assert user[6] == "/usr/sbin/nologin" and groups["bigvasta-status"][1:] == [""]
-    for name, mode, group in ("bigvasta", "0o750", "bigvasta"), ("bigvasta-status", "0o2750", "bigvasta-status"):
+    for name, mode, group in ("bigvasta", "0o750", "bigvasta"), (
+        "bigvasta-status",
+        "0o2750",
+        "bigvasta-status",
+    ):
         its = os.stat(tmp_path / "run" / name)
-        assert (oct(its.st_mode & 0o7777), str(its.st_uid), str(its.st_gid)) == (mode, user[2], groups[group][0]), name
+        assert (oct(its.st_mode & 0o7777), str(its.st_uid), str(its.st_gid)) == (
+            mode,
+            user[2],
+            groups[group][0],
+        ), name
 
 
 def test_what_the_units_start():
-    for unit, words in zip(UNITS, ("/usr/bin/vhost_user_host --leave --status /run/bigvasta-status/socket --config /etc/bigvasta/host.conf", "/usr/bin/bigvasta metrics --listen localhost:9750")):
+    for unit, words in zip(
+        UNITS,
+        (
+            "/usr/bin/vhost_user_host --leave --status /run/bigvasta-status/socket --config /etc/bigvasta/host.conf",
+            "/usr/bin/bigvasta metrics --listen localhost:9750",
+        ),
+    ):
         with open(f"{SYSTEMD}/{unit}", encoding="utf-8") as file:
             assert f"ExecStart={words}\n" in file.read()
 
@@ -245,7 +334,11 @@ def test_what_the_units_start():
 def test_the_configuration_of_the_package(program, folder):
     """With a budget, the file that the package installs is right, and with each line that is a comment in it, too."""
     with open(f"{ROOT}/packaging/etc/host.conf", encoding="utf-8") as file:
-        text = file.read().replace("/run/bigvasta-status", str(folder)).replace("/run/bigvasta", str(folder))
+        text = (
+            file.read()
+            .replace("/run/bigvasta-status", str(folder))
+            .replace("/run/bigvasta", str(folder))
+        )
     bare = text.replace("# budget", "budget")
     full = re.sub(r"(?m)^# (\[guest|least|most|priority)", r"\1", bare)
     for text in bare, full:

@@ -37,8 +37,14 @@ CHANGES = (
 
 # What is refused there as it is at the control socket, and by which code.
 WRONG = (
-    (b"", "trash"), (b"[1]", "trash"), (say(), "missing-field"), (say(request="nope"), "unknown-request"), (say(request="guest"), "missing-field"),
-    (say(request="guest", name="none"), "no-guest"), (say(request="status", name="a"), "unknown-field"), (say(request="log", limit=0), "bad-field"),
+    (b"", "trash"),
+    (b"[1]", "trash"),
+    (say(), "missing-field"),
+    (say(request="nope"), "unknown-request"),
+    (say(request="guest"), "missing-field"),
+    (say(request="guest", name="none"), "no-guest"),
+    (say(request="status", name="a"), "unknown-field"),
+    (say(request="log", limit=0), "bad-field"),
     (b'{"version": 2, "request": "add"}', "version"),
 )
 from waiting import patience_from_now
@@ -54,7 +60,11 @@ def fields_of_requests():
         text = file.read().replace("\\\n", "")
     terms = re.search(r"#define TERMS(.*)", text)[1]
     kinds = re.findall(r'(?m)^    \{"(\w+)", (?:SHOWS|CHANGES), \w+, (.*)\},$', text)
-    return {(name, it) for name, fields in kinds for it in ("request", *re.findall(r'\{"(\w+)", FIELD_', fields.replace("TERMS", terms)))}
+    return {
+        (name, it)
+        for name, fields in kinds
+        for it in ("request", *re.findall(r'\{"(\w+)", FIELD_', fields.replace("TERMS", terms)))
+    }
 
 
 @pytest.fixture
@@ -76,8 +86,14 @@ def is_the_same(host, before):
 
 def test_each_request_and_each_field_has_a_row():
     whole = {request for request, _, field, _ in CHANGES if field == "request"}
-    rows = {(request, field) for request, _, field, _ in CHANGES} | {(request, it) for request, fields in SHOWS for it in ("request", *fields)}
-    wanted = {(request, field) for request, field in fields_of_requests() if field == "request" or request not in whole}
+    rows = {(request, field) for request, _, field, _ in CHANGES} | {
+        (request, it) for request, fields in SHOWS for it in ("request", *fields)
+    }
+    wanted = {
+        (request, field)
+        for request, field in fields_of_requests()
+        if field == "request" or request not in whole
+    }
     assert wanted == rows | SHOWS_MORE, wanted ^ (rows | SHOWS_MORE)
 
 
@@ -85,7 +101,11 @@ def test_what_would_change_the_host_is_refused_by_name_and_changes_nothing(host,
     host.ask("add", name="a")
     before = host.ask("status")
     for request, fields, field, what in CHANGES:
-        error = {"code": "read-only", "field": field, "text": f"{what} changes the host, which this socket only shows"}
+        error = {
+            "code": "read-only",
+            "field": field,
+            "text": f"{what} changes the host, which this socket only shows",
+        }
         answer = raw.answer(say(request=request, **fields))
         assert answer == {"version": 1, "ok": False, "error": error}, (request, fields, answer)
     assert host.status()["status"]["refused"] == len(CHANGES)
@@ -151,8 +171,15 @@ def group_name(number):
 
 # What an operator asks for who may only look, and the status.
 COMMANDS = (
-    ("status --names", 0, "a\n"), ("guest a", 0, "a: absent, at "), ("budget", 0, "480 MiB\n"), ("log", 0, ""), ("metrics", 0, "# HELP bigvasta_up"),
-    ("budget 400M", 1, ""), ("add b", 1, ""), ("remove a", 1, ""), ("guest a priority=1", 1, ""),
+    ("status --names", 0, "a\n"),
+    ("guest a", 0, "a: absent, at "),
+    ("budget", 0, "480 MiB\n"),
+    ("log", 0, ""),
+    ("metrics", 0, "# HELP bigvasta_up"),
+    ("budget 400M", 1, ""),
+    ("add b", 1, ""),
+    ("remove a", 1, ""),
+    ("guest a priority=1", 1, ""),
 )
 
 
@@ -162,4 +189,6 @@ def test_the_client_program_there(host):
     for words, code, said in COMMANDS:
         ran = bigvasta(host.shown, *words.split())
         assert (ran.returncode, ran.stdout.startswith(said)) == (code, True), (words, ran)
-        assert ran.stderr.endswith("changes the host, which this socket only shows\n") == (code == 1), (words, ran)
+        assert ran.stderr.endswith("changes the host, which this socket only shows\n") == (
+            code == 1
+        ), (words, ran)

@@ -14,8 +14,12 @@ def test_what_was_left_unread_is_read_in_order(host):
     count = BYTES // len(client.lines.readline())
     for turn in range(3):
         before = host.status()["control"]["requests"]
-        client.socket.sendall(b"".join(say(request="status", id=turn * count + it) + b"\n" for it in range(count)))
+        client.socket.sendall(
+            b"".join(say(request="status", id=turn * count + it) + b"\n" for it in range(count))
+        )
         eventually(lambda: host.status()["control"]["requests"] >= before + count)
-        assert [json.loads(client.lines.readline())["id"] for _ in range(count)] == [*range(turn * count, (turn + 1) * count)]
+        assert [json.loads(client.lines.readline())["id"] for _ in range(count)] == [
+            *range(turn * count, (turn + 1) * count)
+        ]
     assert host.status()["control"]["dropped"] == 0
     client.close()

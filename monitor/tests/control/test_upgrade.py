@@ -25,7 +25,11 @@ def come(host, name):
 
 def test_guests_live_through_an_upgrade(program, folder):
     first = begin(older_program(), folder)
-    assert (first.status()["version"], come(first, "old").is_alive(), first.guest("old")["version"]) == (OLDER, True, OLDER)
+    assert (
+        first.status()["version"],
+        come(first, "old").is_alive(),
+        first.guest("old")["version"],
+    ) == (OLDER, True, OLDER)
     process = first.guest("old")["process"]
     assert first.end() == 0
     second = begin(program, folder)
@@ -34,7 +38,10 @@ def test_guests_live_through_an_upgrade(program, folder):
     assert (second.status()["version"], second.guest("old")["process"]) == (version(), process)
     assert [second.guest(it)["version"] for it in ("old", "new")] == [OLDER, version()]
     said = bigvasta(second.control, "status").stdout.splitlines()
-    assert said[0].endswith(f"; 2 guests; version {version()}") and said[-1] == f"processes of another version: old {OLDER}"
+    assert (
+        said[0].endswith(f"; 2 guests; version {version()}")
+        and said[-1] == f"processes of another version: old {OLDER}"
+    )
     metrics = bigvasta(second.control, "metrics").stdout
     for name, wanted in (("old", OLDER), ("new", version())):
         assert f'bigvasta_guest_process_info{{guest="{name}",version="{wanted}"}} 1.0' in metrics
@@ -56,11 +63,17 @@ def test_one_command_upgrades_the_host_and_its_guests(program, folder, tmp_path)
     assert host.process.poll() is None and host.status()["version"] == version()
     for name, guest in zip("ab", guests):
         eventually(lambda: host.guest(name)["answers"])
-        assert (guest.is_alive(), host.guest(name)["version"], host.guest(name)["memory"] > 0) == (True, version(), True)
+        assert (guest.is_alive(), host.guest(name)["version"], host.guest(name)["memory"] > 0) == (
+            True,
+            version(),
+            True,
+        )
         assert host.guest(name)["process"] != before[name]
     assert host.guest("absent")["state"] == "absent"
     # Once more, where nothing is newer: the versions are the same, and guests live on.
-    assert bigvasta(host.control, "upgrade").stdout.splitlines() == [f"{it}: {version()} -> {version()}" for it in ("host", "a", "b")]
+    assert bigvasta(host.control, "upgrade").stdout.splitlines() == [
+        f"{it}: {version()} -> {version()}" for it in ("host", "a", "b")
+    ]
     for name in ("a", "b", "absent"):
         host.ask("remove", name=name)
     assert host.end() == 0
@@ -75,7 +88,11 @@ def test_a_program_that_does_not_run_upgrades_nothing(program, folder, tmp_path)
         os.rename(installed / broken, installed / "aside")
         (installed / broken).write_text("#!/bin/sh\nexit 1\n"), os.chmod(installed / broken, 0o755)
         ran = bigvasta(host.control, "upgrade")
-        assert (ran.returncode, ran.stdout, ran.stderr) == (1, "", f"bigvasta: {installed / broken}: it doesn't say its version\n")
+        assert (ran.returncode, ran.stdout, ran.stderr) == (
+            1,
+            "",
+            f"bigvasta: {installed / broken}: it doesn't say its version\n",
+        )
         os.rename(installed / "aside", installed / broken)
     assert host.guest("a")["process"] == process
     host.ask("remove", name="a")
@@ -89,7 +106,9 @@ def test_a_process_whose_program_does_not_go_on_stays(program, folder, tmp_path)
     install(program, installed)
     # It says its version, and doesn't know what is kept.
     (installed / "vhost_user_balloon").unlink()
-    (installed / "vhost_user_balloon").write_text("#!/bin/sh\n[ $1 = --version ]\n"), os.chmod(installed / "vhost_user_balloon", 0o755)
+    (installed / "vhost_user_balloon").write_text("#!/bin/sh\n[ $1 = --version ]\n"), os.chmod(
+        installed / "vhost_user_balloon", 0o755
+    )
     ran = bigvasta(host.control, "upgrade")
     said = [f"host: {OLDER} -> {version()}", f"a: {OLDER} stays, until its client comes anew"]
     assert (ran.returncode, ran.stdout.splitlines()) == (5, said)

@@ -30,7 +30,9 @@ def heard(host):
     """Returns the next event about a guest's waits for something."""
     with Connection(host.control) as follower:
         events = follower.follow()
-        yield lambda guest, what: next(it["event"] for it in events if (it.get("guest"), it.get("waits_for")) == (guest, what))
+        yield lambda guest, what: next(
+            it["event"] for it in events if (it.get("guest"), it.get("waits_for")) == (guest, what)
+        )
 
 
 class Coming(Client):
@@ -87,8 +89,13 @@ def end_by_room(host, _):
 
 
 # What ends a guest's wait for room, how that is called, and why the guest has gone.
-ENDS = ((end_by_leaving, "withdrawn", "left"), (end_by_a_smaller_budget, "refused", "refused"), (end_by_removal, "withdrawn", "removed"),
-        (end_by_another, "withdrawn", "removed"), (end_by_room, "granted", None))
+ENDS = (
+    (end_by_leaving, "withdrawn", "left"),
+    (end_by_a_smaller_budget, "refused", "refused"),
+    (end_by_removal, "withdrawn", "removed"),
+    (end_by_another, "withdrawn", "removed"),
+    (end_by_room, "granted", None),
+)
 
 
 @pytest.mark.parametrize("act, how, gone", ENDS)
@@ -101,7 +108,10 @@ def test_a_wait_for_room_that_ends_without_a_grant_is_no_grant(host, arrive, hea
     act(host, late)
     assert heard("b", "room") == how
     eventually(lambda: ends(host) == before | {how: before[how] + 1}, lambda: (before, ends(host)))
-    eventually(lambda: {why: count for why, count in host.status()["measures"]["gone"].items() if count} == ({gone: 1} if gone else {}))
+    eventually(
+        lambda: {why: count for why, count in host.status()["measures"]["gone"].items() if count}
+        == ({gone: 1} if gone else {})
+    )
     if act is not end_by_leaving:
         late.leave()
 

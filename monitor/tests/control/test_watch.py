@@ -13,7 +13,9 @@ from waiting import PATIENCE, patience_from_now
 PAGE, MIB = 4096, 1 << 20
 ENVIRONMENT = {**os.environ, "TERM": "screen-256color", "LC_ALL": "C.UTF-8"}
 
-pytestmark = pytest.mark.skipif(not shutil.which("tmux"), reason="tmux isn't there: apt-get install tmux")
+pytestmark = pytest.mark.skipif(
+    not shutil.which("tmux"), reason="tmux isn't there: apt-get install tmux"
+)
 
 
 class Terminal:
@@ -22,15 +24,48 @@ class Terminal:
     def __init__(self, folder, control, *words, locale="C.UTF-8"):
         self.socket = f"{folder}/.tmux"
         # No daemon, so that it ends with this process, however this one ends.
-        self.server = subprocess.Popen(["setpriv", "--pdeathsig", "TERM", "tmux", "-S", self.socket, "-f", "/dev/null", "-u", "-D"], env=ENVIRONMENT)
+        self.server = subprocess.Popen(
+            [
+                "setpriv",
+                "--pdeathsig",
+                "TERM",
+                "tmux",
+                "-S",
+                self.socket,
+                "-f",
+                "/dev/null",
+                "-u",
+                "-D",
+            ],
+            env=ENVIRONMENT,
+        )
         eventually(lambda: os.path.exists(self.socket), "tmux doesn't start")
-        program = ["env", f"PYTHONPATH={CLIENT}", f"LC_ALL={locale}", "/usr/bin/python3", "-B", "-m", "bigvasta", "watch", "--control", control, *words]
-        command = f"trap : INT; {shlex.join(program)}; echo \"ended with $?\"; sleep 60"
+        program = [
+            "env",
+            f"PYTHONPATH={CLIENT}",
+            f"LC_ALL={locale}",
+            "/usr/bin/python3",
+            "-B",
+            "-m",
+            "bigvasta",
+            "watch",
+            "--control",
+            control,
+            *words,
+        ]
+        command = f'trap : INT; {shlex.join(program)}; echo "ended with $?"; sleep 60'
         self.tmux("-u", "new-session", "-d", "-x", "100", "-y", "14", "/bin/sh", "-c", command)
 
     def tmux(self, *words):
         """Runs a command of tmux; returns what it printed."""
-        return subprocess.run(["tmux", "-S", self.socket, *words], capture_output=True, text=True, timeout=PATIENCE, env=ENVIRONMENT, check=True).stdout
+        return subprocess.run(
+            ["tmux", "-S", self.socket, *words],
+            capture_output=True,
+            text=True,
+            timeout=PATIENCE,
+            env=ENVIRONMENT,
+            check=True,
+        ).stdout
 
     def screen(self):
         """Returns the lines that the terminal shows."""
@@ -72,9 +107,12 @@ def terminal(host, opened):
 
 def shows(terminal, wanted):
     """Waits until a line of the screen is this, or begins so where it ends in two dots."""
+
     def found():
         lines = terminal.screen()
-        return any(it.startswith(wanted[:-2]) if wanted.endswith("..") else it == wanted for it in lines)
+        return any(
+            it.startswith(wanted[:-2]) if wanted.endswith("..") else it == wanted for it in lines
+        )
 
     eventually(found, lambda: "\n".join([f"no line {wanted!r} in:", *terminal.screen()]))
 
@@ -89,10 +127,15 @@ def test_guests_keys_and_sizes(host, arrive, terminal):
     eventually(lambda: host.guest("web-2")["target"] == 60 * PAGE)
     shows(terminal, "guest          held   loan target  spare  memory")
     # Its 128 pages are the whole bar: 68 are held and kept, 60 of them it can spare, and the target leaves it 68.
-    shows(terminal, "web-2           0.5    0.5    0.2    0.2  ██████████████████████│▒▒▒▒▒▒▒▒▒▒▒▒▒▒▒▒▒▒]")
+    shows(
+        terminal,
+        "web-2           0.5    0.5    0.2    0.2  ██████████████████████│▒▒▒▒▒▒▒▒▒▒▒▒▒▒▒▒▒▒]",
+    )
     lines = terminal.screen()
     assert [it.split()[0] for it in lines[5:7]] == ["web-1", "web-2"], lines
-    assert lines[13] == "█ held  ▒ of it spare  ░ lent  │ left by the target   q quit  s sort  p pause"
+    assert (
+        lines[13] == "█ held  ▒ of it spare  ░ lent  │ left by the target   q quit  s sort  p pause"
+    )
     terminal.key("s")
     shows(terminal, "2 guests, by held")
     terminal.key("s")
@@ -109,7 +152,10 @@ def test_guests_keys_and_sizes(host, arrive, terminal):
     terminal.key("Up")
     eventually(lambda: terminal.screen()[5].startswith("web-1"), lambda: terminal.screen())
     terminal.resize(40, 8)
-    eventually(lambda: terminal.screen()[7] == "█ held  ▒ of it spare  ░ lent  │ left by", lambda: terminal.screen())
+    eventually(
+        lambda: terminal.screen()[7] == "█ held  ▒ of it spare  ░ lent  │ left by",
+        lambda: terminal.screen(),
+    )
     terminal.key("q")
     shows(terminal, "ended with 0")
 

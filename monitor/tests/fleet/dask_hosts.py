@@ -32,14 +32,24 @@ def read(path):
 def answers(address, inside=()):
     """Returns whether somebody answers at an address."""
     program = f"import socket; socket.create_connection({address!r}, 1)"
-    return subprocess.run([*inside, "/usr/bin/python3", "-c", program], capture_output=True, timeout=PATIENCE).returncode == 0
+    return (
+        subprocess.run(
+            [*inside, "/usr/bin/python3", "-c", program], capture_output=True, timeout=PATIENCE
+        ).returncode
+        == 0
+    )
 
 
 class Machines:
     """Namespaces by their numbers, and what runs in them."""
 
     def __init__(self, folder, tag):
-        self.folder, self.tag, self.stack, self.workers = str(folder), tag, contextlib.ExitStack(), []
+        self.folder, self.tag, self.stack, self.workers = (
+            str(folder),
+            tag,
+            contextlib.ExitStack(),
+            [],
+        )
         self.schedulers, self.started = [], 0
 
     def __enter__(self):
@@ -73,7 +83,20 @@ class Machines:
         ip("-n", self.name(0), "addr", "add", f"{self.address(0)}/24", "dev", "bridge")
         ip("-n", self.name(0), "link", "set", "bridge", "up")
         for number in range(1, count):
-            ip("link", "add", f"port{number}", "netns", self.name(0), "type", "veth", "peer", "name", "wire", "netns", self.name(number))
+            ip(
+                "link",
+                "add",
+                f"port{number}",
+                "netns",
+                self.name(0),
+                "type",
+                "veth",
+                "peer",
+                "name",
+                "wire",
+                "netns",
+                self.name(number),
+            )
             ip("-n", self.name(0), "link", "set", f"port{number}", "master", "bridge", "up")
             ip("-n", self.name(number), "addr", "add", f"{self.address(number)}/24", "dev", "wire")
             ip("-n", self.name(number), "link", "set", "wire", "up")
@@ -84,21 +107,41 @@ class Machines:
         log = self.stack.enter_context(open(path, "wb"))
         self.started += 1
         environment = {**os.environ, "PYTHONPATH": client, "PYTHONDONTWRITEBYTECODE": "1"}
-        it = subprocess.Popen([*inside, *words], stdout=log, stderr=log, cwd=self.folder, env=environment, start_new_session=True)
+        it = subprocess.Popen(
+            [*inside, *words],
+            stdout=log,
+            stderr=log,
+            cwd=self.folder,
+            env=environment,
+            start_new_session=True,
+        )
         self.stack.callback(end, it)
         return it, path
 
     def scheduler(self, host, port=PORT, inside=()):
         """Starts a scheduler; returns its address."""
-        program, _ = self.start(inside, "dask", "scheduler", "--host", host, "--port", str(port), "--no-dashboard")
+        program, _ = self.start(
+            inside, "dask", "scheduler", "--host", host, "--port", str(port), "--no-dashboard"
+        )
         self.schedulers.append(program)
         eventually(lambda: answers((host, port), inside))
         return f"tcp://{host}:{port}"
 
     def work(self, address, insides, client=CLIENT):
         """Starts workers of one thread each, and waits until the scheduler has them."""
-        words = ("--nthreads", "1", "--no-nanny", "--no-dashboard", "--memory-limit", "0", "--local-directory", self.folder)
-        started = [self.start(it, "dask", "worker", address, *words, client=client) for it in insides]
+        words = (
+            "--nthreads",
+            "1",
+            "--no-nanny",
+            "--no-dashboard",
+            "--memory-limit",
+            "0",
+            "--local-directory",
+            self.folder,
+        )
+        started = [
+            self.start(it, "dask", "worker", address, *words, client=client) for it in insides
+        ]
         self.workers += [it for it, _ in started]
         eventually(lambda: all("Registered to" in read(log) for _, log in started))
 

@@ -17,10 +17,36 @@ from planner import CLIENT, run, words_of
 from waiting import PATIENCE
 
 # Guests on hosts that some find no room on: two promises, and six hosts at most for each.
-FLEET = ("--fleet", "6", "--budget", "24G", "--make", "180", "--hours", "6", "--promises", "1.5..1.8", "--steps", "1", "--json")
+FLEET = (
+    "--fleet",
+    "6",
+    "--budget",
+    "24G",
+    "--make",
+    "180",
+    "--hours",
+    "6",
+    "--promises",
+    "1.5..1.8",
+    "--steps",
+    "1",
+    "--json",
+)
 
 # A fleet that takes some seconds.
-LARGE = ("--fleet", "30", "--budget", "24G", "--make", "900", "--hours", "8", "--promises", "1.7", "--json")
+LARGE = (
+    "--fleet",
+    "30",
+    "--budget",
+    "24G",
+    "--make",
+    "900",
+    "--hours",
+    "8",
+    "--promises",
+    "1.7",
+    "--json",
+)
 
 
 @pytest.fixture(scope="module")
@@ -41,7 +67,10 @@ def test_a_fleet_of_a_file(shared, wanted, tmp_path):
 
 
 distributed = pytest.mark.skipif(
-    subprocess.run(["/usr/bin/python3", "-c", "import distributed"], capture_output=True, timeout=PATIENCE).returncode != 0,
+    subprocess.run(
+        ["/usr/bin/python3", "-c", "import distributed"], capture_output=True, timeout=PATIENCE
+    ).returncode
+    != 0,
     reason="Dask isn't there: apt-get install python3-distributed",
 )
 
@@ -67,7 +96,9 @@ def test_a_worker_that_is_killed_amid(shared, tmp_path):
         machines.work(address, [machines.inside(it) for it in range(1, 4)])
         command, environment = words_of(*LARGE, "--library", shared, "--scheduler", address)
         words = [*machines.inside(0), *command]
-        with subprocess.Popen(words, stdout=subprocess.PIPE, stderr=subprocess.PIPE, text=True, env=environment) as plan:
+        with subprocess.Popen(
+            words, stdout=subprocess.PIPE, stderr=subprocess.PIPE, text=True, env=environment
+        ) as plan:
             first = plan.stderr.readline()
             end(machines.workers[0])
             answer, rest = plan.communicate(timeout=PATIENCE)
@@ -100,7 +131,10 @@ def test_somebody_who_is_no_scheduler(shared, words):
         threading.Thread(target=take_all, args=(server, words), daemon=True).start()
         address = f"tcp://127.0.0.1:{server.getsockname()[1]}"
         said = run(*SMALL, "--library", shared, "--scheduler", address, status=3)
-    assert said == f"bigvasta: --scheduler: who answers at {address} doesn't speak as a Dask scheduler, in 10 s\n"
+    assert (
+        said
+        == f"bigvasta: --scheduler: who answers at {address} doesn't speak as a Dask scheduler, in 10 s\n"
+    )
     assert time.monotonic() - begin < 30
 
 
@@ -129,11 +163,17 @@ def test_a_scheduler_that_goes_away(shared, tmp_path):
         address = machines.scheduler("127.0.0.1", free_port())
         machines.work(address, [()])
         command, environment = words_of(*LARGE, "--library", shared, "--scheduler", address)
-        with subprocess.Popen(command, stdout=subprocess.PIPE, stderr=subprocess.PIPE, text=True, env=environment) as plan:
+        with subprocess.Popen(
+            command, stdout=subprocess.PIPE, stderr=subprocess.PIPE, text=True, env=environment
+        ) as plan:
             plan.stderr.readline()
             end(machines.schedulers[0])
             answer, rest = plan.communicate(timeout=PATIENCE)
-    assert (answer, plan.returncode, rest.splitlines()[-1]) == ("", 3, f"bigvasta: --scheduler: {address} went away")
+    assert (answer, plan.returncode, rest.splitlines()[-1]) == (
+        "",
+        3,
+        f"bigvasta: --scheduler: {address} went away",
+    )
 
 
 @distributed
@@ -142,7 +182,10 @@ def test_a_worker_without_the_planner(shared, tmp_path):
         address = machines.scheduler("127.0.0.1", free_port())
         machines.work(address, [()], client=str(tmp_path))
         said = run(*SMALL, "--library", shared, "--scheduler", address, status=2)
-        assert said == "bigvasta: --scheduler: a worker lacks the module bigvasta: it needs the packages that this machine has\n"
+        assert (
+            said
+            == "bigvasta: --scheduler: a worker lacks the module bigvasta: it needs the packages that this machine has\n"
+        )
 
 
 @distributed
@@ -154,12 +197,22 @@ def test_a_worker_of_another_version(shared, tmp_path):
         address = machines.scheduler("127.0.0.1", free_port())
         machines.work(address, [()], client=str(other))
         said = run(*SMALL, "--library", shared, "--scheduler", address, status=2)
-        assert re.fullmatch(r"bigvasta: plan: a worker has bigvasta 0\.0\.1, and \d+\.\d+\.\d+ is wanted\n", said)
+        assert re.fullmatch(
+            r"bigvasta: plan: a worker has bigvasta 0\.0\.1, and \d+\.\d+\.\d+ is wanted\n", said
+        )
 
 
 def test_a_package_that_is_missing(shared, tmp_path):
     (tmp_path / "distributed.py").write_text("raise ImportError\n")
-    said = run(*SMALL, "--library", shared, "--scheduler", "tcp://127.0.0.1:1", status=2, path=f"{tmp_path}:{CLIENT}")
+    said = run(
+        *SMALL,
+        "--library",
+        shared,
+        "--scheduler",
+        "tcp://127.0.0.1:1",
+        status=2,
+        path=f"{tmp_path}:{CLIENT}",
+    )
     assert said == "bigvasta: --scheduler wants Dask: apt-get install python3-distributed\n"
 
 
@@ -168,7 +221,9 @@ def test_progress_on_a_terminal(shared):
     leader, follower = pty.openpty()
     command, environment = words_of(*FLEET, "--library", shared)
     text = b""
-    with subprocess.Popen(command, stdout=subprocess.DEVNULL, stderr=follower, env=environment) as plan:
+    with subprocess.Popen(
+        command, stdout=subprocess.DEVNULL, stderr=follower, env=environment
+    ) as plan:
         os.close(follower)
         while True:
             try:
@@ -178,7 +233,10 @@ def test_progress_on_a_terminal(shared):
     os.close(leader)
     lines = text.decode().replace("\r\n", "\n").split("\r\x1b[K")
     assert plan.returncode == 0 and lines[0] == "" and len(lines) > 1
-    assert all(re.fullmatch(r"replayed \d+ of 1[0-2] hosts, \d+%, \d+ s; about \d+ s to go\n?", it) for it in lines[1:]), lines
+    assert all(
+        re.fullmatch(r"replayed \d+ of 1[0-2] hosts, \d+%, \d+ s; about \d+ s to go\n?", it)
+        for it in lines[1:]
+    ), lines
     assert [it[-1] for it in lines[1:]] == ["o"] * (len(lines) - 2) + ["\n"]
 
 
@@ -196,22 +254,34 @@ def test_progress_elsewhere():
 def test_a_process_that_is_killed(shared):
     """What the kernel does for lack of memory is said in a line."""
     command, environment = words_of(*LARGE, "--library", shared, "--processes", "2")
-    with subprocess.Popen(command, stdout=subprocess.PIPE, stderr=subprocess.PIPE, text=True, env=environment) as plan:
+    with subprocess.Popen(
+        command, stdout=subprocess.PIPE, stderr=subprocess.PIPE, text=True, env=environment
+    ) as plan:
         assert plan.stderr.readline().startswith("replayed 3 of ")
         os.kill(int(children_of(plan.pid)[0]), 9)
         answer, rest = plan.communicate(timeout=PATIENCE)
     assert (answer, plan.returncode) == ("", 4)
-    assert rest.splitlines()[-1] == "bigvasta: plan: one of its processes was ended, as by a lack of memory"
+    assert (
+        rest.splitlines()[-1]
+        == "bigvasta: plan: one of its processes was ended, as by a lack of memory"
+    )
 
 
 def children_of(process):
     """Returns the processes that a process has started."""
-    return subprocess.run(["ps", "--ppid", str(process), "-o", "pid="], capture_output=True, text=True, timeout=PATIENCE).stdout.split()
+    return subprocess.run(
+        ["ps", "--ppid", str(process), "-o", "pid="],
+        capture_output=True,
+        text=True,
+        timeout=PATIENCE,
+    ).stdout.split()
 
 
 def test_a_plan_that_is_killed_leaves_no_process(shared):
     command, environment = words_of(*LARGE, "--library", shared, "--processes", "2")
-    with subprocess.Popen(command, stdout=subprocess.DEVNULL, stderr=subprocess.PIPE, text=True, env=environment) as plan:
+    with subprocess.Popen(
+        command, stdout=subprocess.DEVNULL, stderr=subprocess.PIPE, text=True, env=environment
+    ) as plan:
         plan.stderr.readline()
         children = children_of(plan.pid)
         plan.kill()
@@ -222,24 +292,54 @@ def test_a_plan_that_is_killed_leaves_no_process(shared):
 # Words of a command line that is refused, and what it says.
 REFUSED = (
     (("--fleet", "2"), "plan: what is wanted is a FILE, or --make GUESTS"),
-    (("--fleet", "2", "--make", "4"), "plan: a fleet has a --budget, which each of its hosts has, and no --budgets"),
-    ((*SMALL, "--budgets", "1G..2G"), "plan: a fleet has a --budget, which each of its hosts has, and no --budgets"),
+    (
+        ("--fleet", "2", "--make", "4"),
+        "plan: a fleet has a --budget, which each of its hosts has, and no --budgets",
+    ),
+    (
+        (*SMALL, "--budgets", "1G..2G"),
+        "plan: a fleet has a --budget, which each of its hosts has, and no --budgets",
+    ),
     ((*SMALL, "--fleet", "0"), "--fleet: 0 isn't from 1 to 100000 hosts"),
     ((*SMALL, "--places", "0"), "--places: 0 isn't from 1 to 1000"),
     ((*SMALL, "--processes", "0"), "--processes: 0 isn't from 1 to 1024"),
     ((*SMALL, "--make", "0"), "--make: 0 isn't from 1 to 1000000 guests"),
     ((*SMALL, "--hours", "0"), "--hours: 0.0 isn't from 0.01 to 744"),
     ((*SMALL, "--promises", "2..1"), "--promises: '2..1' ends before it begins"),
-    ((*SMALL, "--promises", "0"), "--promises: '0' isn't from 0.01 to 100, with two digits after the point"),
-    ((*SMALL, "--promises", "1.234"), "--promises: '1.234' isn't from 0.01 to 100, with two digits after the point"),
-    ((*SMALL, "--promises", "nan"), "--promises: 'nan' isn't from 0.01 to 100, with two digits after the point"),
+    (
+        (*SMALL, "--promises", "0"),
+        "--promises: '0' isn't from 0.01 to 100, with two digits after the point",
+    ),
+    (
+        (*SMALL, "--promises", "1.234"),
+        "--promises: '1.234' isn't from 0.01 to 100, with two digits after the point",
+    ),
+    (
+        (*SMALL, "--promises", "nan"),
+        "--promises: 'nan' isn't from 0.01 to 100, with two digits after the point",
+    ),
     ((*SMALL, "--budget", "8T", "--promises", "2"), "--promises: 2 times 8T isn't below 16T"),
-    ((*SMALL, "--budget", "many"), "--budget: 'many' is no size: a number with K, M, G or T, in pages of 4K, such as 480M"),
-    ((*SMALL, "--budget", "4K", "--promises", "1"), "plan: no host may promise enough for any guest, by 1.00 times the budget"),
-    ((*SMALL, "--scheduler", "127.0.0.1:8786"), "--scheduler: '127.0.0.1:8786' is no tcp://HOST:PORT"),
-    ((*SMALL, "--scheduler", "tcp://127.0.0.1:1", "--processes", "2"), "plan: --processes are of this machine, and --scheduler has workers of its own"),
+    (
+        (*SMALL, "--budget", "many"),
+        "--budget: 'many' is no size: a number with K, M, G or T, in pages of 4K, such as 480M",
+    ),
+    (
+        (*SMALL, "--budget", "4K", "--promises", "1"),
+        "plan: no host may promise enough for any guest, by 1.00 times the budget",
+    ),
+    (
+        (*SMALL, "--scheduler", "127.0.0.1:8786"),
+        "--scheduler: '127.0.0.1:8786' is no tcp://HOST:PORT",
+    ),
+    (
+        (*SMALL, "--scheduler", "tcp://127.0.0.1:1", "--processes", "2"),
+        "plan: --processes are of this machine, and --scheduler has workers of its own",
+    ),
     (("none.csv", "--fleet", "2", "--budget", "4G"), "none.csv: No such file or directory"),
-    (("none.csv", "--processes", "2"), "plan: --budget, --processes and --scheduler are for a --fleet"),
+    (
+        ("none.csv", "--processes", "2"),
+        "plan: --budget, --processes and --scheduler are for a --fleet",
+    ),
 )
 
 

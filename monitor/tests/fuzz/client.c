@@ -10,10 +10,21 @@
 #include <sys/socket.h>
 #include <unistd.h>
 
-enum { PAGE = 4096, HEAD = 12, ASKS_FOR_ANSWER = 8, VERSION = 1, OF_QUEUE = 3 * PAGE, BUFFER_PAGE = 16, MOST_POSTED = 40, TABLE = 8, PLACE = 32 };
+enum {
+    PAGE = 4096,
+    HEAD = 12,
+    ASKS_FOR_ANSWER = 8,
+    VERSION = 1,
+    OF_QUEUE = 3 * PAGE,
+    BUFFER_PAGE = 16,
+    MOST_POSTED = 40,
+    TABLE = 8,
+    PLACE = 32
+};
 enum { MEMORY, OTHER_MEMORY, EVENT, PIPE, SOCKET, NOTHING, KINDS };
 
-static const uint64_t guest_at[REGIONS] = {0x100000, 0x180000}, user_at[REGIONS] = {0x7f0000000000, 0x7f1000000000};
+static const uint64_t guest_at[REGIONS] = {0x100000, 0x180000},
+                      user_at[REGIONS] = {0x7f0000000000, 0x7f1000000000};
 
 struct client client;
 
@@ -25,7 +36,8 @@ int client_comes(void)
     for (unsigned i = 0; i < REGIONS; i++) {
         client.memory[i] = memfd_create("memory", MFD_CLOEXEC);
         demand(client.memory[i] >= 0 && !ftruncate(client.memory[i], REGION_BYTES));
-        client.bytes[i] = mmap(NULL, REGION_BYTES, PROT_READ | PROT_WRITE, MAP_SHARED, client.memory[i], 0);
+        client.bytes[i] =
+            mmap(NULL, REGION_BYTES, PROT_READ | PROT_WRITE, MAP_SHARED, client.memory[i], 0);
         demand(client.bytes[i] != MAP_FAILED);
     }
     client.socket = ends[0];
@@ -91,7 +103,8 @@ static int open_kind(unsigned kind)
     }
     if (kind == NOTHING)
         return open("/dev/null", O_RDWR | O_CLOEXEC);
-    demand(kind == PIPE ? !pipe2(ends, O_CLOEXEC) : !socketpair(AF_UNIX, SOCK_STREAM | SOCK_CLOEXEC, 0, ends));
+    demand(kind == PIPE ? !pipe2(ends, O_CLOEXEC)
+                        : !socketpair(AF_UNIX, SOCK_STREAM | SOCK_CLOEXEC, 0, ends));
     let_go(&client.others[kind == PIPE]);
     client.others[kind == PIPE] = ends[0];
     return ends[1];
@@ -146,8 +159,9 @@ static const uint64_t words[][4] = {
 
 /* The second word of a message that names a queue. */
 static const uint32_t states[][4] = {
-    [SET_VRING_NUM] = {8, 1024, 3, 1025}, [SET_VRING_BASE] = {0, 1, 8, 0x10000}, [GET_VRING_BASE] = {0, 0, 0, 0},
-    [SET_VRING_ENABLE] = {1, 0, 1, 2}, [VRING_KICK] = {0, 0, 0, 0},
+    [SET_VRING_NUM] = {8, 1024, 3, 1025}, [SET_VRING_BASE] = {0, 1, 8, 0x10000},
+    [GET_VRING_BASE] = {0, 0, 0, 0},      [SET_VRING_ENABLE] = {1, 0, 1, 2},
+    [VRING_KICK] = {0, 0, 0, 0},
 };
 
 /* What a client usually sends; `choice` says which of several. */
@@ -174,8 +188,9 @@ static void fill(struct sent *sent, unsigned queue, unsigned choice)
         const uint32_t head[] = {choice / 4 % 4 * 4, sizes[choice % 4], choice / 16};
         memcpy(sent->body, head, sizeof head);
         sent->size = sizeof head + sizes[choice % 4];
-    } else if (request < sizeof states / sizeof states[0] && (states[request][0] || request == VRING_KICK || request == GET_VRING_BASE
-                                                             || request == SET_VRING_BASE)) {
+    } else if (request < sizeof states / sizeof states[0] &&
+               (states[request][0] || request == VRING_KICK || request == GET_VRING_BASE ||
+                request == SET_VRING_BASE)) {
         put(sent, queue | (uint64_t)states[request][choice % 4] << 32, 8);
     }
 }
@@ -237,17 +252,21 @@ static void write_guest(unsigned at, const void *data, size_t size)
 /* A request of pages, or of what else the script says, in a chain of one descriptor. */
 void client_posts(void)
 {
-    unsigned queue = next_below(5), count = next_below(MOST_POSTED), first = next_byte(), at = queue * OF_QUEUE;
+    unsigned queue = next_below(5), count = next_below(MOST_POSTED), first = next_byte(),
+             at = queue * OF_QUEUE;
     uint32_t pages[MOST_POSTED];
-    uint16_t slot = client.available[queue] % 8, head = (uint16_t)next_below(9), flags = (uint16_t)next_below(4);
+    uint16_t slot = client.available[queue] % 8, head = (uint16_t)next_below(9),
+             flags = (uint16_t)next_below(4);
     for (unsigned i = 0; i < count; i++)
-        pages[i] = (uint32_t)((first < 200 ? guest_at[1] : guest_at[0]) / PAGE) + (first + i) % (PAGES_OF_REGION + (first == 255));
+        pages[i] = (uint32_t)((first < 200 ? guest_at[1] : guest_at[0]) / PAGE) +
+                   (first + i) % (PAGES_OF_REGION + (first == 255));
     write_guest(BUFFER_PAGE * PAGE, pages, count * sizeof pages[0]);
     struct {
         uint64_t address;
         uint32_t length;
         uint16_t flags, next;
-    } piece = {guest_at[0] + BUFFER_PAGE * PAGE, count * 4, (uint16_t)(queue == 3 ? 2 : flags), head};
+    } piece = {guest_at[0] + BUFFER_PAGE * PAGE, count * 4, (uint16_t)(queue == 3 ? 2 : flags),
+               head};
     client.available[queue]++;
     write_guest(at + head * 16u, &piece, sizeof piece);
     write_guest(at + PAGE + 4 + 2u * slot, &head, sizeof head);

@@ -1,4 +1,5 @@
-/* The client of a guest's process that is fuzzed: its files, its memory, and the messages that it sends. */
+/* The client of a guest's process that is fuzzed: its files, its memory, and the messages that it
+ * sends. */
 #ifndef FUZZ_CLIENT_H
 #define FUZZ_CLIENT_H
 #include <stdbool.h>
@@ -7,14 +8,14 @@
 enum { EVENTS = 8, REGIONS = 2, REGION_BYTES = 1 << 17, PAGES_OF_REGION = REGION_BYTES / 4096 };
 
 struct client {
-    int socket;                 /* its end; -1: it has gone */
-    int events[EVENTS];         /* the last ones that it handed over, in turn */
+    int socket;         /* its end; -1: it has gone */
+    int events[EVENTS]; /* the last ones that it handed over, in turn */
     unsigned handed;
-    int others[2];              /* the other ends of the last socket and of the last pipe that it handed over */
-    int memory[REGIONS];        /* files */
+    int others[2]; /* the other ends of the last socket and of the last pipe that it handed over */
+    int memory[REGIONS]; /* files */
     uint8_t *bytes[REGIONS];
-    uint16_t available[8];      /* of each queue */
-    bool cut;                   /* its memory's files are cut off */
+    uint16_t available[8]; /* of each queue */
+    bool cut;              /* its memory's files are cut off */
 };
 
 extern struct client client;
@@ -23,8 +24,8 @@ extern struct client client;
 int client_comes(void);
 void client_goes(void);
 
-/* Sends a message by the next bytes of the script; sends bytes as they are; posts a request; writes into its memory; kicks by an event, or
- * cuts its memory off. */
+/* Sends a message by the next bytes of the script; sends bytes as they are; posts a request; writes
+ * into its memory; kicks by an event, or cuts its memory off. */
 void client_sends(void);
 void client_babbles(void);
 void client_posts(void);

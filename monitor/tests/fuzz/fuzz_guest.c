@@ -1,5 +1,7 @@
-/* A guest's process of a host that lends, fuzzed: any messages, bytes and files of its client, any rings and memory, and any orders of its
- * lender, in any order; now and then another process goes on with what is kept. After each step its count of pages in the balloon is that of its set, and in the end no file is left open. */
+/* A guest's process of a host that lends, fuzzed: any messages, bytes and files of its client, any
+ * rings and memory, and any orders of its lender, in any order; now and then another process goes
+ * on with what is kept. After each step its count of pages in the balloon is that of its set, and
+ * in the end no file is left open. */
 #define _GNU_SOURCE
 #include "../../backends/guest/lent.c"
 #include "client.h"
@@ -17,16 +19,16 @@
 struct script script;
 
 static struct lent fuzzed;
-static struct loop turns;       /* of the process */
+static struct loop turns; /* of the process */
 static struct kept kept;
 static struct options options;
-static bool ends;               /* the process is to end after this turn */
-static unsigned ends_at;        /* or at this one of the moments at which it is kept; 0: at none */
+static bool ends;        /* the process is to end after this turn */
+static unsigned ends_at; /* or at this one of the moments at which it is kept; 0: at none */
 static jmp_buf ended;
 
 /* Turns in which messages are served that are left at the end. */
 enum { MOST_LEFT = 8 };
-static int lender, later;       /* the lender's end of the channel; where a later one comes */
+static int lender, later; /* the lender's end of the channel; where a later one comes */
 static struct timespec now;
 
 int __real_poll_some(struct pollfd *files, nfds_t count, int limit);
@@ -51,7 +53,9 @@ int __wrap_clock_gettime(clockid_t clock, struct timespec *time)
 static void lender_orders(void)
 {
     struct lending_message order = {.kind = next_below(10), .number = next_byte(), .asks = 1};
-    order.wait = next_byte() < 200 ? (order.kind == ORDER_GRANT ? fuzzed.notes.held_wait : fuzzed.notes.wait) : next_byte();
+    order.wait = next_byte() < 200
+                     ? (order.kind == ORDER_GRANT ? fuzzed.notes.held_wait : fuzzed.notes.wait)
+                     : next_byte();
     order.target = order.kind == ORDER_TARGET ? next_u32() % 100 : 0;
     if (next_byte() == 255)
         send(lender, &order, next_byte(), MSG_DONTWAIT | MSG_NOSIGNAL);
@@ -107,7 +111,8 @@ int __wrap_poll_some(struct pollfd *files, nfds_t count, int limit)
 
 static void act(void)
 {
-    static void (*const acts[])(void) = {client_sends, client_sends, client_posts, client_posts, client_scribbles, lender_orders,
+    static void (*const acts[])(void) = {client_sends, client_sends,     client_posts,
+                                         client_posts, client_scribbles, lender_orders,
                                          client_kicks, client_babbles};
     unsigned what = next_byte();
     ends = what >= 244 && what < 250;
@@ -134,7 +139,8 @@ static void check_balloon(void)
 {
     const struct balloon *balloon = &fuzzed.backend.balloon;
     if (balloon->ballooned)
-        demand(vb_count_ballooned(balloon->ballooned, balloon->ballooned_words) == fuzzed.backend.ballooned);
+        demand(vb_count_ballooned(balloon->ballooned, balloon->ballooned_words) ==
+               fuzzed.backend.ballooned);
 }
 
 /* A process begins on what is kept. */
@@ -158,9 +164,13 @@ static void reads(void)
     if (next_byte() % 2 && inbox_read(fuzzed.backend.socket, inbox) == STREAM_WHOLE)
         return;
     bool of_head = inbox->got < sizeof inbox->head;
-    uint8_t *to = of_head ? (uint8_t *)inbox->head + inbox->got : inbox->message.body + inbox->got_body;
-    size_t length = of_head ? sizeof inbox->head - inbox->got : inbox->head[2] <= MOST_BODY ? inbox->head[2] - inbox->got_body : 0;
-    ssize_t got = length > 0 ? stream_part(fuzzed.backend.socket, to, length, &inbox->message.files) : 0;
+    uint8_t *to =
+        of_head ? (uint8_t *)inbox->head + inbox->got : inbox->message.body + inbox->got_body;
+    size_t length = of_head                       ? sizeof inbox->head - inbox->got
+                    : inbox->head[2] <= MOST_BODY ? inbox->head[2] - inbox->got_body
+                                                  : 0;
+    ssize_t got =
+        length > 0 ? stream_part(fuzzed.backend.socket, to, length, &inbox->message.files) : 0;
     kept.unnoted = got > 0 ? (uint64_t)got : 0;
 }
 
@@ -197,8 +207,14 @@ static int comes(void)
     int ends[2];
     now = (struct timespec){1, 0};
     unsigned kind = next_byte();
-    options = (struct options){.client = "fuzzed", .features = UINT64_C(1) << 32 | 0x27, .is_lent = true, .holds = kind & 1,
-                               .strict = kind & 2, .events = kind & 4, .hints = kind & 8, .discards_hints = kind & 16};
+    options = (struct options){.client = "fuzzed",
+                               .features = UINT64_C(1) << 32 | 0x27,
+                               .is_lent = true,
+                               .holds = kind & 1,
+                               .strict = kind & 2,
+                               .events = kind & 4,
+                               .hints = kind & 8,
+                               .discards_hints = kind & 16};
     memset(&kept, 0, offsetof(struct kept, set));
     kept_clear(&kept);
     demand(outbox_begin(&kept.outbox));
@@ -217,7 +233,8 @@ static void goes(void)
     files_put_off(false);
     memset(kept.set, 0, fuzzed.backend.balloon.ballooned_words * sizeof *kept.set);
     if (fuzzed.backend.balloon.deflating)
-        memset(fuzzed.backend.balloon.deflating, 0, fuzzed.backend.balloon.ballooned_words * sizeof *kept.set);
+        memset(fuzzed.backend.balloon.deflating, 0,
+               fuzzed.backend.balloon.ballooned_words * sizeof *kept.set);
     backend_leave(&fuzzed.backend);
     files_close(&kept.inbox.message.files);
     close(kept.outbox.ends[0]), close(kept.outbox.ends[1]);
@@ -243,7 +260,8 @@ static void listen_once(void)
         return;
     struct sockaddr_un address = {.sun_family = AF_UNIX};
     later = socket(AF_UNIX, SOCK_SEQPACKET | SOCK_CLOEXEC | SOCK_NONBLOCK, 0);
-    demand(!bind(later, (struct sockaddr *)&address, sizeof address.sun_family) && !listen(later, 8));
+    demand(!bind(later, (struct sockaddr *)&address, sizeof address.sun_family) &&
+           !listen(later, 8));
     process_is_shut = true;
     signal(SIGPIPE, SIG_IGN);
     demand(loop_add(&turns, (struct loop_part){&fuzzed, waits, turn}));

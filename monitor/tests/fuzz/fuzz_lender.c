@@ -1,5 +1,6 @@
-/* A lender, fuzzed: any messages of three guests' processes, which may obey it, or lie, or go; and budgets, floors and terms that change. After
- * each step every loan is one that the library may be given, and in the end no file is left open. */
+/* A lender, fuzzed: any messages of three guests' processes, which may obey it, or lie, or go; and
+ * budgets, floors and terms that change. After each step every loan is one that the library may be
+ * given, and in the end no file is left open. */
 #define _GNU_SOURCE
 #include "../../backends/host/loans.h"
 #include "script.h"
@@ -14,7 +15,7 @@ enum { SEATS = 3, FRAMES = 512, PERIOD = 200, MOST_READ = 8, STEP_MS = 50, TELLS
 struct script script;
 
 static struct host host;
-static int processes[SEATS];    /* their ends of the channels; -1: none */
+static int processes[SEATS]; /* their ends of the channels; -1: none */
 static struct lending_message reports[SEATS];
 static struct timespec now;
 
@@ -44,7 +45,8 @@ static void process_begins(unsigned number, bool adopted)
     int ends[2];
     if (seat->here)
         return;
-    demand(!socketpair(AF_UNIX, SOCK_SEQPACKET | SOCK_CLOEXEC | SOCK_NONBLOCK, 0, ends) && lending_names_senders(ends[0]));
+    demand(!socketpair(AF_UNIX, SOCK_SEQPACKET | SOCK_CLOEXEC | SOCK_NONBLOCK, 0, ends) &&
+           lending_names_senders(ends[0]));
     seat_clear(seat);
     seat->channel = ends[0];
     processes[number] = ends[1];
@@ -65,12 +67,15 @@ static void process_goes(unsigned number)
 /* One more of what a report says is as the script has it. */
 static void change_report(struct lending_message *report)
 {
-    uint32_t *const numbers[] = {&report->pages, &report->wanted, &report->ballooned, &report->held_pages, &report->target, &report->obeyed};
-    uint32_t *const words[] = {&report->ready, &report->waits, &report->taken_since, &report->has_terms, &report->holds, &report->status};
+    uint32_t *const numbers[] = {&report->pages,      &report->wanted, &report->ballooned,
+                                 &report->held_pages, &report->target, &report->obeyed};
+    uint32_t *const words[] = {&report->ready,     &report->waits, &report->taken_since,
+                               &report->has_terms, &report->holds, &report->status};
     unsigned what = next_below(16), value = next_byte();
     bool is_wild = value >= 250;
     if (what == 0 && !is_wild)
-        report->pages = report->pages > 0 ? value % report->pages : 0;   /* more, and its service ends */
+        report->pages =
+            report->pages > 0 ? value % report->pages : 0; /* more, and its service ends */
     else if (what == 10)
         report->holds ^= is_wild;
     else if (what < 6)
@@ -82,9 +87,12 @@ static void change_report(struct lending_message *report)
     else if (what == 13)
         report->terms = (struct kept_terms){value % 64, value, value % 3, value % 2};
     else if (what == 14)
-        report->counters.statistics++, report->figures[0] = (VbStatistic){.tag = 4 + value % 3, .value = value * UINT64_C(4096)};
+        report->counters.statistics++,
+            report->figures[0] =
+                (VbStatistic){.tag = 4 + value % 3, .value = value * UINT64_C(4096)};
     else
-        report->counters.taken += value, report->held_kib = is_wild ? (uint64_t)next_u32() << 32 : value * 4;
+        report->counters.taken += value,
+            report->held_kib = is_wild ? (uint64_t)next_u32() << 32 : value * 4;
     report->figure_count = what == 14 ? value % 40 : report->figure_count;
 }
 
@@ -104,7 +112,8 @@ static void process_tells(unsigned number)
     other.kind = kind % 16;
     next_bytes(other.words, 16);
     other.version = LENDING_VERSION + (kind == 254);
-    send(processes[number], &other, kind == 255 ? next_byte() : sizeof other, MSG_DONTWAIT | MSG_NOSIGNAL);
+    send(processes[number], &other, kind == 255 ? next_byte() : sizeof other,
+         MSG_DONTWAIT | MSG_NOSIGNAL);
 }
 
 /* A process obeys its orders, as far as the script says. */
@@ -120,7 +129,8 @@ static void process_obeys(unsigned number)
         if (order.kind == ORDER_ADMIT || order.kind == ORDER_REFUSE)
             report->waits = WAIT_NOTHING;
         if (order.kind == ORDER_GRANT && order.wait == report->held_wait) {
-            report->ballooned -= report->held_pages < report->ballooned ? report->held_pages : report->ballooned;
+            report->ballooned -=
+                report->held_pages < report->ballooned ? report->held_pages : report->ballooned;
             report->held_pages = 0;
         }
     }
@@ -129,8 +139,16 @@ static void process_obeys(unsigned number)
 /* A line of the operator's. */
 static void operator_says(void)
 {
-    static const char *const lines[] = {"budget %u", "floor %u", "terms a least=%u", "terms b most=%u", "terms c priority=%u",
-                                        "terms b strict=%u", "guests", "counters", "log", "a target %u"};
+    static const char *const lines[] = {"budget %u",
+                                        "floor %u",
+                                        "terms a least=%u",
+                                        "terms b most=%u",
+                                        "terms c priority=%u",
+                                        "terms b strict=%u",
+                                        "guests",
+                                        "counters",
+                                        "log",
+                                        "a target %u"};
     char line[64];
     const char *format = lines[next_below(sizeof lines / sizeof lines[0])];
     unsigned value = next_byte();
@@ -175,7 +193,8 @@ static void check_loans(void)
 {
     for (unsigned i = 0; i < MOST_PLACES; i++) {
         const VbLoan *loan = &host.loans[i];
-        demand((uint64_t)loan->lent + loan->ballooned >= loan->pages && loan->pages >= (uint64_t)loan->lent + loan->asked);
+        demand((uint64_t)loan->lent + loan->ballooned >= loan->pages &&
+               loan->pages >= (uint64_t)loan->lent + loan->asked);
         demand(loan->pages <= MOST_SET);
     }
     for (unsigned i = 0; i < SEATS; i++)
@@ -217,7 +236,8 @@ static void begin_once(void)
     }
 }
 
-/* A host as it begins; the first byte says which guests are strict, and whether targets grow by steps. */
+/* A host as it begins; the first byte says which guests are strict, and whether targets grow by
+ * steps. */
 static void begin(void)
 {
     unsigned kind = next_byte();

@@ -18,7 +18,15 @@ LEAST, MOST_INPUT = 90, 400
 
 # Of each fuzzer (monitor/Makefile says what it is made of), the files whose branches count.
 FUZZERS = {
-    "guest": ("guest/messages", "guest/slots", "guest/rings", "guest/ring_messages", "guest/inbox", "guest/marks", "guest/lent_channel"),
+    "guest": (
+        "guest/messages",
+        "guest/slots",
+        "guest/rings",
+        "guest/ring_messages",
+        "guest/inbox",
+        "guest/marks",
+        "guest/lent_channel",
+    ),
     "lender": ("host/reports", "host/message", "host/orders", "host/policy", "host/rest"),
 }
 
@@ -30,8 +38,18 @@ def corpus_of(name):
 
 def run(*words, **how):
     """Runs a program; returns what it said. A status that isn't 0 is a fault."""
-    ran = subprocess.run(words, stdin=subprocess.DEVNULL, stdout=subprocess.PIPE, stderr=subprocess.STDOUT, text=True, errors="replace", **how)
-    assert ran.returncode == 0, f"{words[0]} ends with status {ran.returncode}:\n{ran.stdout[-4000:]}"
+    ran = subprocess.run(
+        words,
+        stdin=subprocess.DEVNULL,
+        stdout=subprocess.PIPE,
+        stderr=subprocess.STDOUT,
+        text=True,
+        errors="replace",
+        **how,
+    )
+    assert (
+        ran.returncode == 0
+    ), f"{words[0]} ends with status {ran.returncode}:\n{ran.stdout[-4000:]}"
     return ran.stdout
 
 
@@ -57,11 +75,32 @@ def keep(name, folder):
 def branches(program, folder, corpus):
     """Returns for each file of the backends how many branches it has, and how many the inputs of a corpus take."""
     profile = os.path.join(folder, "profile")
-    run(program, "-runs=0", "-handle_bus=0", corpus, env={**os.environ, "LLVM_PROFILE_FILE": f"{profile}.raw"})
+    run(
+        program,
+        "-runs=0",
+        "-handle_bus=0",
+        corpus,
+        env={**os.environ, "LLVM_PROFILE_FILE": f"{profile}.raw"},
+    )
     run(linux_kit.need("llvm-profdata", "llvm"), "merge", "-o", profile, f"{profile}.raw")
-    said = json.loads(run(linux_kit.need("llvm-cov", "llvm"), "export", "-summary-only", f"-instr-profile={profile}", program))
-    found = {os.path.relpath(it["filename"], BACKENDS)[:-2]: it["summary"]["branches"] for it in said["data"][0]["files"]}
-    return {name: (its["count"], its["covered"]) for name, its in found.items() if its["count"] > 0 and not name.startswith("..")}
+    said = json.loads(
+        run(
+            linux_kit.need("llvm-cov", "llvm"),
+            "export",
+            "-summary-only",
+            f"-instr-profile={profile}",
+            program,
+        )
+    )
+    found = {
+        os.path.relpath(it["filename"], BACKENDS)[:-2]: it["summary"]["branches"]
+        for it in said["data"][0]["files"]
+    }
+    return {
+        name: (its["count"], its["covered"])
+        for name, its in found.items()
+        if its["count"] > 0 and not name.startswith("..")
+    }
 
 
 def check_branches(name, taken):
@@ -82,7 +121,12 @@ def test_fuzz(name, tmp_path, request):
     program = linux_kit.built(f"fuzz/fuzz_{name}")
     unpack(name, corpus)
     seconds = request.config.getoption("--seconds") // len(FUZZERS)
-    limits = (f"-max_total_time={seconds}", f"-max_len={MOST_INPUT}", "-handle_bus=0", f"-artifact_prefix={tmp_path}/")
+    limits = (
+        f"-max_total_time={seconds}",
+        f"-max_len={MOST_INPUT}",
+        "-handle_bus=0",
+        f"-artifact_prefix={tmp_path}/",
+    )
     said = run(program, *limits, "-print_final_stats=1", corpus)
     print(*(it for it in said.splitlines() if it.startswith(("Done", "stat::new"))), sep="\n")
     os.makedirs(least)

@@ -53,7 +53,9 @@ class Obeying:
         """Has requests of a queue served, one after the other."""
         for begin in range(first, first + count, most):
             pages = range(begin, min(begin + most, first + count))
-            (self.guest.give if number == INFLATE else self.guest.take)([self.first + it for it in pages])
+            (self.guest.give if number == INFLATE else self.guest.take)(
+                [self.first + it for it in pages]
+            )
             eventually(lambda: self.client.is_all_used(number), f"queue {number} hangs")
         return "done"
 

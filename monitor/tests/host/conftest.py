@@ -10,8 +10,17 @@ from tenants import FREE, Guest, Lender, process_of
 from test_strict import STRICT
 from vhost_client import Client
 
-PROGRAMS = ("plain/vhost_user_host", "checked/vhost_user_host", "simulated/vhost_user_host", "simulated-wrong/vhost_user_host", "loop/vhost_user_host",
-            "cut/vhost_user_balloon", "plain/vhost_user_chance", "plain/sandbox_calls", "libvb.so")
+PROGRAMS = (
+    "plain/vhost_user_host",
+    "checked/vhost_user_host",
+    "simulated/vhost_user_host",
+    "simulated-wrong/vhost_user_host",
+    "loop/vhost_user_host",
+    "cut/vhost_user_balloon",
+    "plain/vhost_user_chance",
+    "plain/sandbox_calls",
+    "libvb.so",
+)
 
 
 @pytest.fixture(scope="session")

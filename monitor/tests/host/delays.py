@@ -61,7 +61,9 @@ def one_processor(process):
 def longest_delay(client, process, seconds, ended, begins):
     """Has a client's requests served one after the other by this process, for so long, or until a file can be read; returns the milliseconds
     of the longest delay, and how many requests its queue has had."""
-    with one_processor(process), open(f"/proc/{process}/schedstat", "rb") as its, open("/proc/thread-self/schedstat", "rb") as own:
+    with one_processor(process), open(f"/proc/{process}/schedstat", "rb") as its, open(
+        "/proc/thread-self/schedstat", "rb"
+    ) as own:
         files, longest = (its.fileno(), own.fileno()), 0.0
         for _ in range(FIRST_ROUNDS):
             delay_of(client, files, PATIENCE)

@@ -42,7 +42,10 @@ class Killer(threading.Thread):
         os.kill(its["process"], signal.SIGKILL)
         self.killed += 1
         self.inflates += its["ballooned"] < its["target"]
-        eventually(lambda: self.town.host.guests()[name]["process"] not in (0, its["process"]), f"nobody goes on with {name}")
+        eventually(
+            lambda: self.town.host.guests()[name]["process"] not in (0, its["process"]),
+            f"nobody goes on with {name}",
+        )
 
 
 def anew_run(bench):
@@ -51,14 +54,28 @@ def anew_run(bench):
     with bench.town(budget) as town:
         town.settle_in(guests, MEMORY)
         said, killer = [it.guest.why() for it in town.members], Killer(town)
-        town.live(LONGEST_DAY, "anew", budget - linux_host.LEFT * len(guests), lambda _: killer.killed >= KILLS and town.ended.set())
+        town.live(
+            LONGEST_DAY,
+            "anew",
+            budget - linux_host.LEFT * len(guests),
+            lambda _: killer.killed >= KILLS and town.ended.set(),
+        )
         killer.join()
         demand(killer.fault is None, f"a killed process: {killer.fault}")
-        demand(killer.killed >= KILLS, f"only {killer.killed} processes were killed while a balloon moved")
-        demand(0 < killer.inflates < killer.killed, f"{killer.inflates} of {killer.killed} processes were killed amid inflates, and the others amid deflates")
+        demand(
+            killer.killed >= KILLS,
+            f"only {killer.killed} processes were killed while a balloon moved",
+        )
+        demand(
+            0 < killer.inflates < killer.killed,
+            f"{killer.inflates} of {killer.killed} processes were killed amid inflates, and the others amid deflates",
+        )
         town.ended.clear()
         finish(town)
         gone, checked = town.host.counters()["gone"], sum(it.checked for it in town.members)
         demand(gone == 0, f"{gone} guests went")
-        demand([it.guest.why() for it in town.members] == said, f"a VMM says {[it.guest.why() for it in town.members]}")
+        demand(
+            [it.guest.why() for it in town.members] == said,
+            f"a VMM says {[it.guest.why() for it in town.members]}",
+        )
         return f"{killer.killed} processes killed, {killer.inflates} amid inflates; {checked} sums right, {pages_moved(town)} pages moved"

@@ -36,9 +36,15 @@ def rule(needs, frames):
 
 def most_of(share, floor):
     """Returns what a guest may be asked for while its old target serves: what it can spare, and an eighth of the floor. Of one that is silent,
-    or took pages itself just now, it is no more than what is in its balloon; of one that waits for pages what it can spare."""
+    or took pages itself just now, it is no more than what is in its balloon; of one that waits for pages what it can spare.
+    """
     ballooned = min(share["ballooned"], share["pages"])
-    limits = {"statistics": share["pages"], "silence": ballooned, "pause": ballooned, "loan": share["spare"]}
+    limits = {
+        "statistics": share["pages"],
+        "silence": ballooned,
+        "pause": ballooned,
+        "loan": share["spare"],
+    }
     return min(share["spare"] + floor // 8, limits[share["by"]])
 
 
@@ -46,15 +52,26 @@ def check_decision(said, shares):
     """Demands that a decision is what the rule says of the needs that it goes by."""
     needs = [(it["pages"], it["spare"]) for it in shares.values()]
     targets, short = rule(needs, said["frames"])
-    demand([it["target"] for it in shares.values()] == targets, f"{said}: {shares}: the targets should be {targets}")
+    demand(
+        [it["target"] for it in shares.values()] == targets,
+        f"{said}: {shares}: the targets should be {targets}",
+    )
     demand(said["short"] == short, f"{said}: {shares}: short by {short}")
     for name, it in shares.items():
         most = most_of(it, said["floor"])
         # Of a guest that has less than its floor a part of the eighth is left.
-        demand(it["spare"] <= it["most"] <= most if it["spare"] == 0 else it["most"] == most, f"{said}: {name} may be asked for {most} pages: {it}")
+        demand(
+            it["spare"] <= it["most"] <= most if it["spare"] == 0 else it["most"] == most,
+            f"{said}: {name} may be asked for {most} pages: {it}",
+        )
     lack = max(0, sum(pages for pages, _ in needs) - said["frames"])
-    serves = sum(it["old"] for it in shares.values()) >= lack and all(it["old"] <= it["most"] for it in shares.values())
-    demand(said["why"] in ("guests", "budget") or not serves, f"{said}: {shares}: the old targets serve")
+    serves = sum(it["old"] for it in shares.values()) >= lack and all(
+        it["old"] <= it["most"] for it in shares.values()
+    )
+    demand(
+        said["why"] in ("guests", "budget") or not serves,
+        f"{said}: {shares}: the old targets serve",
+    )
 
 
 def check_decisions(town):
@@ -68,7 +85,10 @@ def check_decisions(town):
 def finish(town):
     """Demands what holds at the end of each run."""
     killed = town.finish()
-    demand(killed == 0, f"{killed} lines of the guests' kernels: {[it.killed()[:1] for it in town.members if it.guest]}")
+    demand(
+        killed == 0,
+        f"{killed} lines of the guests' kernels: {[it.killed()[:1] for it in town.members if it.guest]}",
+    )
     check_decisions(town)
 
 
@@ -81,11 +101,19 @@ def growth(samples, of=sum):
     """Returns by how many MiB at most what the host holds grew before it knew of it, or one guest's part of it."""
     most = 0.0
     for number, it in enumerate(samples):
-        before = [other.held for other in samples[:number] if it.seconds - other.seconds <= window(it)]
+        before = [
+            other.held for other in samples[:number] if it.seconds - other.seconds <= window(it)
+        ]
         if of is sum:
             most = max(most, sum(it.held) - min(map(sum, before), default=sum(it.held)))
         else:
-            most = max(most, *(mib - min((other[k] for other in before), default=mib) for k, mib in enumerate(it.held)))
+            most = max(
+                most,
+                *(
+                    mib - min((other[k] for other in before), default=mib)
+                    for k, mib in enumerate(it.held)
+                ),
+            )
     return most
 
 
@@ -95,10 +123,17 @@ def check_excess(samples, budget):
     isn't in their balloons yet."""
     most, excess = growth(samples), 0.0
     for number, it in enumerate(samples):
-        before = [other.short + sum(other.owes) for other in samples[: number + 1] if it.seconds - other.seconds <= 2 * window(it)]
+        before = [
+            other.short + sum(other.owes)
+            for other in samples[: number + 1]
+            if it.seconds - other.seconds <= 2 * window(it)
+        ]
         over = sum(it.held) - budget
         excess = max(excess, over)
-        demand(over <= max(before) + most, f"{over:.1f} MiB above the budget, short by and still to give {max(before):.1f}, growth {most:.1f}")
+        demand(
+            over <= max(before) + most,
+            f"{over:.1f} MiB above the budget, short by and still to give {max(before):.1f}, growth {most:.1f}",
+        )
     return excess
 
 
@@ -142,13 +177,19 @@ def unrest(town, budget, floor):
 
 def await_rest(town, budget, floor=12, limit=REST_LIMIT):
     """Demands that the host comes to rest, and stays there."""
-    eventually(lambda: not unrest(town, budget, floor), lambda: unrest(town, budget, floor), limit * town.vmm.patience)
+    eventually(
+        lambda: not unrest(town, budget, floor),
+        lambda: unrest(town, budget, floor),
+        limit * town.vmm.patience,
+    )
     time.sleep(4 * PERIOD)
     check_decisions(town)
     before = town.host.counters()["changed"]
     time.sleep(4 * PERIOD)
     changed = town.host.counters()["changed"] - before
-    demand(changed == 0, f"{changed} targets change while nothing moves: {town.host.decisions()[-1:]}")
+    demand(
+        changed == 0, f"{changed} targets change while nothing moves: {town.host.decisions()[-1:]}"
+    )
 
 
 def check_spares(town, floor=12):
@@ -156,8 +197,18 @@ def check_spares(town, floor=12):
     the host counts what their memory files hold."""
     seen, held = town.host.guests(), sum(town.sample().held)
     counted = town.host.counters()["held_kib"] / 1024
-    demand(abs(held - counted) <= SLACK, f"the files hold {held:.1f} MiB, and the host counts {counted:.1f}")
+    demand(
+        abs(held - counted) <= SLACK,
+        f"the files hold {held:.1f} MiB, and the host counts {counted:.1f}",
+    )
     for it in town.members:
-        own = it.guest.available_mib() + seen[it.name]["ballooned"] / PAGES_PER_MIB - floor if it.guest else 0
+        own = (
+            it.guest.available_mib() + seen[it.name]["ballooned"] / PAGES_PER_MIB - floor
+            if it.guest
+            else 0
+        )
         spare = seen[it.name]["spare"] / PAGES_PER_MIB
-        demand(abs(spare - max(0, own)) <= SLACK, f"{it.name} can spare {own:.1f} MiB, and the host says {spare:.1f}")
+        demand(
+            abs(spare - max(0, own)) <= SLACK,
+            f"{it.name} can spare {own:.1f} MiB, and the host says {spare:.1f}",
+        )

@@ -65,7 +65,9 @@ class Town(linux_host.Town):
         for it in self.members:
             it.host = self.host
         here = lambda: all(it["here"] and it["ready"] for it in self.host.guests().values())
-        eventually(here, lambda: f"a guest is lost: {self.host.guests()}; {self.host.why()}", GOES_ON_IN)
+        eventually(
+            here, lambda: f"a guest is lost: {self.host.guests()}; {self.host.why()}", GOES_ON_IN
+        )
 
     def kill_process(self, name):
         """Kills a guest's process, and waits for the one that goes on."""
@@ -107,7 +109,10 @@ def check_looks(town, budget):
     kept = sum(outside(town))
     held = [sum(it.held) - kept for it in town.samples] + [it - kept for it in town.alone]
     above = [it for it in held if it > budget]
-    demand(not above, f"{len(above)} of {len(held)} looks above the budget, by {max(above, default=0) - budget:.1f} MiB")
+    demand(
+        not above,
+        f"{len(above)} of {len(held)} looks above the budget, by {max(above, default=0) - budget:.1f} MiB",
+    )
     return max(held)
 
 
@@ -127,7 +132,11 @@ def day(bench, seconds, rest, others=None):
             for it in killers:
                 it.end()
         most = check_looks(town, budget)
-        eventually(lambda: all(it["waits"] == "nothing" for it in town.host.guests().values()), "a guest waits for good", GOES_ON_IN)
+        eventually(
+            lambda: all(it["waits"] == "nothing" for it in town.host.guests().values()),
+            "a guest waits for good",
+            GOES_ON_IN,
+        )
         finish(town)
         town.note_counters()
         return figures(town, most, waits)
@@ -143,7 +152,10 @@ def figures(town, most, waits):
     """Demands that work was done and nobody was lost; returns what there was, in words."""
     counted, checked = town.counted, sum(it.checked for it in town.members)
     demand(counted["gone"] == counted["refused"] == 0, f"guests went, or were refused: {counted}")
-    demand(town.lenders > 0 and counted["grants"] > 0 and checked > 0, f"{town.lenders} lenders killed, {checked} sums: {counted}")
+    demand(
+        town.lenders > 0 and counted["grants"] > 0 and checked > 0,
+        f"{town.lenders} lenders killed, {checked} sums: {counted}",
+    )
     looks = f"{len(town.samples)} looks and {len(town.alone)} without a lender, 0 above, peak {most:.0f} of {town.budget} MiB"
     killed = f"{town.lenders} lenders killed, away for {town.away / town.lenders:.2f} s each, {town.processes} processes"
     work = f"{counted['grants']} grants, {pages_moved(town)} pages moved, {counted['decisions']} decisions, {checked} sums right"
@@ -158,4 +170,9 @@ def killed_run(bench):
 def hours_run(bench, seconds):
     """Hours of guests at work, with the lender and processes killed now and then."""
     chance, other = random.Random("lenders"), random.Random("others")
-    return day(bench, seconds, lambda: chance.uniform(1, LONG_EVERY), lambda: other.uniform(1, PROCESS_EVERY))
+    return day(
+        bench,
+        seconds,
+        lambda: chance.uniform(1, LONG_EVERY),
+        lambda: other.uniform(1, PROCESS_EVERY),
+    )

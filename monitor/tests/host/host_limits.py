@@ -46,7 +46,11 @@ def squeeze(town, rogue, limit, overhead):
             it.fill("squeeze", SQUEEZE)
     half = MEMORY * PAGES_PER_MIB / 2
     done_in = DONE_IN * town.vmm.patience
-    eventually(lambda: loan_of(town, rogue.name) < half, lambda: f"{rogue.name} gives too little: {town.host.guests()}", done_in)
+    eventually(
+        lambda: loan_of(town, rogue.name) < half,
+        lambda: f"{rogue.name} gives too little: {town.host.guests()}",
+        done_in,
+    )
     follows = lambda: limit.pages() <= loan_of(town, rogue.name) + (overhead + 1) * PAGES_PER_MIB
     eventually(follows, lambda: f"the limit is {limit.pages()} pages", done_in)
     town.host.demand(f"budget {town.budget}")
@@ -72,7 +76,14 @@ def rogue_run(bench, kind):
     try:
         with bench.town(budget, ("--strict",)) as town:
             town.settle_in(guests[:-1], MEMORY)
-            rogue = Member(town.host, town.vmm, "rogue", MEMORY, f"overhead={overhead} limit={limit.term}", **limit.member())
+            rogue = Member(
+                town.host,
+                town.vmm,
+                "rogue",
+                MEMORY,
+                f"overhead={overhead} limit={limit.term}",
+                **limit.member(),
+            )
             rogue.boot()
             town.members.append(rogue)
             squeeze(town, rogue, limit, overhead)

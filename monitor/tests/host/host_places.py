@@ -12,7 +12,10 @@ PAGE, MIB = 4096, 1 << 20
 FIRST, SECOND = "/sys/fs/cgroup/memory", "/sys/fs/cgroup"
 
 # The files of a cgroup's limit, and of what it has, by the version.
-FILES = {FIRST: ("memory.limit_in_bytes", "memory.usage_in_bytes"), SECOND: ("memory.max", "memory.current")}
+FILES = {
+    FIRST: ("memory.limit_in_bytes", "memory.usage_in_bytes"),
+    SECOND: ("memory.max", "memory.current"),
+}
 
 # Seconds in which a cgroup is empty, once its processes were killed.
 EMPTY_IN = 20

@@ -10,7 +10,20 @@ from host_checks import eventually
 from host_seats import becomes
 from host_small import PAGES, Talker
 from linux_kit import built, demand
-from vhost_client import ADD_MEM_REG, BUFFERS, DEFLATE, INFLATE, NO_FILE, OFFERED, PAGE, REGIONS, REPORT, SET_VRING_KICK, WRITE, Client
+from vhost_client import (
+    ADD_MEM_REG,
+    BUFFERS,
+    DEFLATE,
+    INFLATE,
+    NO_FILE,
+    OFFERED,
+    PAGE,
+    REGIONS,
+    REPORT,
+    SET_VRING_KICK,
+    WRITE,
+    Client,
+)
 from waiting import PATIENCE
 
 MOST_CHAINS = 256
@@ -36,9 +49,14 @@ def long_queue(town):
     client = comes(town, size=MOST_CHAINS)
     for head in range(MOST_CHAINS):
         client.describe(DEFLATE, head, BUFFERS, 4)
-    client.write(client.table(DEFLATE) + PAGE, struct.pack(f"<HH{MOST_CHAINS}H", 1, MOST_CHAINS, *range(MOST_CHAINS)))
+    client.write(
+        client.table(DEFLATE) + PAGE,
+        struct.pack(f"<HH{MOST_CHAINS}H", 1, MOST_CHAINS, *range(MOST_CHAINS)),
+    )
     client.kick(DEFLATE)
-    eventually(lambda: is_used(client, DEFLATE, MOST_CHAINS), "what is left on a queue isn't served", 5)
+    eventually(
+        lambda: is_used(client, DEFLATE, MOST_CHAINS), "what is left on a queue isn't served", 5
+    )
     return client
 
 
@@ -69,14 +87,22 @@ def seats_that_go(town):
     before = files()
     clients = [comes(town, it) for it in ("first", "second", "third")]
     town.host.demand("remove second")
-    demand(list(town.host.guests()) == ["a", "first", "third"], f"of three guests the second one goes: {list(town.host.guests())}")
-    demand(sorted(os.listdir(town.host.folder)).count("second") == 0, "a socket is left of a guest that was taken away")
+    demand(
+        list(town.host.guests()) == ["a", "first", "third"],
+        f"of three guests the second one goes: {list(town.host.guests())}",
+    )
+    demand(
+        sorted(os.listdir(town.host.folder)).count("second") == 0,
+        "a socket is left of a guest that was taken away",
+    )
     clients[2].post_pages(INFLATE, [PAGES])
     becomes(town, {"ballooned": 1}, "third")
     for name in ("third", "first"):
         town.host.demand(f"remove {name}")
     demand(list(town.host.guests()) == ["a"], f"one guest is left: {list(town.host.guests())}")
-    eventually(lambda: files() == before, lambda: f"the host has {files()} files open, and had {before}", 5)
+    eventually(
+        lambda: files() == before, lambda: f"the host has {files()} files open, and had {before}", 5
+    )
     for it in clients:
         it.leave()
 
@@ -91,13 +117,20 @@ def who_goes_amid_a_message(town):
         client.negotiate(protocol=OFFERED)
         process = town.host.guests()["half"]["process"]
         had = files(process)
-        client.socket.sendmsg([struct.pack("<IIIQ", ADD_MEM_REG, 1, 40, 0)], [(1, 1, struct.pack("i", client.files[0]))])
+        client.socket.sendmsg(
+            [struct.pack("<IIIQ", ADD_MEM_REG, 1, 40, 0)],
+            [(1, 1, struct.pack("i", client.files[0]))],
+        )
         eventually(lambda: files(process) == had + 1, "a file doesn't come", 5)
         town.host.counters()  # it doesn't wait for the rest
         client.leave()
         becomes(town, {"here": 0}, "half")
         eventually(lambda: not os.path.exists(f"/proc/{process}"), "a process doesn't end", 5)
-        eventually(lambda: files(town.host.process.pid) == before, "the host has more files open than before", 5)
+        eventually(
+            lambda: files(town.host.process.pid) == before,
+            "the host has more files open than before",
+            5,
+        )
 
 
 def memory_far_up(town):
@@ -126,7 +159,11 @@ def channel_that_nobody_reads(town):
         with open(town.host.log, encoding="latin-1") as log:
             return [it for it in log if "can't be told" in it]
 
-    eventually(lambda: said() == ["deaf: the client can't be told of a change\n"] * 100, lambda: f"{len(said())} lines: {said()[:1]}", 5)
+    eventually(
+        lambda: said() == ["deaf: the client can't be told of a change\n"] * 100,
+        lambda: f"{len(said())} lines: {said()[:1]}",
+        5,
+    )
     client.leave()
 
 
@@ -166,17 +203,36 @@ def longest_path(bench):
     with tempfile.TemporaryDirectory() as folder:
         deep = os.path.join(folder, (99 - len(folder)) * "x")
         os.mkdir(deep)
-        words = [built("checked/vhost_user_host"), deep, "--budget", "5", "--control", f"{folder}/.control", "--status", f"{folder}/.status"]
-        ran = subprocess.run(words, input="add fives\nadd sixsix\nquit\n", capture_output=True,
-                             text=True, timeout=PATIENCE)
+        words = [
+            built("checked/vhost_user_host"),
+            deep,
+            "--budget",
+            "5",
+            "--control",
+            f"{folder}/.control",
+            "--status",
+            f"{folder}/.status",
+        ]
+        ran = subprocess.run(
+            words,
+            input="add fives\nadd sixsix\nquit\n",
+            capture_output=True,
+            text=True,
+            timeout=PATIENCE,
+        )
     said = f"ready\nlistening {deep}/fives\nerror: sixsix: File name too long\n"
-    demand((ran.returncode, ran.stdout, len(deep)) == (0, said, 100), f"paths of 106 and 107 bytes: {ran}")
+    demand(
+        (ran.returncode, ran.stdout, len(deep)) == (0, said, 100),
+        f"paths of 106 and 107 bytes: {ran}",
+    )
 
 
 def queues_run(bench):
     """Queues and seats of a host that looks once a minute."""
     longest_path(bench)
-    with bench.town(5, ("--floor", "0", "--period", "60000", "--lines", "1000"), checked=True) as town:
+    with bench.town(
+        5, ("--floor", "0", "--period", "60000", "--lines", "1000"), checked=True
+    ) as town:
         client = long_queue(town)
         demand(town.host.ask("a ask") == "nothing", "a guest is asked whose buffer isn't there")
         last_queue_s_kick(client)

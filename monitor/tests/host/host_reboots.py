@@ -41,7 +41,9 @@ class Lives(threading.Thread):
 def limit_of(town, budget):
     """Returns the MiB that all may use together: what leaves the one that reboots all its memory, which it wants at once then. Where the others wait for
     more than is left, all would wait for good."""
-    return budget - MEMORY - FLOOR - LEFT * (len(town.members) - 1) + town.used_mib(town.members[-1:])
+    return (
+        budget - MEMORY - FLOOR - LEFT * (len(town.members) - 1) + town.used_mib(town.members[-1:])
+    )
 
 
 def reboots_run(bench):

@@ -40,7 +40,17 @@ import linux_host
 import linux_kit
 from host_anew import anew_run
 from host_checks import (
-    REST_LIMIT, WRONG_LIMIT, await_rest, check_excess, check_given, check_spares, eventually, finish, growth, names, pages_moved,
+    REST_LIMIT,
+    WRONG_LIMIT,
+    await_rest,
+    check_excess,
+    check_given,
+    check_spares,
+    eventually,
+    finish,
+    growth,
+    names,
+    pages_moved,
 )
 from host_killed import killed_run
 from host_limits import ROGUE_RUNS
@@ -76,7 +86,15 @@ TOO_LITTLE = 20
 OF_UML_ALONE = ("rogue-cgroup",)
 
 # Each wrong host, and the run that has to fail for it.
-WRONG_HOSTS = {"1": "rest", "2": "rest", "3": "rest", "4": "rest", "5": "tells", "7": "tells", "8": "marks"}
+WRONG_HOSTS = {
+    "1": "rest",
+    "2": "rest",
+    "3": "rest",
+    "4": "rest",
+    "5": "tells",
+    "7": "tells",
+    "8": "marks",
+}
 
 
 def shift_run(bench, seed):
@@ -88,8 +106,14 @@ def shift_run(bench, seed):
         finish(town)
         above, looks, most = town.above(), len(town.samples), growth(town.samples, max)
         demand(looks >= LOOKS_FOR_ONE, f"only {looks} looks")
-        demand(len(above) <= looks // LOOKS_FOR_ONE, f"{len(above)} of {looks} looks above the budget, by {max(above, default=0):.1f} MiB")
-        demand(max(above, default=0) <= most, f"{max(above, default=0):.1f} MiB above the budget, and a guest grew by {most:.1f}")
+        demand(
+            len(above) <= looks // LOOKS_FOR_ONE,
+            f"{len(above)} of {looks} looks above the budget, by {max(above, default=0):.1f} MiB",
+        )
+        demand(
+            max(above, default=0) <= most,
+            f"{max(above, default=0):.1f} MiB above the budget, and a guest grew by {most:.1f}",
+        )
         demand(pages_moved(town) > 0, "no page moved")
         peak = max(sum(it.held) for it in town.samples)
         return f"peak {peak:.0f} of {budget} MiB, {len(above)} of {looks} looks above, {pages_moved(town)} pages moved"
@@ -120,10 +144,18 @@ def bare_run(bench):
         town.settle_in(guests, MEMORY)
         # It ends where there is enough to see; a machine that is busy takes longer.
         enough = budget * 15 // 14
-        town.live(LONGEST_DAY, 1, budget - linux_host.LEFT * len(guests), lambda it: sum(it.held) > enough and town.ended.set())
+        town.live(
+            LONGEST_DAY,
+            1,
+            budget - linux_host.LEFT * len(guests),
+            lambda it: sum(it.held) > enough and town.ended.set(),
+        )
         finish(town)
         peak = max(sum(it.held) for it in town.samples)
-        demand(peak > budget, f"without balloons the host holds {peak:.0f} MiB: so the test shows nothing")
+        demand(
+            peak > budget,
+            f"without balloons the host holds {peak:.0f} MiB: so the test shows nothing",
+        )
         return f"peak {peak:.0f} of {budget} MiB"
 
 
@@ -139,8 +171,14 @@ def want_a_little(town, budget):
     member.fill("little", min(8, int(member.free_mib()) // 2))
     await_rest(town, budget)
     after = town.host.guests()[member.name]
-    demand(after["target"] < before["target"], f"{member.name} is asked for as much as before: {after['target']} pages")
-    demand(after["taken"] == before["taken"], f"{member.name} has taken {after['taken'] - before['taken']} pages itself")
+    demand(
+        after["target"] < before["target"],
+        f"{member.name} is asked for as much as before: {after['target']} pages",
+    )
+    demand(
+        after["taken"] == before["taken"],
+        f"{member.name} has taken {after['taken'] - before['taken']} pages itself",
+    )
 
 
 def rest_run(bench):
@@ -154,8 +192,15 @@ def rest_run(bench):
         want_a_little(town, budget)
         town.members[-1].kill()
         left = lambda: sum(it["target"] for it in town.host.guests().values())
-        lack = sum(it["pages"] for it in list(town.host.guests().values())[:-1]) - budget * PAGES_PER_MIB
-        eventually(lambda: left() == max(0, lack), lambda: f"{left()} pages are asked for, and {lack} are missing", 5)
+        lack = (
+            sum(it["pages"] for it in list(town.host.guests().values())[:-1])
+            - budget * PAGES_PER_MIB
+        )
+        eventually(
+            lambda: left() == max(0, lack),
+            lambda: f"{left()} pages are asked for, and {lack} are missing",
+            5,
+        )
         town.members[-2].fill("work", 150)
         await_rest(town, budget)
         check_spares(town)
@@ -173,7 +218,11 @@ def kill_in_mid_inflate(town):
     while not before < town.host.guests()[victim.name]["ballooned"] < target:
         demand(time.monotonic() < end, "the balloon isn't filled in steps that can be seen")
     victim.kill()
-    eventually(lambda: not town.host.guests()[victim.name]["here"], "a guest that was killed is still there", 5)
+    eventually(
+        lambda: not town.host.guests()[victim.name]["here"],
+        "a guest that was killed is still there",
+        5,
+    )
     return victim
 
 
@@ -193,21 +242,34 @@ def lives_run(bench):
         silence(town, victim, others)
         await_rest(town, budget)
         finish(town)
-        return f"{town.host.counters()['admitted']} guests came, {town.host.counters()['gone']} went"
+        return (
+            f"{town.host.counters()['admitted']} guests came, {town.host.counters()['gone']} went"
+        )
 
 
 def silence(town, victim, others):
     """A guest stops, and counts as one that can spare what is ballooned alone; then it goes on."""
     victim.guest.process.send_signal(signal.SIGSTOP)
     try:
-        eventually(lambda: not town.host.guests()[victim.name]["answers"], "a guest that stands still answers", 5)
+        eventually(
+            lambda: not town.host.guests()[victim.name]["answers"],
+            "a guest that stands still answers",
+            5,
+        )
         seen = town.host.guests()[victim.name]
-        demand(seen["spare"] == seen["ballooned"], f"a guest that doesn't answer can spare {seen['spare']}, of {seen['ballooned']}")
+        demand(
+            seen["spare"] == seen["ballooned"],
+            f"a guest that doesn't answer can spare {seen['spare']}, of {seen['ballooned']}",
+        )
         for it in others:
             it.fill("work", 60), it.drop("work")
     finally:
         victim.guest.process.send_signal(signal.SIGCONT)
-    eventually(lambda: town.host.guests()[victim.name]["answers"], "a guest that goes on doesn't answer", 10)
+    eventually(
+        lambda: town.host.guests()[victim.name]["answers"],
+        "a guest that goes on doesn't answer",
+        10,
+    )
 
 
 def full_run(bench):
@@ -228,9 +290,16 @@ def full_run(bench):
         late = town.members[-1]
         late.kill()
         demand(town.host.counters()["refused"] == 1, f"nobody was refused: {town.host.counters()}")
-        little = sum(it["pages"] - it["spare"] for it in town.host.guests().values()) // PAGES_PER_MIB - TOO_LITTLE
+        little = (
+            sum(it["pages"] - it["spare"] for it in town.host.guests().values()) // PAGES_PER_MIB
+            - TOO_LITTLE
+        )
         town.host.demand(f"budget {little}")
-        eventually(lambda: town.host.counters()["short"] > 0, f"{little} MiB suffice for guests who use as much, and have their floors", 5)
+        eventually(
+            lambda: town.host.counters()["short"] > 0,
+            f"{little} MiB suffice for guests who use as much, and have their floors",
+            5,
+        )
         short = town.host.counters()["short"] // PAGES_PER_MIB
         town.host.demand(f"budget {budget}")
         eventually(lambda: town.host.counters()["short"] == 0, "the host stays short", 5)
@@ -263,14 +332,32 @@ def trash_run(bench):
 
 
 RUNS = {
-    "lines": lines_run, "spares": spares_run, "seats": seats_run, "queues": queues_run, "worked": worked_run, "many": many_run,
-    "marks": marks_run, "tells": tells_run, "files": files_run,
-    "shift-1": functools.partial(shift_run, seed=1), "shift-2": functools.partial(shift_run, seed=2),
+    "lines": lines_run,
+    "spares": spares_run,
+    "seats": seats_run,
+    "queues": queues_run,
+    "worked": worked_run,
+    "many": many_run,
+    "marks": marks_run,
+    "tells": tells_run,
+    "files": files_run,
+    "shift-1": functools.partial(shift_run, seed=1),
+    "shift-2": functools.partial(shift_run, seed=2),
     "shift-3": functools.partial(shift_run, seed=3),
-    "greedy": greedy_run, "strict": strict_run, "bare": bare_run,
-    "rest": rest_run, "lives": lives_run, "anew": anew_run, "killed": killed_run, "upgrades": upgrades_run,
+    "greedy": greedy_run,
+    "strict": strict_run,
+    "bare": bare_run,
+    "rest": rest_run,
+    "lives": lives_run,
+    "anew": anew_run,
+    "killed": killed_run,
+    "upgrades": upgrades_run,
     "reboots": reboots_run,
-    "wants": wants_run, "cache": cache_run, **ROGUE_RUNS, "full": full_run, "trash": trash_run,
+    "wants": wants_run,
+    "cache": cache_run,
+    **ROGUE_RUNS,
+    "full": full_run,
+    "trash": trash_run,
 }
 
 
@@ -289,7 +376,22 @@ class Bench:
     def town(self, budget, options=(), checked=False, uncounted=False, kind=linux_host.Town):
         """Returns a host without guests: with the compiler's checks, or one that ends where it counts a guest's whole set; a town of this kind."""
         self.count += 1
-        of = "wrong-plain" if self.wrong else "checked" if checked else "uncounted" if uncounted else "plain"
+        of = (
+            "wrong-plain"
+            if self.wrong
+            else "checked"
+            if checked
+            else "uncounted"
+            if uncounted
+            else "plain"
+        )
         program = linux_kit.built(f"{of}/vhost_user_host")
         options = ("--step", "0", *options)
-        return kind(self.vmm, program, f"{self.folder}/{self.count}", budget, options, {"HOST_WRONG": self.wrong or "0"})
+        return kind(
+            self.vmm,
+            program,
+            f"{self.folder}/{self.count}",
+            budget,
+            options,
+            {"HOST_WRONG": self.wrong or "0"},
+        )

@@ -8,7 +8,17 @@ import time
 from host_checks import check_decisions, eventually
 from host_small import FREE_MEMORY, PAGES, Talker
 from linux_kit import demand
-from vhost_client import ADD_MEM_REG, DEFLATE, INFLATE, OFFERED, PAGE, REGIONS, REM_MEM_REG, SET_VRING_BASE, Client
+from vhost_client import (
+    ADD_MEM_REG,
+    DEFLATE,
+    INFLATE,
+    OFFERED,
+    PAGE,
+    REGIONS,
+    REM_MEM_REG,
+    SET_VRING_BASE,
+    Client,
+)
 
 TOTAL_MEMORY = 5
 
@@ -20,10 +30,13 @@ def seat(town, name="a"):
 
 def becomes(town, wanted, name="a"):
     """Waits until a guest has these numbers."""
+
     def seen():
         return {it: seat(town, name)[it] for it in wanted}
 
-    eventually(lambda: seen() == wanted, lambda: f"{name} has {seen()}, and should have {wanted}", 5)
+    eventually(
+        lambda: seen() == wanted, lambda: f"{name} has {seen()}, and should have {wanted}", 5
+    )
 
 
 def spares_run(bench):
@@ -64,7 +77,9 @@ def spares_run(bench):
         town.host.demand("floor 0")
         becomes(town, {"spare": 110})
         counters = town.host.counters()
-        demand((counters["looks"], counters["peak_kib"]) == (0, 0), f"the host has looked: {counters}")
+        demand(
+            (counters["looks"], counters["peak_kib"]) == (0, 0), f"the host has looked: {counters}"
+        )
         client.leave()
     return "what a guest can spare, by hand"
 
@@ -72,7 +87,10 @@ def spares_run(bench):
 def rings_of(client, on):
     """Disables all queues of a client, or enables them."""
     for number in range(4):
-        demand(client.enable(number, on) == bytes(8), f"queue {number} isn't {'enabled' if on else 'disabled'}: {client.why()}")
+        demand(
+            client.enable(number, on) == bytes(8),
+            f"queue {number} isn't {'enabled' if on else 'disabled'}: {client.why()}",
+        )
 
 
 def lives_of_a_balloon(town, client):
@@ -94,7 +112,11 @@ def lives_of_a_balloon(town, client):
 
 def region(client, number, request):
     """Hands over one of a client's regions, or takes it away."""
-    client.accepted(request, client.region_body(number), client.files[number : number + 1] if request == ADD_MEM_REG else ())
+    client.accepted(
+        request,
+        client.region_body(number),
+        client.files[number : number + 1] if request == ADD_MEM_REG else (),
+    )
 
 
 def plugged_again(town, client):
@@ -136,13 +158,18 @@ def reminded_by_its_balloon(town, client):
     town.host.demand("a target 5")
     before = told(town)
     time.sleep(1)
-    demand(told(town) == before, f"a guest whose balloon is on its target is told of it {told(town) - before} times")
+    demand(
+        told(town) == before,
+        f"a guest whose balloon is on its target is told of it {told(town) - before} times",
+    )
     client.answers = False
     becomes(town, {"answers": 0})
     town.host.demand("a target 3")
     before = told(town)
     time.sleep(1)
-    demand(told(town) == before, f"a guest that doesn't answer is reminded {told(town) - before} times")
+    demand(
+        told(town) == before, f"a guest that doesn't answer is reminded {told(town) - before} times"
+    )
 
 
 def not_reminded_while_it_moves(town, client):
@@ -156,10 +183,17 @@ def not_reminded_while_it_moves(town, client):
         longest, last = max(longest, time.monotonic() - last), time.monotonic()
     again = told(town) - before
     # Else the machine has held the client up, and the balloon has stayed.
-    demand(again == 0 or longest > 0.1, f"a guest whose balloon moves is told of its target {again} times more")
+    demand(
+        again == 0 or longest > 0.1,
+        f"a guest whose balloon moves is told of its target {again} times more",
+    )
     # Once it stays off it, it is.
     last = told(town)
-    eventually(lambda: client.answer() or told(town) > last, "a guest whose balloon has stopped isn't told of its target again", 5)
+    eventually(
+        lambda: client.answer() or told(town) > last,
+        "a guest whose balloon has stopped isn't told of its target again",
+        5,
+    )
 
 
 def told(town):
@@ -179,8 +213,13 @@ def room_for_more(town):
     fourth = Client(town.host.add("c"), town.host.why)
     fourth.negotiate(protocol=OFFERED)
     fourth.send(ADD_MEM_REG, fourth.region_body(0), fourth.files[:1], flags=1)
-    eventually(lambda: town.host.counters()["refused"] == 1, "a guest without room isn't refused", 5)
-    demand(town.host.why_of("c") == "refused c: no room for 64 pages: 63 are missing", town.host.why_of("c"))
+    eventually(
+        lambda: town.host.counters()["refused"] == 1, "a guest without room isn't refused", 5
+    )
+    demand(
+        town.host.why_of("c") == "refused c: no room for 64 pages: 63 are missing",
+        town.host.why_of("c"),
+    )
     # Who gives a region back makes room, and finds none when it wants it again.
     region(third, 1, REM_MEM_REG)
     becomes(town, {"pages": 64}, "b")
@@ -190,7 +229,10 @@ def room_for_more(town):
     becomes(town, {"pages": 64}, "c")
     third.send(ADD_MEM_REG, third.region_body(1), third.files[1:], flags=1)
     eventually(lambda: town.host.counters()["refused"] == 2, "a guest without room grows", 5)
-    demand(town.host.why_of("b") == "refused b: no room for 128 pages: 63 are missing", town.host.why_of("b"))
+    demand(
+        town.host.why_of("b") == "refused b: no room for 128 pages: 63 are missing",
+        town.host.why_of("b"),
+    )
     return third, fourth, fifth
 
 
@@ -205,7 +247,10 @@ def seats_run(bench):
         client.post_pages(DEFLATE, list(range(PAGES + 10, PAGES + 50)))
         reminded_by_its_balloon(town, client)
         client.leave()
-        nothing = dict.fromkeys("here ready pages held_kib ballooned target free spare answers inflated taken statistics".split(), 0)
+        nothing = dict.fromkeys(
+            "here ready pages held_kib ballooned target free spare answers inflated taken statistics".split(),
+            0,
+        )
         becomes(town, nothing)
         # Who comes next begins with nothing; it never tells its statistics.
         second = Client(path, town.host.why)
@@ -218,7 +263,10 @@ def seats_run(bench):
         becomes(town, {"held_kib": 4 * 128})
         others = room_for_more(town)
         counters = town.host.counters()
-        demand([counters[it] for it in ("admitted", "refused", "gone")] == [5, 2, 3], f"4 came in, one twice, 2 of 5 were refused: {counters}")
+        demand(
+            [counters[it] for it in ("admitted", "refused", "gone")] == [5, 2, 3],
+            f"4 came in, one twice, 2 of 5 were refused: {counters}",
+        )
         demand(check_decisions(town) > 0, "nothing was decided")
         for it in (second, *others):
             it.leave()

@@ -48,10 +48,19 @@ def strict_run(bench):
         kept = sum(outside(town))
         most = max(sum(it.held) for it in town.samples) - kept
         above = sum(sum(it.held) - kept > budget for it in town.samples)
-        demand(above == 0, f"{above} of {len(town.samples)} looks above the budget, by {most - budget:.1f} MiB")
-        eventually(lambda: all(it["waits"] == "nothing" for it in town.host.guests().values()), "a guest waits for good")
+        demand(
+            above == 0,
+            f"{above} of {len(town.samples)} looks above the budget, by {most - budget:.1f} MiB",
+        )
+        eventually(
+            lambda: all(it["waits"] == "nothing" for it in town.host.guests().values()),
+            "a guest waits for good",
+        )
         finish(town)
         grants = town.host.counters()["grants"]
-        demand(grants > 0 and pages_moved(town) > 0, f"{grants} grants, {pages_moved(town)} pages moved: nothing was lent")
+        demand(
+            grants > 0 and pages_moved(town) > 0,
+            f"{grants} grants, {pages_moved(town)} pages moved: nothing was lent",
+        )
         said = f"{len(town.samples)} looks, 0 above, peak {most:.0f} of {budget} MiB; {grants} grants, {sum(waits)} seconds of waits"
         return f"{said}; the replay grants the same, {apart:.1f} s apart"

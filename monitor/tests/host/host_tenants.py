@@ -18,7 +18,15 @@ from host_small import PAGES, Talker, targets_of
 from linux_guest import PAGES_PER_MIB
 from linux_kit import demand
 from vhost_client import (
-    ADD_MEM_REG, DEFLATE, INFLATE, OFFERED, PAGE, PAGES_OF_REGION, REGIONS, REM_MEM_REG, Client,
+    ADD_MEM_REG,
+    DEFLATE,
+    INFLATE,
+    OFFERED,
+    PAGE,
+    PAGES_OF_REGION,
+    REGIONS,
+    REM_MEM_REG,
+    Client,
 )
 from waiting import PATIENCE, patience_from_now
 
@@ -51,7 +59,9 @@ def marks_by_chance(town, kept):
     rings_of(client, 1)
     chance, ballooned, here = random.Random(f"marks {kept}"), set(), True
     for _ in range(150):
-        pages = chance.sample([*OF_REGION[kept][48:], *(OF_REGION[other] if here else ())], chance.randint(1, 12))
+        pages = chance.sample(
+            [*OF_REGION[kept][48:], *(OF_REGION[other] if here else ())], chance.randint(1, 12)
+        )
         what = chance.randrange(5)
         if what < 2:
             served(client, INFLATE, pages)
@@ -64,7 +74,10 @@ def marks_by_chance(town, kept):
             here = not here
             ballooned -= set(OF_REGION[other])
         seen = town.host.guests()["a"]
-        demand((seen["ballooned"], seen["pages"]) == (len(ballooned), 64 * (1 + here)), f"{len(ballooned)} pages are in the balloon: {seen}")
+        demand(
+            (seen["ballooned"], seen["pages"]) == (len(ballooned), 64 * (1 + here)),
+            f"{len(ballooned)} pages are in the balloon: {seen}",
+        )
     client.leave()
     becomes(town, {"here": 0, "ballooned": 0})
     return len(ballooned)
@@ -85,7 +98,11 @@ def memory_that_stays(town):
     region(client, 0, ADD_MEM_REG)
     for number in range(4):
         client.place(number)
-    client.accepted(ADD_MEM_REG, struct.pack("<QQQQQ", 0, REGIONS[1][0] + 65 * PAGE, PAGE, REGIONS[1][1] + 65 * PAGE, 0), client.files[1:])
+    client.accepted(
+        ADD_MEM_REG,
+        struct.pack("<QQQQQ", 0, REGIONS[1][0] + 65 * PAGE, PAGE, REGIONS[1][1] + 65 * PAGE, 0),
+        client.files[1:],
+    )
     rings_of(client, 1)
     served(client, INFLATE, [PAGES + 3, PAGES + 65])  # the first one is in a hole
     becomes(town, {"ballooned": 2, "pages": 65})
@@ -99,7 +116,11 @@ def set_of_a_large_memory(town):
     client = Client(f"{town.host.folder}/a", town.host.why)
     client.negotiate(protocol=OFFERED)
     region(client, 0, ADD_MEM_REG)
-    client.accepted(ADD_MEM_REG, struct.pack("<QQQQQ", 0, MOST_SET - PAGE, PAGE, REGIONS[1][1], 0), client.files[1:])
+    client.accepted(
+        ADD_MEM_REG,
+        struct.pack("<QQQQQ", 0, MOST_SET - PAGE, PAGE, REGIONS[1][1], 0),
+        client.files[1:],
+    )
     for number in range(4):
         client.place(number)
     rings_of(client, 1)
@@ -122,15 +143,25 @@ def marks_run(bench):
 
 def who_gives_what(town):
     """Who can spare most gives first, whatever it gave before."""
-    a, b = (Talker(town.host.add(name), town.host.why, free) for name, free in (("a", 100), ("b", 60)))
+    a, b = (
+        Talker(town.host.add(name), town.host.why, free) for name, free in (("a", 100), ("b", 60))
+    )
     becomes(town, {"spare": 100}), becomes(town, {"spare": 60}, "b")
     c = Talker(town.host.add("c"), town.host.why, 0)
-    eventually(lambda: targets_of(town) == (100, 28, 0), lambda: f"128 pages are missing, and the targets are {targets_of(town)}", 5)
+    eventually(
+        lambda: targets_of(town) == (100, 28, 0),
+        lambda: f"128 pages are missing, and the targets are {targets_of(town)}",
+        5,
+    )
     b.free = 128
     b.tell_again(town)
     becomes(town, {"spare": 128, "target": 28}, "b")
     town.host.demand("floor 0")
-    eventually(lambda: targets_of(town) == (0, 128, 0), lambda: f"b can give 128 pages, and the targets are {targets_of(town)}", 5)
+    eventually(
+        lambda: targets_of(town) == (0, 128, 0),
+        lambda: f"b can give 128 pages, and the targets are {targets_of(town)}",
+        5,
+    )
     return a, b, c
 
 
@@ -138,9 +169,16 @@ def floors_are_decided(town):
     """A change of the floor is a decision."""
     town.host.decisions()
     town.host.demand("floor 1")
-    eventually(lambda: town.host.counters()["floor"] == PAGES_PER_MIB, "the floor isn't what it was set to", 5)
+    eventually(
+        lambda: town.host.counters()["floor"] == PAGES_PER_MIB,
+        "the floor isn't what it was set to",
+        5,
+    )
     said = [(it["why"], it["floor"]) for it, _ in town.host.decisions()]
-    demand(said == [("budget", PAGES_PER_MIB)], f"the floor has changed, and the host has decided by {said}")
+    demand(
+        said == [("budget", PAGES_PER_MIB)],
+        f"the floor has changed, and the host has decided by {said}",
+    )
     town.host.demand("floor 0")
 
 
@@ -183,10 +221,15 @@ def no_file_left(town):
     client.start()
     path, process = town.host.add("b"), town.host.process.pid
     soft, hard = resource.prlimit(process, resource.RLIMIT_NOFILE)
-    resource.prlimit(process, resource.RLIMIT_NOFILE, (len(os.listdir(f"/proc/{process}/fd")), hard))
+    resource.prlimit(
+        process, resource.RLIMIT_NOFILE, (len(os.listdir(f"/proc/{process}/fd")), hard)
+    )
     late = Client(path, town.host.why)
     demand(town.host.is_at_rest(), "no file is left, and the host looks again and again")
-    demand(town.host.why() == "b can't come: Too many open files", f"no file is left, and the host says {town.host.why()}")
+    demand(
+        town.host.why() == "b can't come: Too many open files",
+        f"no file is left, and the host says {town.host.why()}",
+    )
     served(client, INFLATE, [PAGES])
     resource.prlimit(process, resource.RLIMIT_NOFILE, (soft, hard))
     late.start()
@@ -222,9 +265,15 @@ def lines_of_a_client(town):
     for _ in range(37):
         break_a_rule(town, path)
     seconds, said = int(time.monotonic() - begin) + 2, said_since(town, before)
-    first, more = ["refused c: message 99 is unknown", "gone c"], "c: further lines of this second are left out"
+    first, more = [
+        "refused c: message 99 is unknown",
+        "gone c",
+    ], "c: further lines of this second are left out"
     # On a busy machine three clients may take longer than a second.
-    demand(not in_one_second or said[:6] == [*first, *first, first[0], more], f"three clients in a second: {said[:7]}")
+    demand(
+        not in_one_second or said[:6] == [*first, *first, first[0], more],
+        f"three clients in a second: {said[:7]}",
+    )
     demand(len(said) <= 6 * seconds, f"{len(said)} lines in {seconds} seconds")
 
 
@@ -239,13 +288,30 @@ def ends_by_signals(bench):
             left = (host.process.wait(PATIENCE), os.listdir(folder))
             demand(left == (0, ["backend.log"]), f"after signal {number} there are {left}")
             host.process.stdin.close(), host.process.stdout.close()
-    for word, said in (("--help", "vhost_user_host FOLDER --budget MIB"), ("--version", "vhost_user_host ")):
-        ran = subprocess.run([program, word], stdin=subprocess.DEVNULL, capture_output=True, text=True, timeout=PATIENCE)
-        demand((ran.returncode, ran.stderr, ran.stdout[: len(said)]) == (0, "", said), f"{word} is answered {ran}")
+    for word, said in (
+        ("--help", "vhost_user_host FOLDER --budget MIB"),
+        ("--version", "vhost_user_host "),
+    ):
+        ran = subprocess.run(
+            [program, word],
+            stdin=subprocess.DEVNULL,
+            capture_output=True,
+            text=True,
+            timeout=PATIENCE,
+        )
+        demand(
+            (ran.returncode, ran.stderr, ran.stdout[: len(said)]) == (0, "", said),
+            f"{word} is answered {ran}",
+        )
     with tempfile.TemporaryDirectory() as folder:
         words = ["sh", "-c", 'ulimit -n 50; exec "$0" "$@"', program, folder, "--budget", "5"]
-        ran = subprocess.run(words, input="quit\n", capture_output=True, text=True, timeout=PATIENCE)
-        demand("files may be wanted, and 50 may be open (RLIMIT_NOFILE)\n" in ran.stderr, f"50 files are few for 64 guests: {ran}")
+        ran = subprocess.run(
+            words, input="quit\n", capture_output=True, text=True, timeout=PATIENCE
+        )
+        demand(
+            "files may be wanted, and 50 may be open (RLIMIT_NOFILE)\n" in ran.stderr,
+            f"50 files are few for 64 guests: {ran}",
+        )
 
 
 def files_run(bench):

@@ -13,7 +13,13 @@ def break_a_rule(client, chance):
     """Posts a chain that breaks a rule."""
     client.start()
     if chance.random() < 0.5:
-        client.describe(vhost_client.INFLATE, 0, vhost_client.BUFFERS, chance.choice((5, 1 << 20)), chance.choice((0, 2, 4)))
+        client.describe(
+            vhost_client.INFLATE,
+            0,
+            vhost_client.BUFFERS,
+            chance.choice((5, 1 << 20)),
+            chance.choice((0, 2, 4)),
+        )
         client.publish(vhost_client.INFLATE, 0)
     else:
         client.publish(vhost_client.INFLATE, 0, vhost_client.SIZE + 1)
@@ -64,11 +70,19 @@ def end_one(town, client, how, chance, gone):
     try:
         how(client, chance)
     except (OSError, AssertionError):
-        pass # the host may have closed the socket meanwhile
-    eventually(lambda: town.host.counters()["gone"] > gone, lambda: f"{how.__name__}: the client is still there", 5)
+        pass  # the host may have closed the socket meanwhile
+    eventually(
+        lambda: town.host.counters()["gone"] > gone,
+        lambda: f"{how.__name__}: the client is still there",
+        5,
+    )
     client.leave()
-    serves = lambda seen: all(seen[it.name]["ready"] and seen[it.name]["answers"] for it in town.members)
-    eventually(lambda: serves(town.host.guests()), lambda: f"{how.__name__}: {town.host.guests()}", 5)
+    serves = lambda seen: all(
+        seen[it.name]["ready"] and seen[it.name]["answers"] for it in town.members
+    )
+    eventually(
+        lambda: serves(town.host.guests()), lambda: f"{how.__name__}: {town.host.guests()}", 5
+    )
 
 
 def hang_one(town, path):
@@ -79,10 +93,17 @@ def hang_one(town, path):
     seen, looks = town.host.guests(), town.host.counters()["looks"]
     town.members[0].fill("work", 60)
     town.members[0].drop("work")
-    asked = lambda now: all(now[it.name]["statistics"] > seen[it.name]["statistics"] for it in town.members)
+    asked = lambda now: all(
+        now[it.name]["statistics"] > seen[it.name]["statistics"] for it in town.members
+    )
     eventually(lambda: asked(town.host.guests()), "a guest isn't asked any longer", 5)
     eventually(lambda: town.host.counters()["looks"] > looks + 4, "the host has stopped to look", 5)
     now = town.host.guests()
-    demand(not now["trash"]["answers"] and now["trash"]["spare"] == 0, f"a client that hangs can spare: {now['trash']}")
+    demand(
+        not now["trash"]["answers"] and now["trash"]["spare"] == 0,
+        f"a client that hangs can spare: {now['trash']}",
+    )
     client.leave()
-    eventually(lambda: not town.host.guests()["trash"]["here"], "a client that has gone is still there", 5)
+    eventually(
+        lambda: not town.host.guests()["trash"]["here"], "a client that has gone is still there", 5
+    )

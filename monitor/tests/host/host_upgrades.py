@@ -34,8 +34,14 @@ class Upgraded(Town):
             install(self.programs[after], self.installed)
             ran = bigvasta(f"{self.host.folder}/.control", "upgrade", limit=GOES_ON_IN)
             wanted = {f"{it}: {before} -> {after}" for it in ("host", *processes)}
-            demand((ran.returncode, set(ran.stdout.splitlines()), ran.stderr) == (0, wanted, ""), f"an upgrade says {ran}")
-            demand(self.host.lines.next(time.monotonic() + GOES_ON_IN) == "ready", "the next program isn't ready")
+            demand(
+                (ran.returncode, set(ran.stdout.splitlines()), ran.stderr) == (0, wanted, ""),
+                f"an upgrade says {ran}",
+            )
+            demand(
+                self.host.lines.next(time.monotonic() + GOES_ON_IN) == "ready",
+                "the next program isn't ready",
+            )
             stay = [name for name, it in self.serving().items() if it == processes[name]]
             demand(not stay, f"the processes of {stay} stay")
             self.upgrades += 1
@@ -50,9 +56,18 @@ def upgrades_run(bench):
     guests, budget = bench.crowd(4, BUDGET)
     with bench.town(budget, ("--strict",), kind=Upgraded) as town:
         town.settle_in(guests, MEMORY)
-        said, upgrader, waits = [it.guest.why() for it in town.members], Killer(town, lambda: EVERY, town.upgrade), []
+        said, upgrader, waits = (
+            [it.guest.why() for it in town.members],
+            Killer(town, lambda: EVERY, town.upgrade),
+            [],
+        )
         try:
-            town.live(LONGEST_DAY, 1, budget - LEFT * len(guests), lambda _: note(town, waits) or town.upgrades >= UPGRADES and town.ended.set())
+            town.live(
+                LONGEST_DAY,
+                1,
+                budget - LEFT * len(guests),
+                lambda _: note(town, waits) or town.upgrades >= UPGRADES and town.ended.set(),
+            )
         finally:
             upgrader.end()
         town.ended.clear()
@@ -61,8 +76,13 @@ def upgrades_run(bench):
         finish(town)
         town.note_counters()
         counted, checked = town.counted, sum(it.checked for it in town.members)
-        demand(counted["gone"] == counted["refused"] == 0, f"guests went, or were refused: {counted}")
-        demand([it.guest.why() for it in town.members] == said, f"a VMM says {[it.guest.why() for it in town.members]}")
+        demand(
+            counted["gone"] == counted["refused"] == 0, f"guests went, or were refused: {counted}"
+        )
+        demand(
+            [it.guest.why() for it in town.members] == said,
+            f"a VMM says {[it.guest.why() for it in town.members]}",
+        )
         demand(counted["grants"] > 0 and checked > len(guests), f"{checked} sums: {counted}")
         looks = f"{len(town.samples)} looks, 0 above, peak {most:.0f} of {budget} MiB"
         return f"{town.upgrades} upgrades; {looks}; {counted['grants']} grants, {pages_moved(town)} pages moved, {checked} sums right"

@@ -75,17 +75,26 @@ def wants_run(bench):
         wants = [Want(it, free) for it in town.members]
         while not all(it.done for it in wants):
             if not stalled(town, wants):
-                demand(free.is_set() or not all(it.has for it in wants), f"all have {WANTED} MiB at once, with a budget of {first}")
+                demand(
+                    free.is_set() or not all(it.has for it in wants),
+                    f"all have {WANTED} MiB at once, with a budget of {first}",
+                )
                 continue
             check_within(town, begin, budget)
             if not free.is_set():
                 free.set()
                 continue
             begin, budget = len(town.samples), budget + GROWS
-            demand(budget < most + GROWS, f"all have what they want with {most} MiB, and {budget - GROWS} aren't enough")
+            demand(
+                budget < most + GROWS,
+                f"all have what they want with {most} MiB, and {budget - GROWS} aren't enough",
+            )
             town.host.demand(f"budget {budget}")
         check_within(town, begin, budget)
-        eventually(lambda: all(it["waits"] == "nothing" for it in town.host.guests().values()), "a guest waits for good")
+        eventually(
+            lambda: all(it["waits"] == "nothing" for it in town.host.guests().values()),
+            "a guest waits for good",
+        )
         finish(town)
         return f"all {len(guests)} waited on {first} MiB, and were served in turn with {budget}; {town.host.counters()['grants']} grants"
 
@@ -122,7 +131,10 @@ def cache_run(bench):
         lack = sum(it["pages"] for it in before.values()) - budget * PAGES_PER_MIB
         await_rest(town, budget, limit=REACHED_IN)
         seen = town.host.guests()
-        demand(sum(it["ballooned"] for it in seen.values()) >= lack, f"{lack} pages are missing: {seen}")
+        demand(
+            sum(it["ballooned"] for it in seen.values()) >= lack,
+            f"{lack} pages are missing: {seen}",
+        )
         demand(town.host.counters()["short"] == 0, f"the host is short: {town.host.counters()}")
         held = sum(town.sample().held) - sum(outside(town))
         demand(held <= budget, f"{held:.0f} MiB are held of {budget}")

@@ -11,9 +11,22 @@ import tempfile
 
 import linux_kit
 from tenants import AVAILABLE, FREE, eventually, go_on, process_of, status_of, stop
-from vhost_client import BUFFERS, DEFLATE, FEATURES, INFLATE, PAGE, POISON, SET_CONFIG, STATISTICS, Client
+from vhost_client import (
+    BUFFERS,
+    DEFLATE,
+    FEATURES,
+    INFLATE,
+    PAGE,
+    POISON,
+    SET_CONFIG,
+    STATISTICS,
+    Client,
+)
 
-HEADERS = (*glob.glob(f"{linux_kit.MONITOR}/backends/guest/*.h"), f"{linux_kit.MONITOR}/backends/host/message.h")
+HEADERS = (
+    *glob.glob(f"{linux_kit.MONITOR}/backends/guest/*.h"),
+    f"{linux_kit.MONITOR}/backends/host/message.h",
+)
 
 # A struct that is one field here: a client's message.
 WHOLE = ("message",)
@@ -34,10 +47,15 @@ def structs():
         with open(path, encoding="utf-8") as header:
             text = re.sub(r"/\*.*?\*/", "", header.read(), flags=re.S)
         for name, body in BODY.findall(text):
-            parts = [DECLARATION.match(it).groups() for it in body.split(";") if DECLARATION.match(it)]
+            parts = [
+                DECLARATION.match(it).groups() for it in body.split(";") if DECLARATION.match(it)
+            ]
             found[name] = [(of, it.strip()) for of, names in parts for it in names.split(",")]
             if name == "counters":
-                found[name] = [("uint64_t", it) for it in re.findall(r"COUNT\((\w+)\)", text.split("HINT_COUNTERS")[0])]
+                found[name] = [
+                    ("uint64_t", it)
+                    for it in re.findall(r"COUNT\((\w+)\)", text.split("HINT_COUNTERS")[0])
+                ]
     return found
 
 
@@ -49,7 +67,12 @@ def leaves(struct, name="", expression="", arrays=()):
         if inner not in structs() or inner in WHOLE:
             yield (name + own, of, here, arrays)
         else:
-            yield from leaves(inner, f"{name}{own}.", here + ("[0]" if count else ""), arrays + ((here,) if count else ()))
+            yield from leaves(
+                inner,
+                f"{name}{own}.",
+                here + ("[0]" if count else ""),
+                arrays + ((here,) if count else ()),
+            )
 
 
 def layout_program():
@@ -57,9 +80,18 @@ def layout_program():
     lines = []
     for name, of, expression, arrays in leaves("kept"):
         at = f"(size_t)&((struct kept *)0)->{expression[1:]}, sizeof ((struct kept *)0)->{expression[1:]}"
-        steps = [f"sizeof ((struct kept *)0)->{it[1:]}[0], sizeof ((struct kept *)0)->{it[1:]}" for it in arrays]
-        lines.append(f'printf("{name} {of.split()[0]}{" %zu" * (2 + 2 * len(steps))}\\n", {", ".join([at, *steps])});')
-    return '#include "kept.h"\n#include <stdio.h>\nint main(void) {\n' + "\n".join(lines) + "\nreturn 0; }\n"
+        steps = [
+            f"sizeof ((struct kept *)0)->{it[1:]}[0], sizeof ((struct kept *)0)->{it[1:]}"
+            for it in arrays
+        ]
+        lines.append(
+            f'printf("{name} {of.split()[0]}{" %zu" * (2 + 2 * len(steps))}\\n", {", ".join([at, *steps])});'
+        )
+    return (
+        '#include "kept.h"\n#include <stdio.h>\nint main(void) {\n'
+        + "\n".join(lines)
+        + "\nreturn 0; }\n"
+    )
 
 
 @functools.cache
@@ -67,10 +99,23 @@ def layout():
     """Returns the place of each field: its type, its offset, its size, and the distance and the whole size of each array that it is in."""
     with tempfile.TemporaryDirectory() as folder:
         program = f"{folder}/layout"
-        words = [linux_kit.need("cc", "gcc libc6-dev"), "-I", linux_kit.SHIM, "-I", linux_kit.HEADERS, "-I", f"{linux_kit.MONITOR}/backends/guest"]
-        subprocess.run([*words, "-x", "c", "-o", program, "-"], input=layout_program(), text=True, check=True)
+        words = [
+            linux_kit.need("cc", "gcc libc6-dev"),
+            "-I",
+            linux_kit.SHIM,
+            "-I",
+            linux_kit.HEADERS,
+            "-I",
+            f"{linux_kit.MONITOR}/backends/guest",
+        ]
+        subprocess.run(
+            [*words, "-x", "c", "-o", program, "-"], input=layout_program(), text=True, check=True
+        )
         said = subprocess.run([program], capture_output=True, text=True, check=True).stdout
-    return {short(name): (of, *map(int, numbers)) for name, of, *numbers in map(str.split, said.splitlines())}
+    return {
+        short(name): (of, *map(int, numbers))
+        for name, of, *numbers in map(str.split, said.splitlines())
+    }
 
 
 def short(name):
@@ -83,14 +128,23 @@ class Kept:
 
     def __init__(self, process):
         self.process, self.keeper = process, int(status_of(process)["PPid"])
-        links = {it: os.readlink(f"/proc/{process}/fd/{it}") for it in os.listdir(f"/proc/{process}/fd")}
+        links = {
+            it: os.readlink(f"/proc/{process}/fd/{it}") for it in os.listdir(f"/proc/{process}/fd")
+        }
         (number,) = (it for it, link in links.items() if link.startswith("/memfd:kept"))
         self.file = os.open(f"/proc/{process}/fd/{number}", os.O_RDONLY)
 
     def read(self, of, at, size):
         """Returns a field: a number, a list of them, or its bytes where it has none."""
         data, step = os.pread(self.file, size, at), NUMBERS.get(of, 0)
-        numbers = [int.from_bytes(data[it : it + step], "little", signed=of == "int") for it in range(0, size, step)] if step else data
+        numbers = (
+            [
+                int.from_bytes(data[it : it + step], "little", signed=of == "int")
+                for it in range(0, size, step)
+            ]
+            if step
+            else data
+        )
         return numbers[0] if step == size else numbers
 
     def __getitem__(self, name):
@@ -149,7 +203,11 @@ class Life:
 
     def __init__(self, lender, strict):
         path = lender.demand(f"add a strict={strict}").split()[1]
-        self.lender, self.client, self.files = lender, Counting(path, lambda: lender.said()[-3:]), []
+        self.lender, self.client, self.files = (
+            lender,
+            Counting(path, lambda: lender.said()[-3:]),
+            [],
+        )
         lender.become("a", here=1)
         self.kept = Kept(process_of(lender, "a"))
 
@@ -170,7 +228,9 @@ class Life:
     def tells(self, count):
         """Tells statistics for this time, 100 pages are free, and 90 available; the next ones are asked for in vain. Those that are held the next process
         hears again."""
-        self.client.write(BUFFERS + PAGE, struct.pack("<HQHQ", FREE, 100 * PAGE, AVAILABLE, 90 * PAGE))
+        self.client.write(
+            BUFFERS + PAGE, struct.pack("<HQHQ", FREE, 100 * PAGE, AVAILABLE, 90 * PAGE)
+        )
         self.client.describe(STATISTICS, 0, BUFFERS + PAGE, 20)
         self.client.publish(STATISTICS, 0), self.client.kick(STATISTICS)
         eventually(lambda: self.kept["notes.heard"] == count)
@@ -189,7 +249,9 @@ class Life:
     def begins(self, data):
         """Sends bytes of a message, which have to be in the inbox."""
         self.client.socket.send(data)
-        eventually(lambda: self.kept["kept.inbox.got"] + self.kept["kept.inbox.got_body"] == len(data))
+        eventually(
+            lambda: self.kept["kept.inbox.got"] + self.kept["kept.inbox.got_body"] == len(data)
+        )
 
     def leave(self):
         """Goes."""

@@ -12,11 +12,39 @@ from tenants import eventually
 PAGES_PER_KIB = 4
 
 # What a lender and a process say to each other (monitor/backends/host/message.h), which stays from version to version.
-VERSION, ORDER_LOOK, ORDER_TARGET, ORDER_GRANT, ORDER_LEAVE, TELL_REPORT, WAIT_ROOM = 1, 1, 3, 7, 8, 9, 1
+VERSION, ORDER_LOOK, ORDER_TARGET, ORDER_GRANT, ORDER_LEAVE, TELL_REPORT, WAIT_ROOM = (
+    1,
+    1,
+    3,
+    7,
+    8,
+    9,
+    1,
+)
 COUNTERS, FIGURES, WORDS = 19, 16, 256
 NUMBERS = (
-    "pages", "wanted", "wait", "holds", "held_pages", "held_wait", "waits", "target", "actual", "ballooned", "status", "ready", "obeyed", "asked",
-    "ballooned_then", "taken_since", "has_terms", "figure_count", "least", "most", "priority", "strict",
+    "pages",
+    "wanted",
+    "wait",
+    "holds",
+    "held_pages",
+    "held_wait",
+    "waits",
+    "target",
+    "actual",
+    "ballooned",
+    "status",
+    "ready",
+    "obeyed",
+    "asked",
+    "ballooned_then",
+    "taken_since",
+    "has_terms",
+    "figure_count",
+    "least",
+    "most",
+    "priority",
+    "strict",
 )
 
 
@@ -31,7 +59,9 @@ class Message(ctypes.Structure):
         *((it, ctypes.c_uint32) for it in ("version", "kind")),
         *((it, ctypes.c_uint64) for it in ("number", "serial", "held_kib", "end", "lost")),
         *((it, ctypes.c_uint32) for it in NUMBERS),
-        ("counters", ctypes.c_uint64 * COUNTERS), ("figures", Figure * FIGURES), ("words", ctypes.c_char * WORDS),
+        ("counters", ctypes.c_uint64 * COUNTERS),
+        ("figures", Figure * FIGURES),
+        ("words", ctypes.c_char * WORDS),
     ]
 
 
@@ -76,7 +106,8 @@ class Listens:
 
 class Played(threading.Thread):
     """The process of a strict guest, which an earlier lender might have started; these numbers are in its first report. Its reports have a target once
-    it has heard that, where `hears` says so. It `listens` already where its lender finds it as that begins."""
+    it has heard that, where `hears` says so. It `listens` already where its lender finds it as that begins.
+    """
 
     def __init__(self, lender, name, hears=False, listens=None, **its):
         super().__init__(daemon=True)
@@ -97,7 +128,12 @@ class Played(threading.Thread):
         with self.lock:
             self.its |= changed
             held = self.its.get("pages", 0) - self.its.get("ballooned", 0)
-            message = Message(version=VERSION, kind=TELL_REPORT, number=number, **{"held_kib": held * PAGES_PER_KIB, **self.its})
+            message = Message(
+                version=VERSION,
+                kind=TELL_REPORT,
+                number=number,
+                **{"held_kib": held * PAGES_PER_KIB, **self.its},
+            )
             self.channel.send(bytes(message))
 
     def run(self):

@@ -1,6 +1,7 @@
-/* Makes system calls in the sandbox of a guest's process, each in a process of its own. Each line of the file is a number and six arguments;
- * its answer is a line with the call's name, or its number where it has none, and `passes`, or the name of the call that ended the process,
- * or `nameless`, where that is none of this architecture. */
+/* Makes system calls in the sandbox of a guest's process, each in a process of its own. Each line
+ * of the file is a number and six arguments; its answer is a line with the call's name, or its
+ * number where it has none, and `passes`, or the name of the call that ended the process, or
+ * `nameless`, where that is none of this architecture. */
 #define _GNU_SOURCE
 #include "../../backends/guest/sandbox.h"
 
@@ -15,7 +16,8 @@
 
 enum { ARGUMENTS = 6, SECONDS = 2 };
 
-/* Whether a call that isn't allowed is a signal, which says its number, in place of the end; and that number. */
+/* Whether a call that isn't allowed is a signal, which says its number, in place of the end; and
+ * that number. */
 static bool traps;
 static volatile int *trapped;
 
@@ -38,7 +40,8 @@ static long itself(long argument)
     return argument == LONG_MIN ? getpid() : argument;
 }
 
-/* Makes a call in the sandbox; whether that has ended the process. One that waits ends by SIGALRM. */
+/* Makes a call in the sandbox; whether that has ended the process. One that waits ends by
+  * SIGALRM. */
 static bool is_deadly(long number, const long its[ARGUMENTS])
 {
     const struct sigaction action = {.sa_sigaction = note_call, .sa_flags = SA_SIGINFO};
@@ -80,9 +83,11 @@ int main(int count, char **words)
 {
     long number, its[ARGUMENTS];
     FILE *lines = count == 2 ? fopen(words[1], "re") : NULL;
-    trapped = mmap(NULL, sizeof *trapped, PROT_READ | PROT_WRITE, MAP_SHARED | MAP_ANONYMOUS, -1, 0);
+    trapped =
+        mmap(NULL, sizeof *trapped, PROT_READ | PROT_WRITE, MAP_SHARED | MAP_ANONYMOUS, -1, 0);
     setvbuf(stdout, NULL, _IOLBF, 0);
-    while (lines && fscanf(lines, "%li %li %li %li %li %li %li", &number, its, its + 1, its + 2, its + 3, its + 4, its + 5) == 1 + ARGUMENTS)
+    while (lines && fscanf(lines, "%li %li %li %li %li %li %li", &number, its, its + 1, its + 2,
+                           its + 3, its + 4, its + 5) == 1 + ARGUMENTS)
         answer(number, its);
     return lines ? 0 : 2;
 }

@@ -25,10 +25,13 @@ class Lender(linux_host.Host):
 
     def become(self, name, **wanted):
         """Waits until a guest has these numbers."""
+
         def seen():
             return {it: self.guests()[name][it] for it in wanted}
 
-        eventually(lambda: seen() == wanted, lambda: f"{name} has {seen()}, and should have {wanted}")
+        eventually(
+            lambda: seen() == wanted, lambda: f"{name} has {seen()}, and should have {wanted}"
+        )
 
     def said(self):
         """Returns what it has said on standard error."""
@@ -57,7 +60,9 @@ class Guest(threading.Thread):
 
     def tell(self):
         """Posts statistics."""
-        data = b"".join(struct.pack("<HQ", tag, pages * PAGE) for tag, pages in self.figures.items())
+        data = b"".join(
+            struct.pack("<HQ", tag, pages * PAGE) for tag, pages in self.figures.items()
+        )
         self.client.write(BUFFERS + PAGE, data)
         self.client.describe(STATISTICS, 0, BUFFERS + PAGE, len(data))
         self.client.publish(STATISTICS, 0)
@@ -80,7 +85,11 @@ class Guest(threading.Thread):
                 while select.select([self.client.own], [], [], 0)[0]:
                     with self.lock:
                         # Another process that goes on may tell of what was used long ago.
-                        if self.client.told(PATIENCE) == STATISTICS and self.answers and self.client.is_all_used(STATISTICS):
+                        if (
+                            self.client.told(PATIENCE) == STATISTICS
+                            and self.answers
+                            and self.client.is_all_used(STATISTICS)
+                        ):
                             self.tell()
         except (OSError, TypeError, AssertionError, ValueError):
             pass

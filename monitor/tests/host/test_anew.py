@@ -11,7 +11,17 @@ import linux_kit
 import pytest
 from tenants import FREE, PAGES, PAGES_OF_ALL, eventually, process_of
 from vhost_client import (
-    BUFFERS, DEFLATE, GET_CONFIG, INFLATE, PAGE, SET_CONFIG, SET_STATUS, SET_VRING_BASE, SIZE, STATISTICS, Client,
+    BUFFERS,
+    DEFLATE,
+    GET_CONFIG,
+    INFLATE,
+    PAGE,
+    SET_CONFIG,
+    SET_STATUS,
+    SET_VRING_BASE,
+    SIZE,
+    STATISTICS,
+    Client,
 )
 
 WIDE = ("--floor", "0", "--period", "100", "--step", "0")
@@ -52,7 +62,10 @@ def serve(client, number, requests):
         client.publish(number, head)
     client.kick(number)
     wanted = client.available[number]
-    eventually(lambda: client.used(number)[0] == wanted & 0xFFFF, lambda: f"queue {number}: {client.used(number)[0]} of {wanted} are used")
+    eventually(
+        lambda: client.used(number)[0] == wanted & 0xFFFF,
+        lambda: f"queue {number}: {client.used(number)[0]} of {wanted} are used",
+    )
     at = client.table(number) + 2 * PAGE
     for place in range(len(requests)):
         head = (begun + place) % SIZE
@@ -95,7 +108,10 @@ GRANTS = {Client.start: 3, Client.start_by_events: 4}
 
 def cut_once(lender, name, begin, strict):
     """A life amid which the process of this guest is cut off; whether it was."""
-    client, grants = Client(lender.add(name), lambda: lender.said()[-4:]), lender.counters()["grants"]
+    client, grants = (
+        Client(lender.add(name), lambda: lender.said()[-4:]),
+        lender.counters()["grants"],
+    )
     ballooned = live(client, begin)
     assert client.holes() == ballooned
     lender.become(name, ballooned=len(ballooned), ready=1, waits="nothing")
@@ -151,7 +167,9 @@ def test_a_process_that_is_cut_off_as_a_driver_stops(lend, cutting, way):
         lender.become(name, ready=1, ballooned=0)
         client.leave()
         lender.demand(f"remove {name}")
-        if not any(it.startswith(f"{name}: its process has ended by signal") for it in lender.said()):
+        if not any(
+            it.startswith(f"{name}: its process has ended by signal") for it in lender.said()
+        ):
             break
     assert place > LEAST_CUTS
 
@@ -213,7 +231,11 @@ def test_a_process_that_is_killed_amid_work(lend, way, strict):
         eventually(lambda: lender.guests()["a"]["process"] not in (0, process))
         work.check()
         lender.become("a", ballooned=len(work.ballooned), waits="nothing", ready=1)
-    said = [it for it in lender.said() if it == "a: its process has ended by signal 9: another one goes on"]
+    said = [
+        it
+        for it in lender.said()
+        if it == "a: its process has ended by signal 9: another one goes on"
+    ]
     assert (len(said), lender.counters()["gone"]) == (KILLS, 0)
     client.leave()
 
@@ -223,10 +245,24 @@ def test_a_process_that_ends_again_and_again_is_not_started_anew(lend, cutting):
     client = Client(lender.add("cut-always"), lambda: "")
     assert client.socket.recv(1) == b""
     lender.become("cut-always", here=0)
-    assert lender.said()[-2:] == ["cut-always: its process has ended by signal 6", "gone cut-always"]
+    assert lender.said()[-2:] == [
+        "cut-always: its process has ended by signal 6",
+        "gone cut-always",
+    ]
 
 
-WRONG = ("index-0", "no-set", "answers-twice", "lost-bytes", "lost-files", "old-state", "new-number", "ungranted", "handles-twice", "no-call")
+WRONG = (
+    "index-0",
+    "no-set",
+    "answers-twice",
+    "lost-bytes",
+    "lost-files",
+    "old-state",
+    "new-number",
+    "ungranted",
+    "handles-twice",
+    "no-call",
+)
 
 
 @pytest.mark.timeout(900)

@@ -30,6 +30,8 @@ def test_a_client_that_cannot_be_told_is_not_served_on_while_it_waits(lend, come
     lender.become("c", waits="room")
     client.own.shutdown(2)
     other.give(range(PAGES, PAGES + TAKEN))
-    eventually(lambda: "refused c: the client can't be told of a used buffer" in lender.said(), lender.said)
+    eventually(
+        lambda: "refused c: the client can't be told of a used buffer" in lender.said(), lender.said
+    )
     lender.become("c", here=0, lent=0)
     client.leave()

@@ -20,7 +20,8 @@ PAGES_PER_MIB = 256
 ALL = GUEST * PAGES_PER_MIB
 
 pytestmark = pytest.mark.skipif(
-    os.geteuid() != 0 or cgroups() != SECOND, reason="this machine has no cgroups of memory of the second version: tools/test machine boots one"
+    os.geteuid() != 0 or cgroups() != SECOND,
+    reason="this machine has no cgroups of memory of the second version: tools/test machine boots one",
 )
 from waiting import PATIENCE, patience_from_now
 
@@ -33,7 +34,9 @@ class Charged:
     def __init__(self, lender, name, its):
         words = [*its.member()["before"], sys.executable, "-B", self.program, lender.folder, name]
         environment = {**os.environ, "PYTHONPATH": os.pathsep.join(sys.path)}
-        self.process = subprocess.Popen(words, stdin=subprocess.PIPE, stdout=subprocess.PIPE, env=environment)
+        self.process = subprocess.Popen(
+            words, stdin=subprocess.PIPE, stdout=subprocess.PIPE, env=environment
+        )
         self.lines = Lines(self.process.stdout, name)
         assert self.answer() == "here"
 
@@ -120,7 +123,11 @@ def test_a_limit_follows_pages_that_come_and_go(seats):
         assert a.guest.ask(f"give 0 {count}") == "done"
         a.follows(ALL - count)
         assert a.its.held() <= a.its.pages()
-        assert [a.guest.ask(f"{it} 0 {count}") for it in ("take", "write", "check")] == ["done", "done", "right"]
+        assert [a.guest.ask(f"{it} 0 {count}") for it in ("take", "write", "check")] == [
+            "done",
+            "done",
+            "right",
+        ]
         a.follows(ALL)
     assert lent(lender) == 2 * ALL
     a.is_well(), b.is_well()
@@ -201,7 +208,10 @@ def test_a_limit_that_is_not_there_is_named_and_found_again(seats):
     a.guest.begin("take 0 256")
     eventually(lambda: lender.guests()["a"]["limit_failures"] >= 2)
     wanted = (ALL - GIVEN + 256 + a.beside()) * 4
-    assert f"a: its limit {a.its.term} can't be set to {wanted} KiB: No such file or directory" in lender.said()
+    assert (
+        f"a: its limit {a.its.term} can't be set to {wanted} KiB: No such file or directory"
+        in lender.said()
+    )
     assert b.guest.ask("write 0 256") == "done"
     assert (a.guest.has_answered(), waits_of(lender, "a")) == (False, "deflate")
     a.its.has_limits_below(a.its.above)

@@ -82,7 +82,9 @@ def test_a_process_takes_no_lender_of_another_user(lend, come, folder):
 
     assert Aside(act).numbers() == 0
     os.chmod(f"{folder}/.channels", 0o700)
-    eventually(lambda: lender.hear() or "a: another user isn't taken for the lender" in lender.said())
+    eventually(
+        lambda: lender.hear() or "a: another user isn't taken for the lender" in lender.said()
+    )
     guest.give([PAGES])
     lender.become("a", ballooned=1, ready=1)
 
@@ -102,12 +104,26 @@ def make_link(path):
     os.mkdir(f"{path}-of", 0o700), os.symlink(f"{path}-of", path)
 
 
-@pytest.mark.parametrize("make", (make_open, make_of_another, make_link, lambda path: open(path, "w").close()), ids=("open", "of-another", "link", "file"))
+@pytest.mark.parametrize(
+    "make",
+    (make_open, make_of_another, make_link, lambda path: open(path, "w").close()),
+    ids=("open", "of-another", "link", "file"),
+)
 def test_a_folder_of_channels_that_is_not_the_lenders_alone(plain, tmp_path, make):
     path = str(tmp_path / ".channels")
     make(path)
-    ran = subprocess.run([plain, str(tmp_path), "--budget", "1"], stdin=subprocess.DEVNULL, capture_output=True, text=True, timeout=PATIENCE)
-    why = ": Not a directory" if make is make_link or os.path.isfile(path) else " isn't the lender's alone"
+    ran = subprocess.run(
+        [plain, str(tmp_path), "--budget", "1"],
+        stdin=subprocess.DEVNULL,
+        capture_output=True,
+        text=True,
+        timeout=PATIENCE,
+    )
+    why = (
+        ": Not a directory"
+        if make is make_link or os.path.isfile(path)
+        else " isn't the lender's alone"
+    )
     assert (ran.returncode, ran.stdout, ran.stderr) == (2, "", f"{path}{why}\n")
 
 

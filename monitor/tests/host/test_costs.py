@@ -46,13 +46,19 @@ def test_sixty_four_idle_guests(lend):
     before, begin = [seconds_of(it) for it in (lender.process.pid, *processes)], time.monotonic()
     answered = answer_all(guests, SECONDS)
     took = time.monotonic() - begin
-    shares = [(seconds_of(it) - then) / took for it, then in zip((lender.process.pid, *processes), before)]
+    shares = [
+        (seconds_of(it) - then) / took for it, then in zip((lender.process.pid, *processes), before)
+    ]
     most = max(map(private_kib, processes))
-    print(f"{GUESTS} guests, {answered / took:.0f} answers a second: at most {most} KiB each, the lender {private_kib(lender.process.pid)}")
+    print(
+        f"{GUESTS} guests, {answered / took:.0f} answers a second: at most {most} KiB each, the lender {private_kib(lender.process.pid)}"
+    )
     print(f"of a processor: {100 * sum(shares):.2f}% in all, the lender {100 * shares[0]:.2f}%")
     for it in guests:
         it.leave()
     assert most <= MOST_KIB
     if answered < MOST_ANSWERS * GUESTS * ASKED * took:
-        pytest.skip(f"{answered / took:.0f} of {GUESTS * ASKED} answers a second: the machine is too busy for what they take")
+        pytest.skip(
+            f"{answered / took:.0f} of {GUESTS * ASKED} answers a second: the machine is too busy for what they take"
+        )
     assert sum(shares) <= MOST_SHARE

@@ -18,7 +18,8 @@ pytestmark = pytest.mark.timeout(0)
 
 class Day(NamedTuple):
     """Guests of 244 MiB, one of which may reboot after each of its works, and MiB for all; by how many MiB what they want passes what fits, how many
-    times as long as usually their steps take, and whether the lender is killed every 10 seconds at most."""
+    times as long as usually their steps take, and whether the lender is killed every 10 seconds at most.
+    """
 
     guests: int
     budget: int
@@ -44,11 +45,33 @@ KINDS = {
 
 def live(program, folder, number, day):
     """Returns the status of a day, and its numbers by their names."""
-    numbers = {"DAY": number, "SECONDS": SECONDS, "FOLDER": folder, **{name.upper(): it for name, it in day._asdict().items()}}
+    numbers = {
+        "DAY": number,
+        "SECONDS": SECONDS,
+        "FOLDER": folder,
+        **{name.upper(): it for name, it in day._asdict().items()},
+    }
     # Other tests measure delays, so that days may wait long for a processor.
-    words = ["prlimit", f"--cpu={LIMIT}", "nice", "-n", "5", program, folder, "--budget", str(day.budget), "--strict", "--program", "/bin/true"]
+    words = [
+        "prlimit",
+        f"--cpu={LIMIT}",
+        "nice",
+        "-n",
+        "5",
+        program,
+        folder,
+        "--budget",
+        str(day.budget),
+        "--strict",
+        "--program",
+        "/bin/true",
+    ]
     ran = subprocess.run(
-        words, env=os.environ | {name: str(it) for name, it in numbers.items()}, stdin=subprocess.DEVNULL, capture_output=True, text=True,
+        words,
+        env=os.environ | {name: str(it) for name, it in numbers.items()},
+        stdin=subprocess.DEVNULL,
+        capture_output=True,
+        text=True,
     )
     return ran.returncode, ran.stdout.replace("ready\n", "")
 
@@ -60,7 +83,11 @@ def numbers_of(said):
 
 
 # Wrong hosts of tests/mutants/wrong_host.c, and what the first of the days says of each.
-WRONG = {"11": "waits for a deflate", "12": "waits for a deflate", "13": "have more than the budget"}
+WRONG = {
+    "11": "waits for a deflate",
+    "12": "waits for a deflate",
+    "13": "have more than the budget",
+}
 
 
 @pytest.fixture(scope="session")
@@ -86,7 +113,9 @@ def test_where_too_much_is_wanted_guests_wait_for_good(host, tmp_path_factory):
 
 
 def test_a_day_of_one_number_is_always_the_same(host, tmp_path_factory):
-    first, second, other = (live(host, str(tmp_path_factory.mktemp("d")), it, KINDS["reboots"][0]) for it in (1, 1, 2))
+    first, second, other = (
+        live(host, str(tmp_path_factory.mktemp("d")), it, KINDS["reboots"][0]) for it in (1, 1, 2)
+    )
     assert first == second != other
 
 

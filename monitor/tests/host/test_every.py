@@ -12,10 +12,39 @@ import linux_kit
 from delays import MOST_DELAY, delay_beside
 from tenants import process_of
 from vhost_client import (
-    ADD_MEM_REG, Client, FEATURES, GET_CONFIG, GET_FEATURES, GET_MAX_MEM_SLOTS, GET_PROTOCOL_FEATURES, GET_QUEUE_NUM,
-    GET_STATUS, GET_VRING_BASE, HAS_PROTOCOL, INFLATE, OFFERED, PAGE, PAGES_OF_REGION, REGIONS, REM_MEM_REG,
-    RESET_DEVICE, RESET_OWNER, SET_BACKEND_REQ_FD, SET_CONFIG, SET_FEATURES, SET_MEM_TABLE, SET_OWNER, SET_PROTOCOL_FEATURES,
-    SET_STATUS, SET_VRING_ADDR, SET_VRING_BASE, SET_VRING_CALL, SET_VRING_ENABLE, SET_VRING_ERR, SET_VRING_KICK, SET_VRING_NUM,
+    ADD_MEM_REG,
+    Client,
+    FEATURES,
+    GET_CONFIG,
+    GET_FEATURES,
+    GET_MAX_MEM_SLOTS,
+    GET_PROTOCOL_FEATURES,
+    GET_QUEUE_NUM,
+    GET_STATUS,
+    GET_VRING_BASE,
+    HAS_PROTOCOL,
+    INFLATE,
+    OFFERED,
+    PAGE,
+    PAGES_OF_REGION,
+    REGIONS,
+    REM_MEM_REG,
+    RESET_DEVICE,
+    RESET_OWNER,
+    SET_BACKEND_REQ_FD,
+    SET_CONFIG,
+    SET_FEATURES,
+    SET_MEM_TABLE,
+    SET_OWNER,
+    SET_PROTOCOL_FEATURES,
+    SET_STATUS,
+    SET_VRING_ADDR,
+    SET_VRING_BASE,
+    SET_VRING_CALL,
+    SET_VRING_ENABLE,
+    SET_VRING_ERR,
+    SET_VRING_KICK,
+    SET_VRING_NUM,
     VRING_KICK,
 )
 from waiting import patience_from_now
@@ -62,7 +91,13 @@ WELL = {
 # A table may have more room than it has regions, as virtio_uml sends it; a region that goes may have its file with it.
 LONGER, MAY_HAVE_A_FILE = {SET_MEM_TABLE}, {REM_MEM_REG}
 ANSWERED = {
-    GET_FEATURES, GET_VRING_BASE, GET_PROTOCOL_FEATURES, GET_QUEUE_NUM, GET_CONFIG, GET_MAX_MEM_SLOTS, GET_STATUS,
+    GET_FEATURES,
+    GET_VRING_BASE,
+    GET_PROTOCOL_FEATURES,
+    GET_QUEUE_NUM,
+    GET_CONFIG,
+    GET_MAX_MEM_SLOTS,
+    GET_STATUS,
 }
 
 
@@ -70,15 +105,34 @@ ANSWERED = {
 SIZES = [
     (number, size, len(names))
     for number, (body, names) in WELL.items()
-    for size in sorted({0, 1, 7, 8, len(body) - 1, len(body), len(body) + 1, 40, 264, 268, 512} - {-1})
+    for size in sorted(
+        {0, 1, 7, 8, len(body) - 1, len(body), len(body) + 1, 40, 264, 268, 512} - {-1}
+    )
 ]
-FILES = [(number, len(body), count) for number, (body, _) in WELL.items() for count in (0, 1, 2, 8, 9, 20)]
-UNKNOWN = [(number, size) for number in (*(it for it in range(64) if it not in WELL), 99, 2**32 - 1) for size in (0, 8, 40)]
+FILES = [
+    (number, len(body), count)
+    for number, (body, _) in WELL.items()
+    for count in (0, 1, 2, 8, 9, 20)
+]
+UNKNOWN = [
+    (number, size)
+    for number in (*(it for it in range(64) if it not in WELL), 99, 2**32 - 1)
+    for size in (0, 8, 40)
+]
 
 # The bit of the protocol feature by which a message is negotiated.
 NEGOTIATED = {
-    GET_QUEUE_NUM: 0, SET_BACKEND_REQ_FD: 5, GET_CONFIG: 9, SET_CONFIG: 9, RESET_DEVICE: 13, VRING_KICK: 14,
-    GET_MAX_MEM_SLOTS: 15, ADD_MEM_REG: 15, REM_MEM_REG: 15, SET_STATUS: 16, GET_STATUS: 16,
+    GET_QUEUE_NUM: 0,
+    SET_BACKEND_REQ_FD: 5,
+    GET_CONFIG: 9,
+    SET_CONFIG: 9,
+    RESET_DEVICE: 13,
+    VRING_KICK: 14,
+    GET_MAX_MEM_SLOTS: 15,
+    ADD_MEM_REG: 15,
+    REM_MEM_REG: 15,
+    SET_STATUS: 16,
+    GET_STATUS: 16,
 }
 
 
@@ -88,7 +142,9 @@ class Seats:
     def __init__(self, program, folder):
         little = {"ASAN_OPTIONS": "quarantine_size_mb=4"}
         self.folder = folder
-        self.host = linux_host.Host(program, folder, 4096, ("--lines", "1000000"), environment=little)
+        self.host = linux_host.Host(
+            program, folder, 4096, ("--lines", "1000000"), environment=little
+        )
         self.well = Client(self.host.add("well"), self.host.why)
         self.well.start()
         self.paths = [self.host.add(f"seat{it}") for it in range(SEATS)]
@@ -101,7 +157,11 @@ class Seats:
         self.well.leave()
         os.close(self.event)
         with open(self.host.log, encoding="latin-1") as log:
-            return status, [it for it in log if not it.startswith(("refused ", "gone ", "seat", "well: the client can't"))]
+            return status, [
+                it
+                for it in log
+                if not it.startswith(("refused ", "gone ", "seat", "well: the client can't"))
+            ]
 
     def wait_for(self, gone):
         """Waits until clients have gone, without a rest."""
@@ -111,7 +171,9 @@ class Seats:
 
     def held(self):
         """Returns how many files the host has open once all clients of the seats have gone."""
-        self.wait_for(lambda guests: not any(it["here"] for name, it in guests.items() if name != "well"))
+        self.wait_for(
+            lambda guests: not any(it["here"] for name, it in guests.items() if name != "well")
+        )
         return len(os.listdir(f"/proc/{self.host.process.pid}/fd"))
 
     def memory(self):
@@ -149,7 +211,11 @@ class Seats:
     def chance(self, program, messages, seed):
         """Sends `messages` messages, by a client at each seat; returns what the clients say."""
         running = [
-            subprocess.Popen([program, path, str(messages // SEATS), str(seed * SEATS + it)], stdout=subprocess.PIPE, text=True)
+            subprocess.Popen(
+                [program, path, str(messages // SEATS), str(seed * SEATS + it)],
+                stdout=subprocess.PIPE,
+                text=True,
+            )
             for it, path in enumerate(self.paths)
         ]
         try:
@@ -176,8 +242,12 @@ def seats(all_seats):
     yield all_seats
     all_seats.serves()
     end = patience_from_now()
-    while all_seats.held() > before:  # its process ends after its client; that of the test before may end only now
-        assert time.monotonic() < end, f"the host has {all_seats.held()} files open, and had {before}"
+    while (
+        all_seats.held() > before
+    ):  # its process ends after its client; that of the test before may end only now
+        assert (
+            time.monotonic() < end
+        ), f"the host has {all_seats.held()} files open, and had {before}"
         time.sleep(0.01)
 
 
@@ -214,7 +284,9 @@ def test_messages_that_are_unknown(seats, number, size):
 @pytest.mark.parametrize("number", NEGOTIATED)
 def test_messages_that_are_not_negotiated(seats, number):
     client, (body, names) = seats.come(), WELL[number]
-    client.send(SET_PROTOCOL_FEATURES, struct.pack("<Q", OFFERED & ~(1 << NEGOTIATED[number])), flags=1)
+    client.send(
+        SET_PROTOCOL_FEATURES, struct.pack("<Q", OFFERED & ~(1 << NEGOTIATED[number])), flags=1
+    )
     assert not is_served(client, number, body, [seats.file(client, it) for it in names])
     assert "isn't negotiated" in seats.host.why_of("seat0")
     client.leave()

@@ -15,7 +15,17 @@ from bigvasta.connection import Connection
 from delays import MOST_DELAY, delay_beside
 from tenants import eventually, process_of
 from vhost_client import (
-    ADD_MEM_REG, BUFFERS, GET_FEATURES, INFLATE, OFFERED, PAGE, REGIONS, REM_MEM_REG, SET_MEM_TABLE, SET_VRING_KICK, Client,
+    ADD_MEM_REG,
+    BUFFERS,
+    GET_FEATURES,
+    INFLATE,
+    OFFERED,
+    PAGE,
+    REGIONS,
+    REM_MEM_REG,
+    SET_MEM_TABLE,
+    SET_VRING_KICK,
+    Client,
 )
 from waiting import PATIENCE
 
@@ -49,7 +59,9 @@ def test_a_socket_that_lingers_beside_a_message(beside):
         client = Client(f"{lender.folder}/bad", lambda: "")
         one, other = lingering()
         head = struct.pack("<III", GET_FEATURES, 1, 0)
-        client.socket.sendmsg([head[:4]], [(socket.SOL_SOCKET, socket.SCM_RIGHTS, array.array("i", [one.fileno()]))])
+        client.socket.sendmsg(
+            [head[:4]], [(socket.SOL_SOCKET, socket.SCM_RIGHTS, array.array("i", [one.fileno()]))]
+        )
         one.close()
         client.socket.send(head[4:])  # who has read it all is the last one that has the file
         client.leave()
@@ -69,7 +81,9 @@ def test_sockets_that_linger_on_a_connection_that_nobody_takes(beside):
     second = socket.socket(socket.AF_UNIX, socket.SOCK_STREAM)
     second.connect(f"{lender.folder}/bad")
     one, other = lingering()
-    second.sendmsg([b"x"], [(socket.SOL_SOCKET, socket.SCM_RIGHTS, array.array("i", [one.fileno()]))])
+    second.sendmsg(
+        [b"x"], [(socket.SOL_SOCKET, socket.SCM_RIGHTS, array.array("i", [one.fileno()]))]
+    )
     one.close(), second.close()
 
     def act(_):
@@ -136,7 +150,11 @@ def test_memory_that_comes_and_goes_in_a_loop(beside):
     def act(ended):
         while not ended.is_set():
             for request in (ADD_MEM_REG, REM_MEM_REG):
-                client.accepted(request, client.region_body(0), client.files[:1] if request == ADD_MEM_REG else ())
+                client.accepted(
+                    request,
+                    client.region_body(0),
+                    client.files[:1] if request == ADD_MEM_REG else (),
+                )
 
     before = lender.counters()["decisions"]
     begin = time.monotonic()
@@ -152,7 +170,9 @@ def test_a_queue_of_the_longest_requests(beside):
     client.start(size=64)
     for head in range(64):
         client.describe(INFLATE, head, BUFFERS, 4 * 256)
-    client.write(BUFFERS, struct.pack("<256I", *[REGIONS[1][0] // PAGE + it % 64 for it in range(256)]))
+    client.write(
+        BUFFERS, struct.pack("<256I", *[REGIONS[1][0] // PAGE + it % 64 for it in range(256)])
+    )
 
     available, used = (client.table(INFLATE) + it * PAGE for it in (1, 2))
     client.write(available + 4, struct.pack("<64H", *range(64)))
@@ -163,7 +183,10 @@ def test_a_queue_of_the_longest_requests(beside):
             index = (index + 64) & 0xFFFF
             client.write(available + 2, struct.pack("<H", index))
             client.kick(INFLATE)
-            while client.read(used + 2, 2) != struct.pack("<H", index) or select.select([client.own], [], [], 0)[0]:
+            while (
+                client.read(used + 2, 2) != struct.pack("<H", index)
+                or select.select([client.own], [], [], 0)[0]
+            ):
                 client.told(PATIENCE)
 
     assert rounds(act) < MOST_DELAY
@@ -233,7 +256,9 @@ def test_words_and_answers_that_nobody_reads(unread):
     worker = Client(f"{folder}/g50", lambda: "")
     worker.start()
     with Connection(f"{folder}/.control") as control:
-        process = next(it["process"] for it in control.ask("status")["guests"] if it["name"] == "g50")
+        process = next(
+            it["process"] for it in control.ask("status")["guests"] if it["name"] == "g50"
+        )
     assert delay_beside(lambda _: None, worker, process, 1) < MOST_DELAY
     worker.leave()
     # All answers come as they are read, whole and in order.
@@ -241,8 +266,12 @@ def test_words_and_answers_that_nobody_reads(unread):
     while got.count(b"\n") < 61 + 50 * 61:
         assert select.select([reads], [], [], PATIENCE)[0], got[-200:]
         got += os.read(reads, 1 << 16)
-    found = [it for it in got.split(b"\n") if it.startswith((b"ready", b"listening", b"guests ", b"g"))]
-    assert [it.split()[0] for it in found if not it.startswith(b"gone")][:62] == [b"ready"] + [b"listening"] * 60 + [b"guests"]
+    found = [
+        it for it in got.split(b"\n") if it.startswith((b"ready", b"listening", b"guests ", b"g"))
+    ]
+    assert [it.split()[0] for it in found if not it.startswith(b"gone")][:62] == [b"ready"] + [
+        b"listening"
+    ] * 60 + [b"guests"]
 
 
 def flood(path, seconds, begins):
@@ -253,7 +282,12 @@ def flood(path, seconds, begins):
         begins()
         channel, _ = listener.accept()
     order = channel.recv(1 << 16)
-    report, room, sent, begin = bytearray(order[:KIND_AT]) + bytes(len(order) - KIND_AT), 0, 0, time.monotonic()
+    report, room, sent, begin = (
+        bytearray(order[:KIND_AT]) + bytes(len(order) - KIND_AT),
+        0,
+        0,
+        time.monotonic(),
+    )
     report[KIND_AT] = TELL_REPORT
     channel.setblocking(False)
     while time.monotonic() < begin + seconds:

@@ -10,7 +10,14 @@ import pytest
 from delays import MOST_DELAY
 from tenants import process_of, status_of
 from vhost_client import (
-    ADD_MEM_REG, GET_FEATURES, OFFERED, SET_BACKEND_REQ_FD, SET_MEM_TABLE, SET_VRING_CALL, SET_VRING_KICK, Client,
+    ADD_MEM_REG,
+    GET_FEATURES,
+    OFFERED,
+    SET_BACKEND_REQ_FD,
+    SET_MEM_TABLE,
+    SET_VRING_CALL,
+    SET_VRING_KICK,
+    Client,
 )
 from waiting import PATIENCE
 
@@ -33,7 +40,9 @@ class Mounted:
     def __init__(self, folder):
         self.folder = folder
         words = [sys.executable, os.path.join(os.path.dirname(__file__), "withheld.py"), folder]
-        self.process = subprocess.Popen(words, stdin=subprocess.PIPE, stdout=subprocess.PIPE, stderr=subprocess.PIPE, text=True)
+        self.process = subprocess.Popen(
+            words, stdin=subprocess.PIPE, stdout=subprocess.PIPE, stderr=subprocess.PIPE, text=True
+        )
         self.said = self.process.stdout.readline()
         if self.said != "ready\n":
             pytest.skip(f"FUSE can't be mounted here: {self.process.communicate()[1].strip()}")

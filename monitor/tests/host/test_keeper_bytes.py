@@ -15,7 +15,9 @@ KEPT_FILE, RENEWS, COUNTED_FROM = 190, 16, 32
 
 def configuration(client):
     """Returns the four words of the configuration."""
-    return struct.unpack("<IIII", client.send(GET_CONFIG, struct.pack("<III", 0, 16, 0) + bytes(16))[12:])
+    return struct.unpack(
+        "<IIII", client.send(GET_CONFIG, struct.pack("<III", 0, 16, 0) + bytes(16))[12:]
+    )
 
 
 def test_a_keeper_takes_any_byte_for_whether(lend, checked):
@@ -29,5 +31,7 @@ def test_a_keeper_takes_any_byte_for_whether(lend, checked):
         os.pwrite(kept.fileno(), struct.pack("<Q", 1 << 40), COUNTED_FROM)
     assert configuration(client)[0] == 0
     lender.become("a", here=0)
-    assert lender.said()[-2:] == ["a: its process has ended with status 1", "gone a"] and not [it for it in lender.said() if "runtime error" in it]
+    assert lender.said()[-2:] == ["a: its process has ended with status 1", "gone a"] and not [
+        it for it in lender.said() if "runtime error" in it
+    ]
     client.leave()

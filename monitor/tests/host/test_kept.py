@@ -10,12 +10,38 @@ from kept import HEAD, Life, layout
 from tenants import AVAILABLE, FREE, eventually, stop
 from test_strict import GIVEN
 from vhost_client import (
-    DEFLATE, FEATURES, GET_CONFIG, HAS_PROTOCOL, NO_FILE, PAGE, PAGES_OF_REGION, POISON, QEMU_PROTOCOL, REGIONS, REPORT, SET_FEATURES, SET_VRING_CALL,
-    SET_VRING_ERR, SET_VRING_KICK, SIZE, STATISTICS, WRITE,
+    DEFLATE,
+    FEATURES,
+    GET_CONFIG,
+    HAS_PROTOCOL,
+    NO_FILE,
+    PAGE,
+    PAGES_OF_REGION,
+    POISON,
+    QEMU_PROTOCOL,
+    REGIONS,
+    REPORT,
+    SET_FEATURES,
+    SET_VRING_CALL,
+    SET_VRING_ERR,
+    SET_VRING_KICK,
+    SIZE,
+    STATISTICS,
+    WRITE,
 )
 
 # The lender asks nobody by itself.
-QUIET = ("--strict", "--floor", "0", "--period", "60000", "--step", "0", "--features", f"{FEATURES | POISON:x}")
+QUIET = (
+    "--strict",
+    "--floor",
+    "0",
+    "--period",
+    "60000",
+    "--step",
+    "0",
+    "--features",
+    f"{FEATURES | POISON:x}",
+)
 
 # Where `actual` and `poison_val` are in the configuration (VIRTIO 1.1, 5.5.4), and what is written there.
 ACTUAL_AT, POISON_AT, POISON_VALUE = 4, 12, 0xA1B2C3D4
@@ -25,8 +51,14 @@ QUEUES_USED, ON = range(4), [1, 1, 1, 1, 0]
 # Fields that another test is for: which state counts, what an upgrade finds, and what is between two steps of a message.
 ELSEWHERE = {
     "kept.counts": ("test_anew.py", "old-state"),
-    "kept.renews": ("../control/test_upgrade.py", "test_one_command_upgrades_the_host_and_its_guests"),
-    "kept.stays": ("../control/test_upgrade.py", "test_a_process_whose_program_does_not_go_on_stays"),
+    "kept.renews": (
+        "../control/test_upgrade.py",
+        "test_one_command_upgrades_the_host_and_its_guests",
+    ),
+    "kept.stays": (
+        "../control/test_upgrade.py",
+        "test_a_process_whose_program_does_not_go_on_stays",
+    ),
     "kept.unnoted": ("test_anew.py", "lost-bytes"),
     "kept.inbox.message": ("test_anew.py", "lost-files"),
     "outcome": ("test_anew.py", "handles-twice"),
@@ -64,12 +96,19 @@ def faults(life, wanted, now, before):
     return wanted.fault(life, now, before) if hasattr(wanted, "fault") else now != wanted
 
 
-EVENT, SOCKET, MEMORY, PIPE, NONE = File("anon_inode:[eventfd]"), File("socket:"), File("/memfd:region"), File("pipe:"), -1
+EVENT, SOCKET, MEMORY, PIPE, NONE = (
+    File("anon_inode:[eventfd]"),
+    File("socket:"),
+    File("/memfd:region"),
+    File("pipe:"),
+    -1,
+)
 STEPS = {}
 
 
 def step(names):
     """Makes a function a step: it changes fields of these names, and returns their values."""
+
     def keep(act):
         STEPS[act.__name__] = (names.split(), act)
         return act
@@ -77,21 +116,45 @@ def step(names):
     return keep
 
 
-@step("kept.layout kept.bytes kept.ended_by kept.turns notes.serial notes.ready_then told.features told.protocol told.status told.owned told.negotiated")
+@step(
+    "kept.layout kept.bytes kept.ended_by kept.turns notes.serial notes.ready_then told.features told.protocol told.status told.owned told.negotiated"
+)
 def a_driver_is_ready(life):
     life.comes()
-    size, turns, serial = os.fstat(life.kept.file).st_size, life.kept["kept.turns"], life.kept["notes.serial"]
-    return 1, size, 9, AtLeast(turns + 1), AtLeast(serial + 1), 1, FEATURES | POISON | HAS_PROTOCOL, QEMU_PROTOCOL, 15, 1, 1
+    size, turns, serial = (
+        os.fstat(life.kept.file).st_size,
+        life.kept["kept.turns"],
+        life.kept["notes.serial"],
+    )
+    return (
+        1,
+        size,
+        9,
+        AtLeast(turns + 1),
+        AtLeast(serial + 1),
+        1,
+        FEATURES | POISON | HAS_PROTOCOL,
+        QEMU_PROTOCOL,
+        15,
+        1,
+        1,
+    )
 
 
-@step("rings.table rings.avail rings.used rings.size rings.placed rings.based rings.enabled rings.started rings.runs")
+@step(
+    "rings.table rings.avail rings.used rings.size rings.placed rings.based rings.enabled rings.started rings.runs"
+)
 def rings_run(life):
     life.comes()
-    table, used, avail = ([REGIONS[0][1] + (3 * it + page) * PAGE for it in QUEUES_USED] + [0] for page in (0, 2, 1))
+    table, used, avail = (
+        [REGIONS[0][1] + (3 * it + page) * PAGE for it in QUEUES_USED] + [0] for page in (0, 2, 1)
+    )
     return table, avail, used, [SIZE] * 4 + [0], ON, ON, ON, ON, ON
 
 
-@step("rings.kick.file rings.call.file rings.fault.file rings.kick.is_socket rings.call.is_socket rings.fault.is_socket")
+@step(
+    "rings.kick.file rings.call.file rings.fault.file rings.kick.is_socket rings.call.is_socket rings.fault.is_socket"
+)
 def queues_have_files(life):
     life.comes()
     life.files = [*socket.socketpair(), *socket.socketpair()]
@@ -108,7 +171,9 @@ def a_client_and_a_lender_are_there(life):
     return [MEMORY] * 2, SOCKET, SOCKET, SOCKET, SOCKET, File("anon_inode:[signalfd]"), [PIPE] * 2
 
 
-@step("regions.place.guest regions.place.user regions.place.size regions.place.offset region_count set_words notes.pages notes.wait")
+@step(
+    "regions.place.guest regions.place.user regions.place.size regions.place.offset region_count set_words notes.pages notes.wait"
+)
 def memory_comes(life):
     life.comes()
     guest, user = map(list, zip(*REGIONS))
@@ -222,7 +287,9 @@ def features_are_refused(life):
     """A strict guest has to tell the host before it uses a page."""
     life.client.negotiate(FEATURES, QEMU_PROTOCOL)
     for _ in range(3):
-        assert life.client.send(SET_FEATURES, struct.pack("<Q", (FEATURES & ~1) | HAS_PROTOCOL)) != bytes(8)
+        assert life.client.send(
+            SET_FEATURES, struct.pack("<Q", (FEATURES & ~1) | HAS_PROTOCOL)
+        ) != bytes(8)
     return (3,)
 
 
@@ -263,14 +330,18 @@ def a_message_is_cut_off(life):
     return HEAD, 3, [SET_FEATURES, 9, 8]
 
 
-@step("""counters.kicks counters.interrupts counters.told counters.chains counters.pages counters.discarded counters.waiting counters.skipped
+@step(
+    """counters.kicks counters.interrupts counters.told counters.chains counters.pages counters.discarded counters.waiting counters.skipped
          counters.in_holes counters.kept counters.marked counters.unmarked counters.inflated counters.deflated counters.reported counters.reports
-         counters.statistics counters.taken""")
+         counters.statistics counters.taken"""
+)
 def all_is_counted(life):
     """The next process has the numbers of this one, and tells its driver once more."""
     life.comes()
     life.writes(POISON_AT, POISON_VALUE)
-    life.gives([*GIVEN[:10], 1 << 20, REGIONS[1][0] // PAGE - 1], 1)  # past the end, and in the hole
+    life.gives(
+        [*GIVEN[:10], 1 << 20, REGIONS[1][0] // PAGE - 1], 1
+    )  # past the end, and in the hole
     life.tells(1)
     life.lender.demand("a target 20"), life.lender.become("a", asked=20)
     life.takes(GIVEN[:3], 1)
@@ -285,7 +356,12 @@ def all_is_counted(life):
 
 
 # Steps of a guest whose deflates don't wait, so that its target is only what the test says.
-LOOSE = ("a_target_is_told", "pages_are_taken", "statistics_are_told_after_pages_were_taken", "all_is_counted")
+LOOSE = (
+    "a_target_is_told",
+    "pages_are_taken",
+    "statistics_are_told_after_pages_were_taken",
+    "all_is_counted",
+)
 
 
 @pytest.fixture
@@ -305,7 +381,9 @@ def test_the_next_process_goes_on_with_what_was_kept(life, name):
         now = life.kept[field]
         some = field in ZEROS or (any(wanted) if isinstance(wanted, (list, tuple)) else wanted)
         assert some, f"{field} is 0 already, which says nothing"
-        assert not faults(life, wanted, now, before[field]), f"{field} is {now} in the next process, and was {before[field]}: it should be {wanted}"
+        assert not faults(
+            life, wanted, now, before[field]
+        ), f"{field} is {now} in the next process, and was {before[field]}: it should be {wanted}"
 
 
 def test_each_field_that_is_kept_has_its_step():

@@ -42,12 +42,16 @@ def test_the_next_lender_goes_on_with_the_guests(lend, come, end):
     a.give(list(range(PAGES + 30, PAGES + 40)))
     assert not any(map(has_ended, processes))
     second = lend(1, *QUICK, folder=first.folder)
-    second.become("a", ballooned=40, inflated=40, ready=1, answers=1, pages=128, priority=2, most=768)
+    second.become(
+        "a", ballooned=40, inflated=40, ready=1, answers=1, pages=128, priority=2, most=768
+    )
     second.become("b", ready=1, answers=1, pages=128, priority=1)
     second.become("empty", here=0)
     assert [process_of(second, it) for it in "ab"] == processes
     # Its budget is the new one's: of 256 pages nothing is missing, until a third guest comes.
-    eventually(lambda: [it["target"] for it in second.guests().values()] == [0, 0, 0], second.guests)
+    eventually(
+        lambda: [it["target"] for it in second.guests().values()] == [0, 0, 0], second.guests
+    )
     come(second, "empty", {FREE: 0})
     eventually(lambda: [second.guests()[it]["target"] for it in "ab"] == [28, 100], second.guests)
 
@@ -114,7 +118,9 @@ def stuck(lend, come):
     frames a has 68, b, which stands still, 60, and c 128."""
     first = lend(1, *QUICK, "--strict")
     a, b = (come(first, it, {FREE: 100}) for it in "ab")
-    a.give(list(range(PAGES, PAGES + 60))), b.give([*range(PAGES, PAGES + 64), *range(PAGES_OF_ALL + 20, PAGES_OF_ALL + 24)])
+    a.give(list(range(PAGES, PAGES + 60))), b.give(
+        [*range(PAGES, PAGES + 64), *range(PAGES_OF_ALL + 20, PAGES_OF_ALL + 24)]
+    )
     come(first, "c", {FREE: 0})
     assert first.counters()["lent"] == 256
     process = process_of(first, "b")

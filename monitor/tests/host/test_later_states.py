@@ -21,7 +21,12 @@ ALL, HALF, NOBODY = 128, 64, 65534
 
 def enumerators(name):
     """Returns the names of an enum of monitor/backends/host/view.h."""
-    return re.findall(r"\w+", re.search(rf"enum {name} \{{(.*?)\}}", re.sub(r"/\*.*?\*/", "", view(), flags=re.S), re.S)[1])
+    return re.findall(
+        r"\w+",
+        re.search(rf"enum {name} \{{(.*?)\}}", re.sub(r"/\*.*?\*/", "", view(), flags=re.S), re.S)[
+            1
+        ],
+    )
 
 
 def view():
@@ -64,7 +69,9 @@ class Before:
         self.lender.become("a", ready=1, ballooned=HALF, lent=HALF)
         self.others.append(Client(self.lender.add("c")))
         self.others[0].negotiate(protocol=OFFERED)
-        self.others[0].accepted(ADD_MEM_REG, self.others[0].region_body(0), self.others[0].files[:1])
+        self.others[0].accepted(
+            ADD_MEM_REG, self.others[0].region_body(0), self.others[0].files[:1]
+        )
 
     def waits_for_room(self):
         """Another one has what is left."""
@@ -152,17 +159,28 @@ def test_a_later_lender_goes_on_with_a_guest_in_each_state(lend, come, state):
 
 def terms_of_guests():
     """Returns the names of a guest's terms, by view.h."""
-    body = re.sub(r"/\*.*?\*/", "", re.search(r"struct guest_terms \{(.*?)\};", view(), re.S)[1], flags=re.S)
+    body = re.sub(
+        r"/\*.*?\*/", "", re.search(r"struct guest_terms \{(.*?)\};", view(), re.S)[1], flags=re.S
+    )
     return re.findall(r"(\w+);", body)
 
 
-@pytest.mark.parametrize("first, second", ((STRICT, LOOSE), (LOOSE, STRICT)), ids=("strict", "loose"))
+@pytest.mark.parametrize(
+    "first, second", ((STRICT, LOOSE), (LOOSE, STRICT)), ids=("strict", "loose")
+)
 def test_terms_go_on_whatever_the_later_lender_has_others(lend, come, first, second):
     """Also for the next client at the seat of the guest."""
     lender, strict = lend(5, *first), first == STRICT
     a = come(lender, "a", {FREE: 100}, "least=1 most=2 priority=3 overhead=4")
     terms = seen(lender)["terms"]
-    assert terms == {"least": 1 << 20, "most": 2 << 20, "priority": 3, "strict": strict, "overhead": 4 << 20, "limit": None}
+    assert terms == {
+        "least": 1 << 20,
+        "most": 2 << 20,
+        "priority": 3,
+        "strict": strict,
+        "overhead": 4 << 20,
+        "limit": None,
+    }
     assert list(terms) == terms_of_guests()
     lender.kill()
     later = lend(5, *second, folder=lender.folder)
@@ -186,7 +204,9 @@ def test_a_later_lender_with_a_smaller_budget_lends_nothing_before_there_is_room
     first.become("b", ballooned=10, lent=ALL - 10)
     first.kill()
     later = lend(1, *STRICT, folder=first.folder)
-    eventually(lambda: sum(it["target"] for it in later.guests().values()) == 3 * ALL - 256, later.guests)
+    eventually(
+        lambda: sum(it["target"] for it in later.guests().values()) == 3 * ALL - 256, later.guests
+    )
     assert later.counters()["lent"] == 3 * ALL - 10
     b.take(GIVEN[:5])
     a.give(GIVEN[:100]), c.give(GIVEN[:22])
@@ -210,7 +230,9 @@ def test_a_later_lender_names_who_holds_more_than_its_loan(lend, come):
     first.kill()
     later = lend(1, *STRICT, folder=first.folder)
     later.become("a", cooperates=0, lent=ALL, ballooned=50)
-    assert "a: has taken 50 pages unasked: all its memory counts as lent from now on" in later.said()
+    assert (
+        "a: has taken 50 pages unasked: all its memory counts as lent from now on" in later.said()
+    )
 
 
 def test_a_guest_that_has_taken_pages_under_an_earlier_lender_has_none_free(lend, come):
@@ -277,7 +299,9 @@ def test_a_later_lender_admits_nobody_before_all_have_told_what_they_have(lend, 
         assert later.counters()["decisions"] == 0 or time.monotonic() - begin > TOLD_IN
     finally:
         go_on(process)
-    eventually(lambda: "refused c: no room for 128 pages: 128 are missing" in later.said(), later.said)
+    eventually(
+        lambda: "refused c: no room for 128 pages: 128 are missing" in later.said(), later.said
+    )
     comes.join(20)
     client.leave()
     for it in guests:
@@ -302,15 +326,35 @@ def test_a_folder_keeps_what_is_no_guests(lend, tmp_path_factory):
 FRAMES, MEMORY, BALLOONED, TARGET, EARLIER, SURPLUS = 6144, 4096, 3000, 2560, 2000, 512
 
 
-@pytest.mark.parametrize("obeyed, ahead", ((EARLIER, BALLOONED - TARGET + SURPLUS), (TARGET, BALLOONED - TARGET)), ids=("earlier", "last"))
-def test_an_adopted_driver_that_obeys_an_earlier_target_has_what_it_may_take(lend, tmp_path_factory, obeyed, ahead):
+@pytest.mark.parametrize(
+    "obeyed, ahead",
+    ((EARLIER, BALLOONED - TARGET + SURPLUS), (TARGET, BALLOONED - TARGET)),
+    ids=("earlier", "last"),
+)
+def test_an_adopted_driver_that_obeys_an_earlier_target_has_what_it_may_take(
+    lend, tmp_path_factory, obeyed, ahead
+):
     """All that there is room for, up to what the earlier target leaves; and, once it has read the last one, what that leaves."""
     folder, begin = str(tmp_path_factory.mktemp("l")), time.monotonic()
     listens = [Listens(folder, it) for it in "abc"]
     lender = lend(FRAMES // 256, *STRICT, folder=folder)
-    of_others = ({"pages": MEMORY}, {"pages": SURPLUS, "ballooned": SURPLUS, "target": SURPLUS, "obeyed": SURPLUS + 1})
-    others = [Played(lender, name, listens=it, **its) for name, it, its in zip("bc", listens[1:], of_others)]
-    a = Played(lender, "a", listens=listens[0], pages=MEMORY, ballooned=BALLOONED, target=TARGET, obeyed=obeyed + 1)
+    of_others = (
+        {"pages": MEMORY},
+        {"pages": SURPLUS, "ballooned": SURPLUS, "target": SURPLUS, "obeyed": SURPLUS + 1},
+    )
+    others = [
+        Played(lender, name, listens=it, **its)
+        for name, it, its in zip("bc", listens[1:], of_others)
+    ]
+    a = Played(
+        lender,
+        "a",
+        listens=listens[0],
+        pages=MEMORY,
+        ballooned=BALLOONED,
+        target=TARGET,
+        obeyed=obeyed + 1,
+    )
     if time.monotonic() - begin > TOLD_IN:
         pytest.skip("the machine is too busy")
     lender.become("a", target=TARGET, asked=TARGET, lent=MEMORY - BALLOONED + ahead)

@@ -45,7 +45,10 @@ def test_a_lie_ends_the_service_of_its_process_alone(lend, come, lie):
     assert lent(lender) == 2 * ALL - 50
     a.report(**changed)
     eventually(lambda: ended_by(a.listens.child) == signal.SIGKILL)
-    eventually(lambda: lender.hear() or f"refused a: its process reports {why}" in lender.said(), lender.said)
+    eventually(
+        lambda: lender.hear() or f"refused a: its process reports {why}" in lender.said(),
+        lender.said,
+    )
     lender.become("a", here=0, pages=0)
     assert lender.counters()["held_kib"] <= held
     b.take(GIVEN[:10])
@@ -62,7 +65,10 @@ def test_the_first_report_to_a_later_lender_is_bounded(lend):
     with contextlib.suppress(BrokenPipeError):  # it may report twice before it ends
         Played(lender, "a", listens=listens, ballooned=MOST_PAGES + 1)
     eventually(lambda: ended_by(listens.child) == signal.SIGKILL)
-    eventually(lambda: lender.hear() or f"refused a: its process reports {TOO_MANY}" in lender.said(), lender.said)
+    eventually(
+        lambda: lender.hear() or f"refused a: its process reports {TOO_MANY}" in lender.said(),
+        lender.said,
+    )
 
 
 def terms_after(lend, lender, kept=None):
@@ -74,8 +80,14 @@ def terms_after(lend, lender, kept=None):
         os.unlink(link), os.symlink(kept, link)
     listens = Listens(lender.folder, "a")
     later = lend(1, *STRICT, folder=lender.folder)
-    a = Played(later, "a", listens=listens, pages=ALL, has_terms=1, least=7, most=9, priority=8, strict=0)
-    found = {name: it for name, it in seen(later)["terms"].items() if name in ("least", "most", "priority", "strict")}
+    a = Played(
+        later, "a", listens=listens, pages=ALL, has_terms=1, least=7, most=9, priority=8, strict=0
+    )
+    found = {
+        name: it
+        for name, it in seen(later)["terms"].items()
+        if name in ("least", "most", "priority", "strict")
+    }
     a.leave()
     later.become("a", here=0)
     return later, found
@@ -90,4 +102,9 @@ def test_a_process_tells_no_terms_of_its_own(lend):
     later, found = terms_after(lend, later, "0 none")
     assert found == {"least": 7 * PAGE, "most": 9 * PAGE, "priority": 8, "strict": False}
     os.unlink(f"{later.folder}/=a"), os.symlink("terms 0 256 3 1 0 none", f"{later.folder}/=a")
-    assert terms_after(lend, later)[1] == {"least": 0, "most": 1 << 20, "priority": 3, "strict": True}
+    assert terms_after(lend, later)[1] == {
+        "least": 0,
+        "most": 1 << 20,
+        "priority": 3,
+        "strict": True,
+    }

@@ -95,7 +95,9 @@ def test_a_limit_goes_on_with_the_next_lender(one, lend):
     used(a, DEFLATE, 1)
     assert its.pages() == 88
     second.demand("remove a")
-    assert os.readlink(f"{lender.folder}/=b").endswith(" none") and not os.path.lexists(f"{lender.folder}/=a")
+    assert os.readlink(f"{lender.folder}/=b").endswith(" none") and not os.path.lexists(
+        f"{lender.folder}/=a"
+    )
 
 
 def test_a_writer_that_ends_is_begun_anew(one):
@@ -108,7 +110,10 @@ def test_a_writer_that_ends_is_begun_anew(one):
     a.give(GIVEN[:50])
     lender.become("a", limit=78, limit_failures=1)
     assert its.pages() == 78
-    assert f"a: its limit {its.term} can't be set to {ALL * 4} KiB: its writer has ended" in lender.said()
+    assert (
+        f"a: its limit {its.term} can't be set to {ALL * 4} KiB: its writer has ended"
+        in lender.said()
+    )
 
 
 def test_a_writer_that_has_ended_before_it_is_asked_is_named(one):
@@ -131,7 +136,9 @@ def test_a_limit_that_cannot_be_written_is_named(one):
     a.take(GIVEN[:10])
     eventually(lambda: lender.guests()["a"]["limit_failures"] >= 2)
     assert a.client.used(DEFLATE)[0] == 0
-    said = [it for it in lender.said() if f"its limit {its.term} can't be set to {88 * 4} KiB: " in it]
+    said = [
+        it for it in lender.said() if f"its limit {its.term} can't be set to {88 * 4} KiB: " in it
+    ]
     assert said, lender.said()
     its.make() if isinstance(its, Cgroup) else its.mount()
     used(a, DEFLATE, 1)
@@ -173,12 +180,17 @@ def test_who_takes_pages_unasked_is_named(lend, come):
     guests[0].fill()
     lender.become("a", held_kib=4 * ALL, cooperates=0, lent=ALL, spare=0, target=0)
     lender.become("b", target=100), lender.become("c", target=28)
-    assert "a: has taken 100 pages unasked: all its memory counts as lent from now on" in lender.said()
+    assert (
+        "a: has taken 100 pages unasked: all its memory counts as lent from now on" in lender.said()
+    )
     time.sleep(0.5)
     assert sum("unasked" in it for it in lender.said()) == 1
 
 
-NO_LIMIT, NO_PATH = "none, cgroup:PATH or tmpfs:MOUNT", "a path from / on, without ., .. or a slash too many"
+NO_LIMIT, NO_PATH = (
+    "none, cgroup:PATH or tmpfs:MOUNT",
+    "a path from / on, without ., .. or a slash too many",
+)
 # What is a cgroup that has no limit of memory, by the version.
 NO_MEMORY = {
     FIRST: ("limit=cgroup:/sys/fs/cgroup/cpu", "no cgroup of memory"),
@@ -191,14 +203,20 @@ REFUSED = (
     ("limit=tmpfs:/x/../y", NO_PATH),
     ("limit=tmpfs:/x/./y", NO_PATH),
     ("limit=cgroup:/x/", NO_PATH),
-    ("limit=tmpfs:/" + "x" * 151, "a path of 151 bytes at most, each of them a letter, a digit or a sign of ASCII"),
+    (
+        "limit=tmpfs:/" + "x" * 151,
+        "a path of 151 bytes at most, each of them a letter, a digit or a sign of ASCII",
+    ),
     ("limit=cgroup:/etc", "no cgroup of memory"),
     ("limit=cgroup:/proc/self", "no cgroup of memory"),
     NO_MEMORY[cgroups()],
     ("limit=tmpfs:/etc", "no mount of tmpfs"),
     ("limit=tmpfs:/dev/shm/x", "no mount of tmpfs"),
     ("limit=tmpfs:/" + "x" * 150, "no mount of tmpfs"),
-    ("strict=0 limit=tmpfs:/dev/shm", "a limit is for a strict guest, whose deflates wait until it is raised"),
+    (
+        "strict=0 limit=tmpfs:/dev/shm",
+        "a limit is for a strict guest, whose deflates wait until it is raised",
+    ),
 )
 
 
@@ -214,7 +232,9 @@ def test_what_is_no_limit_is_refused(lend, terms, why):
 
 def test_a_limit_is_one_guests(lend, limits):
     lender, its = lend(1, *STRICT), limits("a")
-    lender.demand(f"add a limit={its.term}"), lender.demand(f"terms a limit={its.term}"), lender.demand("add b")
+    lender.demand(f"add a limit={its.term}"), lender.demand(
+        f"terms a limit={its.term}"
+    ), lender.demand("add b")
     for line in (f"terms b limit={its.term}", f"add c limit={its.term}"):
         assert "the limit is another guest's" in lender.ask(line)
     if isinstance(its, Cgroup):

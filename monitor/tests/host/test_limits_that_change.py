@@ -66,7 +66,9 @@ def test_a_guest_that_holds_more_than_its_limit_allows_counts_like_any_other(one
     eventually(lambda: failures(lender) >= 1) if fails else lender.become("a", limit=LEFT)
     a.fill()  # its memory isn't where the limit is
     lender.become("a", cooperates=0, lent=ALL)
-    assert [it for it in lender.said() if "unasked" in it] == ["a: has taken 50 pages unasked: all its memory counts as lent from now on"]
+    assert [it for it in lender.said() if "unasked" in it] == [
+        "a: has taken 50 pages unasked: all its memory counts as lent from now on"
+    ]
     if fails:
         again(its)
 
@@ -196,7 +198,10 @@ def test_the_kernel_says_why_a_limit_cannot_be_written(lend, come, tmp_path):
             os.posix_fallocate(other.fileno(), 0, ALL * PAGE)
         a.give(GIVEN[:50])
         eventually(lambda: failures(lender) >= 1)
-        assert f"a: its limit {its.term} can't be set to {LEFT * 4} KiB: tmpfs: Too small a size for current use" in lender.said()
+        assert (
+            f"a: its limit {its.term} can't be set to {LEFT * 4} KiB: tmpfs: Too small a size for current use"
+            in lender.said()
+        )
         os.unlink(other.name)
         lender.become("a", limit=LEFT)
     finally:

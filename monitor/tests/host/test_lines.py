@@ -70,13 +70,18 @@ def test_who_waits_for_pages_that_nobody_can_give_is_named_once(given):
     lender.become("a", waits="reset", lent=78)
     b.take(GIVEN[:10])
     lender.become("b", waits="deflate")
-    said = [f"{it}: all guests together can't give 56 of those that are missing" for it in ("50 pages (reset)", "10 pages (deflate)")]
+    said = [
+        f"{it}: all guests together can't give 56 of those that are missing"
+        for it in ("50 pages (reset)", "10 pages (deflate)")
+    ]
 
     def named():
         return [it for it in lender.said() if "seconds for" in it]
 
     eventually(lambda: len(named()) == 2, lender.said)
-    assert sorted(named()) == [f"{name}: has waited 10 seconds for {it}" for name, it in zip("ab", said)]
+    assert sorted(named()) == [
+        f"{name}: has waited 10 seconds for {it}" for name, it in zip("ab", said)
+    ]
     set_budget(155), time.sleep(1)
     assert len(named()) == 2 and b.client.used(DEFLATE)[0] == 0
     set_budget(156)

@@ -18,5 +18,9 @@ HERE = os.path.dirname(os.path.realpath(__file__))
 
 @pytest.mark.parametrize("name", [pytest.param(it, marks=pytest.mark.wrong(it)) for it in LOOPS])
 def test_a_wrong_loop_is_refused(name):
-    fault = demand_refused(f"{HERE}/{LOOPS[name]}", LOOP_WRONG=name, HOST_PROGRAM=linux_kit.built("loop/vhost_user_host"))
+    fault = demand_refused(
+        f"{HERE}/{LOOPS[name]}",
+        LOOP_WRONG=name,
+        HOST_PROGRAM=linux_kit.built("loop/vhost_user_host"),
+    )
     print(f"{name} is refused by {LOOPS[name]}: {fault}")

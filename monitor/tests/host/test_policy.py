@@ -16,7 +16,10 @@ def targets(lender):
 
 def become(lender, wanted):
     """Waits until the targets are these."""
-    eventually(lambda: targets(lender) == wanted, lambda: f"the targets are {targets(lender)}, and should be {wanted}")
+    eventually(
+        lambda: targets(lender) == wanted,
+        lambda: f"the targets are {targets(lender)}, and should be {wanted}",
+    )
 
 
 # What a guest tells, and what it can spare of its 128 pages.
@@ -81,7 +84,17 @@ def test_terms_that_change(lend, come):
     assert (seen["least"], seen["most"], seen["priority"]) == (0, 0, 0)
 
 
-NO_TERMS = ("least=", "least=x", "most=-1", "priority=4294967296", "strict=2", "frames=1", "least=1  most=2", "least=16777216", "=")
+NO_TERMS = (
+    "least=",
+    "least=x",
+    "most=-1",
+    "priority=4294967296",
+    "strict=2",
+    "frames=1",
+    "least=1  most=2",
+    "least=16777216",
+    "=",
+)
 
 
 @pytest.mark.parametrize("words", NO_TERMS)
@@ -105,7 +118,10 @@ def test_least_above_most(lend):
 
 def test_a_silent_guest_counts_for_what_it_holds(lend, come):
     lender = lend(1, *QUICK)
-    a, pages = come(lender, "a", {FREE: 0}), [*range(PAGES, PAGES + 64), *range(PAGES_OF_ALL + 20, PAGES_OF_ALL + 64)]
+    a, pages = come(lender, "a", {FREE: 0}), [
+        *range(PAGES, PAGES + 64),
+        *range(PAGES_OF_ALL + 20, PAGES_OF_ALL + 64),
+    ]
     a.give(pages)
     lender.become("a", ballooned=108)
     a.take(pages)

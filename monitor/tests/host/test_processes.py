@@ -12,13 +12,28 @@ from waiting import PATIENCE
 
 def test_a_second_host_of_a_folder_is_refused(lend, plain):
     lender = lend(5)
-    ran = subprocess.run([plain, lender.folder, "--budget", "5"], stdin=subprocess.DEVNULL, capture_output=True, text=True, timeout=PATIENCE)
-    assert (ran.returncode, ran.stdout, ran.stderr) == (2, "", f"{lender.folder} is another host's\n")
+    ran = subprocess.run(
+        [plain, lender.folder, "--budget", "5"],
+        stdin=subprocess.DEVNULL,
+        capture_output=True,
+        text=True,
+        timeout=PATIENCE,
+    )
+    assert (ran.returncode, ran.stdout, ran.stderr) == (
+        2,
+        "",
+        f"{lender.folder} is another host's\n",
+    )
     assert lender.demand("add a").startswith("listening")
 
 
 def test_the_end_of_its_input_is_not_its_end(plain, tmp_path):
-    with subprocess.Popen([plain, str(tmp_path), "--budget", "5"], stdin=subprocess.DEVNULL, stdout=subprocess.PIPE, text=True) as host:
+    with subprocess.Popen(
+        [plain, str(tmp_path), "--budget", "5"],
+        stdin=subprocess.DEVNULL,
+        stdout=subprocess.PIPE,
+        text=True,
+    ) as host:
         assert host.stdout.readline() == "ready\n"
         with pytest.raises(subprocess.TimeoutExpired):
             host.wait(0.5)
@@ -72,7 +87,9 @@ def test_who_comes_once_another_has_gone_is_heard_by_files_of_the_same_numbers(l
         numbers |= files() - before
         guest.leave()
         lender.become(name, here=0)
-        eventually(lambda: files() == before, f"the lender has more files open than before {name} came")
+        eventually(
+            lambda: files() == before, f"the lender has more files open than before {name} came"
+        )
     assert len(numbers) < 6, f"files of {numbers} have come by three guests"
 
 
@@ -127,6 +144,11 @@ def test_quit_waits_for_no_process_of_its_own(lend):
 
 
 def test_a_program_that_is_not_there(plain, tmp_path):
-    ran = subprocess.run([plain, str(tmp_path), "--budget", "5", "--program", "/nowhere"], stdin=subprocess.DEVNULL, capture_output=True,
-                         text=True, timeout=PATIENCE)
+    ran = subprocess.run(
+        [plain, str(tmp_path), "--budget", "5", "--program", "/nowhere"],
+        stdin=subprocess.DEVNULL,
+        capture_output=True,
+        text=True,
+        timeout=PATIENCE,
+    )
     assert (ran.returncode, ran.stderr) == (2, "/nowhere: No such file or directory\n")

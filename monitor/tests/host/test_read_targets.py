@@ -37,7 +37,8 @@ def play(lend):
 @pytest.mark.parametrize("reads", (True, False), ids=("reads", "doesn't"))
 def test_a_driver_takes_back_what_it_gave_before_it_read_a_target(play, reads):
     """A driver at full speed inflates ten times before it reads that it is to give less. As it gives, it can spare more: so its target rises again, and
-    it obeys one between. It waits for none of the pages that it takes back by that. A driver that reads no target obeys what its process has heard."""
+    it obeys one between. It waits for none of the pages that it takes back by that. A driver that reads no target obeys what its process has heard.
+    """
     a = play(target=ALL, hears=reads, **({"obeyed": ALL + 1} if reads else {}))
     a.lender.become("a", asked=0)
     for number in range(1, 11):

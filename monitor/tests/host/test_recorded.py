@@ -54,9 +54,14 @@ class Day:
 
     def __init__(self, path):
         self.answer = json.loads(path.read_text())
-        self.series = {(it["metric"]["__name__"], it["metric"].get("guest", "")): it["values"] for it in self.answer["data"]["result"]}
+        self.series = {
+            (it["metric"]["__name__"], it["metric"].get("guest", "")): it["values"]
+            for it in self.answer["data"]["result"]
+        }
         budgets = [int(text) for _, text in self.series["bigvasta_budget_bytes", ""]]
-        self.raised = next(look for look, pair in enumerate(zip(budgets, budgets[1:]), 1) if pair[0] < pair[1])
+        self.raised = next(
+            look for look, pair in enumerate(zip(budgets, budgets[1:]), 1) if pair[0] < pair[1]
+        )
         self.ended = len(budgets)
 
     def number(self, metric, guest, look):
@@ -72,7 +77,11 @@ class Day:
     def looks(self, guest):
         """Returns the looks before the budget is raised at which a guest waits for what it is granted then."""
         granted = self.number(GRANTED, guest, self.raised - 1)
-        return [it for it in range(self.raised) if self.number(GRANTED, guest, it) == granted and self.number(ASKED, guest, it) > 0]
+        return [
+            it
+            for it in range(self.raised)
+            if self.number(GRANTED, guest, it) == granted and self.number(ASKED, guest, it) > 0
+        ]
 
     def waited(self, guest):
         """Returns for how many looks a guest has waited as the budget is raised, and for how many seconds."""
@@ -94,7 +103,11 @@ class Day:
         """Has a guest be granted what it waits for before the budget is raised, and before the host granted it: the budget is as large as this room then."""
         begin, last = self.raised - EARLY, self.raised - 1
         asked, granted = (int(self.number(it, guest, last)) for it in (ASKED, GRANTED))
-        end = next(look for look in range(self.raised, self.ended) if self.number(GRANTED, guest, look) > granted)
+        end = next(
+            look
+            for look in range(self.raised, self.ended)
+            if self.number(GRANTED, guest, look) > granted
+        )
         for metric, difference in ((LOAN, asked), (GRANTED, asked), (ASKED, -asked)):
             self.add(metric, guest, range(begin, end), difference)
         self.add("bigvasta_budget_bytes", "", range(begin, self.raised), room)
@@ -110,7 +123,9 @@ def demand_wrong_hosts_named(path, library):
     for looks in (None, LATE):
         day = Day(path)
         day.wait("a", looks or day.ended)
-        assert apart(library, day.write(path.with_name("wrong.json"))) == {"a": looks or day.ended - day.raised}
+        assert apart(library, day.write(path.with_name("wrong.json"))) == {
+            "a": looks or day.ended - day.raised
+        }
 
 
 def demand_order(path, library):
@@ -118,7 +133,9 @@ def demand_order(path, library):
     day = Day(path)
     last = day.raised - 1
     first, second = sorted("ab", key=day.waited, reverse=True)
-    room = sum(int(day.number(LOAN, it, last)) for it in "ab") + int(max(day.number(ASKED, it, last) for it in "ab"))
+    room = sum(int(day.number(LOAN, it, last)) for it in "ab") + int(
+        max(day.number(ASKED, it, last) for it in "ab")
+    )
     day.wait_longer(first)
     day.grant(first, room)
     assert apart(library, day.write(path.with_name("first.json"))) == {}
@@ -134,9 +151,13 @@ def test_a_day_is_replayed_with_the_same_grants(lend, come, shared, tmp_path):
     guests = [come(lender, it, {FREE: 100}) for it in "ab"]
     with Recorder(f"{lender.folder}/.control") as recorder:
         live(lender, guests)
-        eventually(lambda: all(it["waits"] == "nothing" for it in lender.guests().values()), lender.guests)
+        eventually(
+            lambda: all(it["waits"] == "nothing" for it in lender.guests().values()), lender.guests
+        )
     recorder.write(tmp_path / "day.json")
-    found = json.loads(planner.run(str(tmp_path / "day.json"), "--check", "--json", "--library", shared))
+    found = json.loads(
+        planner.run(str(tmp_path / "day.json"), "--check", "--json", "--library", shared)
+    )
     assert found["agrees"] and found["look"] == pytest.approx(0.2, abs=0.002)
     for it in found["guests"]:
         assert it["granted"] == it["replayed"] > 0 and it["waited"] > 0.5, found

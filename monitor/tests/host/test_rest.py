@@ -22,7 +22,10 @@ def test_a_guest_at_rest_is_asked_in_one_period_of_five(resting):
     lender, _ = resting
     before, begin = lender.guests()["a"]["statistics"], time.monotonic()
     time.sleep(LOOK)
-    asked, most = lender.guests()["a"]["statistics"] - before, (time.monotonic() - begin) / PERIOD / 5 + 2
+    asked, most = (
+        lender.guests()["a"]["statistics"] - before,
+        (time.monotonic() - begin) / PERIOD / 5 + 2,
+    )
     assert 0 < asked <= most, f"{asked} times in {LOOK} s, and {most:.0f} are most"
 
 

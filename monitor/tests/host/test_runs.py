@@ -13,7 +13,9 @@ LIMIT = 900
 def pytest_generate_tests(metafunc):
     """Makes a test of each run, as often as the command line says."""
     if "run" in metafunc.fixturenames:
-        metafunc.parametrize("run", [name for _ in range(metafunc.config.getoption("--times")) for name in RUNS])
+        metafunc.parametrize(
+            "run", [name for _ in range(metafunc.config.getoption("--times")) for name in RUNS]
+        )
 
 
 @pytest.fixture(scope="session")
@@ -37,7 +39,9 @@ def test_hours(bench, request):
 
 
 @pytest.mark.timeout(LIMIT)
-@pytest.mark.parametrize("wrong", [pytest.param(it, marks=pytest.mark.wrong(it)) for it in WRONG_HOSTS])
+@pytest.mark.parametrize(
+    "wrong", [pytest.param(it, marks=pytest.mark.wrong(it)) for it in WRONG_HOSTS]
+)
 def test_a_wrong_host_fails(bench, wrong):
     """The run that is for it finds it."""
     bench.wrong = wrong

@@ -55,7 +55,10 @@ def waits_of(lender, name):
 
 def used(guest, number, count):
     """Waits until this number of requests of a queue were given back."""
-    eventually(lambda: guest.client.used(number)[0] >= count, lambda: f"{guest.client.used(number)[0]} of {count} are used")
+    eventually(
+        lambda: guest.client.used(number)[0] >= count,
+        lambda: f"{guest.client.used(number)[0]} of {count} are used",
+    )
 
 
 @pytest.fixture
@@ -169,7 +172,9 @@ def test_what_a_target_lets_go_is_lent_before_it_is_asked_for(two, come):
     a.figures[FREE], b.figures[FREE] = 0, 16
     with Connection(f"{lender.folder}/.control") as it:
         it.ask("floor", bytes=16 * PAGE)
-    eventually(lambda: [it["target"] for it in lender.guests().values()] == [84, 28, 16], lender.guests)
+    eventually(
+        lambda: [it["target"] for it in lender.guests().values()] == [84, 28, 16], lender.guests
+    )
     lender.become("a", lent=28, ballooned=100)
     others[0].give(GIVEN[:16])
     lender.become("a", lent=44, ballooned=100)
@@ -233,7 +238,9 @@ def test_memory_that_never_fits_is_refused(lend):
     client.negotiate()
     with pytest.raises(AssertionError):
         client.hand_over_memory()
-    eventually(lambda: "refused a: no room for 128 pages: 128 are missing" in lender.said(), lender.said)
+    eventually(
+        lambda: "refused a: no room for 128 pages: 128 are missing" in lender.said(), lender.said
+    )
     client.leave()
 
 
@@ -300,7 +307,13 @@ class Driver(threading.Thread):
 
     def __init__(self, guest, seed, until):
         super().__init__(daemon=True)
-        self.guest, self.chance, self.until, self.fault, self.balloon = guest, random.Random(seed), until, None, []
+        self.guest, self.chance, self.until, self.fault, self.balloon = (
+            guest,
+            random.Random(seed),
+            until,
+            None,
+            [],
+        )
         self.start()
 
     def run(self):
@@ -316,7 +329,10 @@ class Driver(threading.Thread):
                     pages, self.balloon = self.balloon[:count], self.balloon[count:]
                     self.guest.take(pages)
                     deflates += 1
-                    while self.guest.client.used(DEFLATE)[0] & 0xFFFF != deflates & 0xFFFF and time.monotonic() < self.until:
+                    while (
+                        self.guest.client.used(DEFLATE)[0] & 0xFFFF != deflates & 0xFFFF
+                        and time.monotonic() < self.until
+                    ):
                         time.sleep(0.001)
                     free += pages
                 time.sleep(self.chance.random() * 0.01)

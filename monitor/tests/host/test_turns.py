@@ -38,7 +38,9 @@ def short_turns(lender):
     yield
     counts = [now - then for then, now in zip(before, turns_of(lender))]
     print(f"turns by their processor time: {counts}")
-    assert sum(counts[MOST_PLACE + 1 :]) <= MOST_PART * sum(counts), f"turns by their processor time: {counts}"
+    assert sum(counts[MOST_PLACE + 1 :]) <= MOST_PART * sum(
+        counts
+    ), f"turns by their processor time: {counts}"
 
 
 def turns_of(lender):
@@ -78,7 +80,9 @@ def asks(name):
 
 def test_status_clients_at_full_speed_leave_turns_short(full):
     with short_turns(full), clients_that_ask(full, asks(b"status")) as clients:
-        assert read_lines(clients, ANSWERS, asks(b"status")) < ANSWERS / 4, "each client has a status of its own"
+        assert (
+            read_lines(clients, ANSWERS, asks(b"status")) < ANSWERS / 4
+        ), "each client has a status of its own"
 
 
 def test_logs_at_full_speed_leave_turns_short(full):
@@ -154,7 +158,9 @@ def test_who_comes_seldom_comes_first(lend):
         lender.add(it)
     for it in ("a", "c"):
         connect(lender, it).close()
-        eventually(lambda name=it: clients_of(lender)[name] == 1 and not lender.guests()[name]["here"])
+        eventually(
+            lambda name=it: clients_of(lender)[name] == 1 and not lender.guests()[name]["here"]
+        )
     with come_at_once(lender, ("a", "b", "c")):
         keepers = {it: int(status_of(process_of(lender, it))["PPid"]) for it in ("a", "b", "c")}
     assert min(keepers, key=keepers.get) == "b", keepers

@@ -14,7 +14,18 @@ LOOSE = tuple(it for it in STRICT if it != "--strict")
 FRAMES, ALL, MOST_GUESTS = 256, 128, 64
 
 # What a seat keeps of its clients: how many came, and what the host couldn't write. Times differ, and what processes count themselves.
-KEPT, DIFFER = ("clients", "limit_failures"), ("name", "socket", "process", "waits", "silent", "process_silent", "told", "kicks", "chains", "statistics")
+KEPT, DIFFER = ("clients", "limit_failures"), (
+    "name",
+    "socket",
+    "process",
+    "waits",
+    "silent",
+    "process_silent",
+    "told",
+    "kicks",
+    "chains",
+    "statistics",
+)
 
 # A period of which four, in which a guest is silent, are longer than a wait.
 SLOW = ("--period", "6000")
@@ -24,12 +35,19 @@ def shown(lender, name):
     """Returns all that a lender says of a guest, by a line and by its control socket, but for what differs or is kept."""
     line = lender.guests()[name]
     its = next(it for it in lender.status()["guests"] if it["name"] == name)
-    return {it: value for it, value in (line | its | its["counters"]).items() if it not in (*KEPT, *DIFFER, "counters")}
+    return {
+        it: value
+        for it, value in (line | its | its["counters"]).items()
+        if it not in (*KEPT, *DIFFER, "counters")
+    }
 
 
 def agree(lender):
     """Waits until the guests `a` and `new` are shown with the same."""
-    eventually(lambda: shown(lender, "a") == shown(lender, "new"), lambda: sorted(shown(lender, "a").items() ^ shown(lender, "new").items(), key=str))
+    eventually(
+        lambda: shown(lender, "a") == shown(lender, "new"),
+        lambda: sorted(shown(lender, "a").items() ^ shown(lender, "new").items(), key=str),
+    )
 
 
 def live(lender, come, strict):
@@ -138,8 +156,13 @@ def test_as_many_guests_as_there_are_seats_may_be_leaving(lend):
 @pytest.mark.parametrize("holds", (1, 0), ids=("strict", "loose"))
 def test_a_guest_of_exactly_the_budget_has_room_and_one_page_more_has_none(lend, holds):
     lender = lend(1, *(STRICT if holds else LOOSE))
-    larger = Played(lender, "larger", holds=holds, ready=0, waits=WAIT_ROOM, wait=1, wanted=FRAMES + 1)
-    eventually(lambda: f"refused larger: no room for {FRAMES + 1} pages: 1 are missing" in lender.said(), lender.said)
+    larger = Played(
+        lender, "larger", holds=holds, ready=0, waits=WAIT_ROOM, wait=1, wanted=FRAMES + 1
+    )
+    eventually(
+        lambda: f"refused larger: no room for {FRAMES + 1} pages: 1 are missing" in lender.said(),
+        lender.said,
+    )
     larger.leave()
     exact = Played(lender, "exact", holds=holds, ready=0, waits=WAIT_ROOM, wait=1, wanted=FRAMES)
     lender.become("exact", pages=FRAMES, lent=FRAMES)

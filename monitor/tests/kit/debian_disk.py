@@ -16,8 +16,20 @@ CACHE = os.path.join(ROOT, ".cache", "machine")
 
 # What is installed there: the system, what a host's package wants, and what its tests want.
 PACKAGES = (
-    "linux-image-cloud-amd64", "systemd", "systemd-sysv", "dbus", "udev", "kmod", "libjansson4", "libinih1", "libsystemd0", "libseccomp2",
-    "python3", "python3-prometheus-client", "python3-pytest", "python3-pytest-timeout",
+    "linux-image-cloud-amd64",
+    "systemd",
+    "systemd-sysv",
+    "dbus",
+    "udev",
+    "kmod",
+    "libjansson4",
+    "libinih1",
+    "libsystemd0",
+    "libseccomp2",
+    "python3",
+    "python3-prometheus-client",
+    "python3-pytest",
+    "python3-pytest-timeout",
 )
 
 # The port by which commands come, the folder of what comes with a machine on a disk of its own, and the program there that runs commands.
@@ -37,7 +49,14 @@ WantedBy=multi-user.target
 """
 
 # What a boot doesn't start: it would only take time.
-UNWANTED = ("apt-daily.timer", "apt-daily-upgrade.timer", "dpkg-db-backup.timer", "fstrim.timer", "serial-getty@ttyS0.service", "getty@tty1.service")
+UNWANTED = (
+    "apt-daily.timer",
+    "apt-daily-upgrade.timer",
+    "dpkg-db-backup.timer",
+    "fstrim.timer",
+    "serial-getty@ttyS0.service",
+    "getty@tty1.service",
+)
 
 # Bytes of the disk, most of which nothing is in; seconds in which its files are made.
 SIZE, LIMIT = 2 << 30, 3600
@@ -54,7 +73,9 @@ class Disk(NamedTuple):
 def ran(words, what):
     """Runs a command that has to succeed."""
     try:
-        made = subprocess.run(words, stdin=subprocess.DEVNULL, capture_output=True, text=True, timeout=LIMIT)
+        made = subprocess.run(
+            words, stdin=subprocess.DEVNULL, capture_output=True, text=True, timeout=LIMIT
+        )
     except subprocess.TimeoutExpired as slow:
         raise Fault(f"{what}: it hangs, after {LIMIT} s") from slow
     if made.returncode != 0:
@@ -78,7 +99,15 @@ def change(root):
 def make(folder):
     """Makes the files of a disk in a folder."""
     root = f"{folder}/root"
-    words = ["mmdebstrap", "--quiet", "--variant=minbase", f"--include={','.join(PACKAGES)}", SUITE, root, f"deb {MIRROR} {SUITE} main"]
+    words = [
+        "mmdebstrap",
+        "--quiet",
+        "--variant=minbase",
+        f"--include={','.join(PACKAGES)}",
+        SUITE,
+        root,
+        f"deb {MIRROR} {SUITE} main",
+    ]
     ran(words, "mmdebstrap")
     change(root)
     for kind in ("vmlinuz", "initrd.img"):
@@ -110,7 +139,11 @@ def disk():
     if not os.path.isdir(folder):
         part = f"{folder}.{os.getpid()}"
         os.makedirs(part)
-        print(f"making the disk of a Debian of {SUITE}, once, in some minutes", file=sys.stderr, flush=True)
+        print(
+            f"making the disk of a Debian of {SUITE}, once, in some minutes",
+            file=sys.stderr,
+            flush=True,
+        )
         try:
             make(part)
             for older in glob.glob(f"{CACHE}/{SUITE}-*"):

@@ -40,6 +40,7 @@ def demand_machine():
 
 def pack(path, files):
     """Makes the disk of what comes with a machine: files and folders, by where they are there."""
+
     def wanted(it):
         return None if it.name.endswith("__pycache__") else it
 
@@ -58,12 +59,35 @@ class Machine:
         its = disk()
         drives = [f"file={its.image},snapshot=on", f"file={folder}/files,readonly=on"]
         words = [
-            *program(), "-nodefaults", "-no-user-config", "-display", "none", "-accel", accelerator(), "-smp", str(PROCESSORS),
-            "-m", f"{MEMORY}M", "-machine", "q35", "-no-reboot", "-serial", f"file:{self.console}",
-            "-kernel", its.kernel, "-initrd", its.initramfs, "-append", WORDS,
+            *program(),
+            "-nodefaults",
+            "-no-user-config",
+            "-display",
+            "none",
+            "-accel",
+            accelerator(),
+            "-smp",
+            str(PROCESSORS),
+            "-m",
+            f"{MEMORY}M",
+            "-machine",
+            "q35",
+            "-no-reboot",
+            "-serial",
+            f"file:{self.console}",
+            "-kernel",
+            its.kernel,
+            "-initrd",
+            its.initramfs,
+            "-append",
+            WORDS,
             *(word for it in drives for word in ("-drive", f"{it},format=raw,if=virtio")),
-            "-device", "virtio-serial-pci", "-chardev", f"socket,id=commands,path={folder}/commands,server=on,wait=off",
-            "-device", f"virtserialport,chardev=commands,name={PORT}",
+            "-device",
+            "virtio-serial-pci",
+            "-chardev",
+            f"socket,id=commands,path={folder}/commands,server=on,wait=off",
+            "-device",
+            f"virtserialport,chardev=commands,name={PORT}",
         ]
         with open(f"{folder}/qemu", "wb") as log:
             self.process = subprocess.Popen(words, stdin=subprocess.DEVNULL, stdout=log, stderr=log)
@@ -95,7 +119,9 @@ class Machine:
         """Says how QEMU has ended, where it has."""
         if self.process.poll() is not None:
             with open(f"{self.folder}/qemu", encoding="utf-8", errors="replace") as log:
-                raise Fault(f"the machine has ended, at {what}: {last_line(log.read()) or self.said()}")
+                raise Fault(
+                    f"the machine has ended, at {what}: {last_line(log.read()) or self.said()}"
+                )
 
     def said(self):
         """Returns the last line on its console."""
@@ -110,7 +136,9 @@ class Machine:
             seen, end = (now, time.monotonic() + QUIET) if now != seen else (seen, end)
             self.demand_process(what)
             if time.monotonic() > end:
-                raise Fault(f"{what} hangs: nothing for {QUIET} s; the console's last line: {self.said()}")
+                raise Fault(
+                    f"{what} hangs: nothing for {QUIET} s; the console's last line: {self.said()}"
+                )
             try:
                 self.rest += self.port.recv(1 << 16)
             except TimeoutError:

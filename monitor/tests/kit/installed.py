@@ -36,6 +36,15 @@ def install(program, folder):
 def bigvasta(control, *words, limit=PATIENCE, **options):
     """Runs the client program; returns what came of it."""
     return subprocess.run(
-        ["/usr/bin/python3", "-B", "-m", "bigvasta", *words], capture_output=True, text=True, timeout=limit,
-        env={**os.environ, "PYTHONPATH": CLIENT, "BIGVASTA_CONTROL": control, "LC_ALL": "C.UTF-8", **options},
+        ["/usr/bin/python3", "-B", "-m", "bigvasta", *words],
+        capture_output=True,
+        text=True,
+        timeout=limit,
+        env={
+            **os.environ,
+            "PYTHONPATH": CLIENT,
+            "BIGVASTA_CONTROL": control,
+            "LC_ALL": "C.UTF-8",
+            **options,
+        },
     )

@@ -49,7 +49,11 @@ class Backend:
         self.lock = threading.Lock()
         with open(self.log, "wb") as log:
             self.process = subprocess.Popen(
-                [program, *words], stdin=subprocess.PIPE, stdout=subprocess.PIPE, stderr=log, pass_fds=files,
+                [program, *words],
+                stdin=subprocess.PIPE,
+                stdout=subprocess.PIPE,
+                stderr=log,
+                pass_fds=files,
                 env={**os.environ, **(environment or {})},
             )
         self.lines = Lines(self.process.stdout, "the backend")
@@ -77,7 +81,9 @@ class Backend:
                 self.process.stdin.write(part)
                 self.process.stdin.flush()
                 time.sleep(0.1)
-            return [self.lines.next(patience_from_now()) for _ in range((first + last).count(b"\n"))]
+            return [
+                self.lines.next(patience_from_now()) for _ in range((first + last).count(b"\n"))
+            ]
 
     def counters(self):
         """Returns its counters by their names."""
@@ -86,9 +92,13 @@ class Backend:
 
     def is_at_rest(self):
         """Whether it takes no processor's time while nobody wants anything of it."""
+
         def seconds():
             with open(f"/proc/{self.process.pid}/stat", encoding="ascii") as its:
-                return sum(map(int, its.read().rsplit(")", 1)[1].split()[11:13])) / os.sysconf("SC_CLK_TCK")
+                return sum(map(int, its.read().rsplit(")", 1)[1].split()[11:13])) / os.sysconf(
+                    "SC_CLK_TCK"
+                )
+
         before = seconds()
         time.sleep(0.8)
         return seconds() - before < 0.1
@@ -125,8 +135,14 @@ class Guest:
         self.log = os.path.join(folder, "guest.log")
         with open(self.log, "wb") as log:
             self.process = subprocess.Popen(
-                words, stdin=subprocess.PIPE, stdout=subprocess.PIPE, stderr=log, cwd=folder, pass_fds=files,
-                env=environment, start_new_session=True,
+                words,
+                stdin=subprocess.PIPE,
+                stdout=subprocess.PIPE,
+                stderr=log,
+                cwd=folder,
+                pass_fds=files,
+                env=environment,
+                start_new_session=True,
             )
         self.lines = Lines(self.process.stdout, "the guest")
 
@@ -149,9 +165,13 @@ class Guest:
             try:
                 said.append(self.lines.next(end))
             except Fault as fault:
-                raise Fault(f"{fault} at its boot{self.how_it_ended()}: {' / '.join([*said[-3:], *filter(None, [self.why()])])}") from None
+                raise Fault(
+                    f"{fault} at its boot{self.how_it_ended()}: {' / '.join([*said[-3:], *filter(None, [self.why()])])}"
+                ) from None
         if said[-1] != "READY":
-            raise Unbound(f"the guest boots, but its driver has no device: {said[-1].partition(' ')[2]}")
+            raise Unbound(
+                f"the guest boots, but its driver has no device: {said[-1].partition(' ')[2]}"
+            )
         if self.held is None:
             self.held = self.memory_file()
 
@@ -237,11 +257,19 @@ class Machine:
 
     def __init__(self, vmm, program, folder, shape, options=(), environment=None):
         os.makedirs(folder, exist_ok=True)
-        self.vmm, self.shape, self.memory, self.guest, self.control = vmm, shape, shape.memory, None, None
+        self.vmm, self.shape, self.memory, self.guest, self.control = (
+            vmm,
+            shape,
+            shape.memory,
+            None,
+            None,
+        )
         (word, files), (guest_word, guest_files) = vmm.connect(folder)
         try:
             words = vmm.words(folder, shape, guest_word)
-            self.backend = Backend(program, folder, [word, *options], [it.fileno() for it in files], environment)
+            self.backend = Backend(
+                program, folder, [word, *options], [it.fileno() for it in files], environment
+            )
             self.boot(words, [it.fileno() for it in guest_files], folder)
         finally:
             for it in (*files, *guest_files):

@@ -34,7 +34,10 @@ MOST_KEEP, MOST_REST = 2.5, 1.0
 
 def pairs(words):
     """Returns names and numbers by the names."""
-    return {name: int(it) if it.lstrip("-").isdecimal() else it for name, it in zip(words[0::2], words[1::2])}
+    return {
+        name: int(it) if it.lstrip("-").isdecimal() else it
+        for name, it in zip(words[0::2], words[1::2])
+    }
 
 
 class Host(Backend):
@@ -42,7 +45,9 @@ class Host(Backend):
 
     def __init__(self, program, folder, budget, options=(), environment=None):
         self.folder, self.budget = folder, budget
-        super().__init__(program, folder, [folder, "--budget", str(budget), *options], environment=environment)
+        super().__init__(
+            program, folder, [folder, "--budget", str(budget), *options], environment=environment
+        )
 
     def close(self):
         """Ends it, and all guests' service; returns its status, or None where it had to be killed."""
@@ -112,7 +117,9 @@ class Host(Backend):
         for line in self.ask_lines("log"):
             head, *shares = line.split(" | ")
             words = head.split()
-            said = pairs(words[: words.index("why")]) | dict(zip(("why", "who"), words[words.index("why") + 1 :]))
+            said = pairs(words[: words.index("why")]) | dict(
+                zip(("why", "who"), words[words.index("why") + 1 :])
+            )
             found.append((said, {it.split()[0]: pairs(it.split()[1:]) for it in shares}))
         return found
 
@@ -184,7 +191,10 @@ class Town:
     def used_mib(self, members=None):
         """Returns the MiB that all guests, or these, use now: what is neither free nor in a balloon."""
         seen = self.host.guests()
-        return sum((seen[it.name]["pages"] - seen[it.name]["ballooned"]) / PAGES_PER_MIB - it.free_mib() for it in members or self.members)
+        return sum(
+            (seen[it.name]["pages"] - seen[it.name]["ballooned"]) / PAGES_PER_MIB - it.free_mib()
+            for it in members or self.members
+        )
 
     def work(self, member, chance, ledger, end):
         """A guest's day: it fills files of random sizes, keeps them for a while, and frees them again."""
@@ -209,11 +219,27 @@ class Town:
         held = tuple(it.held_mib() for it in self.members)
         status = self.host.status()
         seen = {it["name"]: it for it in status["guests"]}
-        targets, spare, loans = (tuple(seen[it.name][name] / MIB for it in self.members) for name in ("target", "spare", "loan"))
+        targets, spare, loans = (
+            tuple(seen[it.name][name] / MIB for it in self.members)
+            for name in ("target", "spare", "loan")
+        )
         waits = tuple(seen[it.name]["waits_for"].replace("nothing", "") for it in self.members)
         silent = max((seen[it.name]["silent"] for it in self.members), default=0)
-        owes = tuple(max(seen[it.name]["target"] - seen[it.name]["ballooned"], 0) / MIB for it in self.members)
-        return Sample(time.monotonic() - self.begin, held, targets, spare, status["host"]["missing"] / MIB, loans, waits, silent, owes)
+        owes = tuple(
+            max(seen[it.name]["target"] - seen[it.name]["ballooned"], 0) / MIB
+            for it in self.members
+        )
+        return Sample(
+            time.monotonic() - self.begin,
+            held,
+            targets,
+            spare,
+            status["host"]["missing"] / MIB,
+            loans,
+            waits,
+            silent,
+            owes,
+        )
 
     def watch(self, seconds, every=None):
         """Takes samples for `seconds` seconds; calls `every` with one each second."""
@@ -230,7 +256,9 @@ class Town:
         ledger, end = Ledger(limit), time.monotonic() + seconds
         if limit is not None:
             ledger.take(self.used_mib())
-        words = [(it, random.Random(f"{seed} {it.name}"), ledger, end) for it in workers or self.members]
+        words = [
+            (it, random.Random(f"{seed} {it.name}"), ledger, end) for it in workers or self.members
+        ]
         threads = [threading.Thread(target=self.work, args=it, daemon=True) for it in words]
         for it in threads:
             it.start()

@@ -35,11 +35,24 @@ def make(folder, *names, **words):
     """Makes files of this folder of monitor's by the Makefile, one run at a time, and returns their paths."""
     need("cc", "gcc libc6-dev")
     paths = [os.path.join(folder, it) for it in names]
-    command = [need("make", "make"), "-s", f"-j{os.cpu_count()}", "-C", MONITOR, *(f"{name}={value}" for name, value in words.items()), *paths]
+    command = [
+        need("make", "make"),
+        "-s",
+        f"-j{os.cpu_count()}",
+        "-C",
+        MONITOR,
+        *(f"{name}={value}" for name, value in words.items()),
+        *paths,
+    ]
     os.makedirs(os.path.join(MONITOR, "out"), exist_ok=True)
     with open(os.path.join(MONITOR, "out", "lock"), "w", encoding="ascii") as lock:
         fcntl.flock(lock, fcntl.LOCK_EX)
-        ran = subprocess.run(command, capture_output=True, text=True, env={name: it for name, it in os.environ.items() if name != "MAKEFLAGS"})
+        ran = subprocess.run(
+            command,
+            capture_output=True,
+            text=True,
+            env={name: it for name, it in os.environ.items() if name != "MAKEFLAGS"},
+        )
     missing = [it for it in ran.stderr.splitlines() if it.startswith("monitor: ")]
     if missing:
         raise Missing(missing[0].removeprefix("monitor: "))
@@ -54,7 +67,9 @@ def core_of():
     path = os.path.abspath(os.environ.get("VB_LIB", LIBRARY))
     if not os.path.exists(path):
         where = os.path.relpath(path, ROOT)
-        raise Missing(f"{where} isn't there: rt lib in crates/vb_c makes it, VB_LIB=FILE names another, LIB=reference does without")
+        raise Missing(
+            f"{where} isn't there: rt lib in crates/vb_c makes it, VB_LIB=FILE names another, LIB=reference does without"
+        )
     return path
 
 
@@ -62,7 +77,11 @@ def build(*names):
     """Builds programs, KIND/NAME, or libvb.so over the library that decides, and returns their paths. The Makefile has each kind; a host's
     program comes with that of its guests' processes."""
     core = core_of()
-    return make("out/reference", *names) if is_reference() else make("out/library", *names, VB_LIB=core)
+    return (
+        make("out/reference", *names)
+        if is_reference()
+        else make("out/library", *names, VB_LIB=core)
+    )
 
 
 def built(name):

@@ -32,14 +32,21 @@ class Member:
         folder = self.folder()
         os.makedirs(folder, exist_ok=True)
         self.sums = {}
-        words = [*self.before, *self.vmm.words(folder, Shape(self.memory, disk=self.disk, place=self.place), self.socket)]
+        words = [
+            *self.before,
+            *self.vmm.words(
+                folder, Shape(self.memory, disk=self.disk, place=self.place), self.socket
+            ),
+        ]
         self.guest = Guest(words, self.environment(), (), folder, self.memory)
         try:
             self.guest.boot()
             if not self.host.guests()[self.name]["ready"]:
                 raise Fault("the guest has no balloon")
         except Fault as fault:
-            raise Fault(f"{self.name}: {fault}; the host said: {self.host.why_of(self.name)}") from None
+            raise Fault(
+                f"{self.name}: {fault}; the host said: {self.host.why_of(self.name)}"
+            ) from None
         self.fill("keep", KEPT)
 
     def environment(self):

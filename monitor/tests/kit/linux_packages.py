@@ -56,17 +56,27 @@ def apt_of(suite):
     files = {
         "sources.list": f"deb [signed-by={keyring()}] {MIRROR} {suite} main\n",
         "status": "",
-        "apt.conf": "".join(f'{name} "{it}";\n' for name, it in (
-            ("Dir::Etc::SourceList", f"{folder}/sources.list"), ("Dir::Etc::SourceParts", "-"), ("Dir::State::Lists", f"{folder}/lists"),
-            ("Dir::State::Status", f"{folder}/status"), ("Dir::Cache", folder), ("APT::Sandbox::User", "root"),
-            ("Acquire::http::Timeout", ANSWERS_IN), ("Acquire::Retries", 0),
-        )),
+        "apt.conf": "".join(
+            f'{name} "{it}";\n'
+            for name, it in (
+                ("Dir::Etc::SourceList", f"{folder}/sources.list"),
+                ("Dir::Etc::SourceParts", "-"),
+                ("Dir::State::Lists", f"{folder}/lists"),
+                ("Dir::State::Status", f"{folder}/status"),
+                ("Dir::Cache", folder),
+                ("APT::Sandbox::User", "root"),
+                ("Acquire::http::Timeout", ANSWERS_IN),
+                ("Acquire::Retries", 0),
+            )
+        ),
     }
     for name, text in files.items():
         with open(os.path.join(folder, name), "w", encoding="utf-8") as file:
             file.write(text)
     environment = {**os.environ, "APT_CONFIG": f"{folder}/apt.conf"}
-    ran = subprocess.run(["apt-get", "update", "--error-on=any"], capture_output=True, text=True, env=environment)
+    ran = subprocess.run(
+        ["apt-get", "update", "--error-on=any"], capture_output=True, text=True, env=environment
+    )
     if ran.returncode != 0:
         raise Missing(f"apt-get finds no packages of {suite}: {last_line(ran.stderr)}")
     return environment
@@ -86,10 +96,18 @@ def fetch(name, packages, suite=None):
     try:
         environment = apt_of(suite)
         wanted = packages(environment)
-        ran = subprocess.run(["apt-get", "download", *wanted], cwd=part, capture_output=True, text=True, env=environment)
+        ran = subprocess.run(
+            ["apt-get", "download", *wanted],
+            cwd=part,
+            capture_output=True,
+            text=True,
+            env=environment,
+        )
         archives = glob.glob(os.path.join(part, "*.deb"))
         if ran.returncode != 0 or len(archives) < len(wanted):
-            raise Missing(f"apt-get download {wanted[0]} ..: {last_line(ran.stderr)}: apt-get update, on Debian for amd64")
+            raise Missing(
+                f"apt-get download {wanted[0]} ..: {last_line(ran.stderr)}: apt-get update, on Debian for amd64"
+            )
         for archive in archives:
             subprocess.run(["dpkg-deb", "-x", archive, part], check=True)
             os.remove(archive)
@@ -114,12 +132,17 @@ def one_of(root, *names):
 
 def fetch_uml(suite=None):
     """Returns a folder with User Mode Linux and a busybox for its guest; one of another Debian has its C library, too."""
-    return fetch("uml", lambda _: ["user-mode-linux", "busybox-static", *(["libc6"] if suite else [])], suite)
+    return fetch(
+        "uml", lambda _: ["user-mode-linux", "busybox-static", *(["libc6"] if suite else [])], suite
+    )
 
 
 def libc_of(root):
     """Returns the loader and the C library among these packages."""
-    return [one_of(root, *(f"{it}lib/x86_64-linux-gnu/{name}" for it in ("", "usr/"))) for name in ("ld-linux-x86-64.so.2", "libc.so.6")]
+    return [
+        one_of(root, *(f"{it}lib/x86_64-linux-gnu/{name}" for it in ("", "usr/")))
+        for name in ("ld-linux-x86-64.so.2", "libc.so.6")
+    ]
 
 
 def busybox_of(root):
@@ -133,7 +156,9 @@ def kernel_packages(environment):
     said = subprocess.run(words, capture_output=True, text=True, env=environment).stdout
     kernel = sorted(set(re.findall(r"(?m)^linux-(?:image|binary|modules)-\d\S*", said)))
     if not kernel:
-        raise Missing("apt-cache knows no linux-image-cloud-amd64, whose kernel a guest of QEMU boots: apt-get update, on amd64")
+        raise Missing(
+            "apt-cache knows no linux-image-cloud-amd64, whose kernel a guest of QEMU boots: apt-get update, on amd64"
+        )
     return [*kernel, "busybox-static"]
 
 
@@ -148,7 +173,9 @@ def wanted_by(package, environment):
     ran = subprocess.run(words, capture_output=True, text=True, env=environment)
     packages = [it.split()[1] for it in ran.stdout.splitlines() if it.startswith("Inst ")]
     if not packages:
-        raise Missing(f"apt-get finds no {package} to fetch: {last_line(ran.stderr) or 'on Debian for amd64'}")
+        raise Missing(
+            f"apt-get finds no {package} to fetch: {last_line(ran.stderr) or 'on Debian for amd64'}"
+        )
     return packages
 
 
@@ -161,5 +188,9 @@ def rust_vmm_crates():
     """Returns a folder with the sources of rust-vmm's crates for vhost-user, and of all that they are made of: the machine's, or Debian 13's."""
     if glob.glob(f"/{CRATES}/vhost-user-backend-[0-9]*"):
         return f"/{CRATES}"
-    crates = lambda environment: [it for it in wanted_by("librust-vhost-user-backend-dev", environment) if it.startswith("librust-")]
+    crates = lambda environment: [
+        it
+        for it in wanted_by("librust-vhost-user-backend-dev", environment)
+        if it.startswith("librust-")
+    ]
     return os.path.join(fetch("rust-vmm", crates, "trixie"), CRATES)

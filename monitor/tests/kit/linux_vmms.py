@@ -11,7 +11,18 @@ import sys
 from typing import NamedTuple
 
 from linux_initramfs import make_initramfs
-from linux_packages import Fault, Missing, busybox_of, fetch_kernel, fetch_qemu, fetch_uml, last_line, libc_of, need, one_of
+from linux_packages import (
+    Fault,
+    Missing,
+    busybox_of,
+    fetch_kernel,
+    fetch_qemu,
+    fetch_uml,
+    last_line,
+    libc_of,
+    need,
+    one_of,
+)
 from qmp import Qmp
 
 # A guest's command line, whatever it runs under.
@@ -56,7 +67,9 @@ def demand_shared_room(memory):
     room = os.statvfs("/dev/shm")
     free = room.f_bavail * room.f_frsize >> 20
     if free < memory:
-        raise Missing(f"/dev/shm has {free} MiB free, and {memory} are wanted for guests: mount -o remount,size={memory + 64}M /dev/shm")
+        raise Missing(
+            f"/dev/shm has {free} MiB free, and {memory} are wanted for guests: mount -o remount,size={memory + 64}M /dev/shm"
+        )
 
 
 def takes_any_kernel():
@@ -74,8 +87,14 @@ def has_more_registers():
 
 def build_more_registers(folder):
     """Compiles what lets User Mode Linux leave such registers as they are; returns its path."""
-    path, source = os.path.join(folder, "more_registers.so"), os.path.join(os.path.dirname(__file__), "more_registers.c")
-    ran = subprocess.run([need("cc", "gcc libc6-dev"), "-O2", "-shared", "-fPIC", "-o", path, source], capture_output=True, text=True)
+    path, source = os.path.join(folder, "more_registers.so"), os.path.join(
+        os.path.dirname(__file__), "more_registers.c"
+    )
+    ran = subprocess.run(
+        [need("cc", "gcc libc6-dev"), "-O2", "-shared", "-fPIC", "-o", path, source],
+        capture_output=True,
+        text=True,
+    )
     if ran.returncode != 0:
         raise Fault(f"{source} doesn't build: {last_line(ran.stderr)}")
     return path
@@ -111,9 +130,13 @@ class Uml(OverSocket):
     reboots_anew = True
 
     def __init__(self, folder, suite=None):
-        self.root, with_libc = fetch_uml(suite), os.path.join(os.path.dirname(__file__), "linux_with_libc.py")
+        self.root, with_libc = fetch_uml(suite), os.path.join(
+            os.path.dirname(__file__), "linux_with_libc.py"
+        )
         kernel = os.path.join(self.root, "usr/bin/linux.uml")
-        self.program = [sys.executable, with_libc, *libc_of(self.root), kernel] if suite else [kernel]
+        self.program = (
+            [sys.executable, with_libc, *libc_of(self.root), kernel] if suite else [kernel]
+        )
         module = one_of(self.root, "usr/lib/uml/modules/*/kernel/drivers/virtio/virtio_balloon.ko")
         self.initramfs = make_initramfs(folder, busybox_of(self.root), [module])
         version = tuple(map(int, re.search(r"/modules/(\d+)\.(\d+)", module).groups()))
@@ -129,12 +152,22 @@ class Uml(OverSocket):
         self.demand_room(shape.memory)
         own = ("quiet", "con=null", "con0=fd:0,fd:1", f"uml_dir={folder}/uml")
         disk = (f"ubd0r={shape.disk}",) if shape.disk else ()
-        return [*self.program, f"mem={shape.memory}M", f"initrd={self.initramfs}", *own, f"virtio_uml.device={path}:5", *disk,
-                *KERNEL_WORDS, *shape.kernel_words]
+        return [
+            *self.program,
+            f"mem={shape.memory}M",
+            f"initrd={self.initramfs}",
+            *own,
+            f"virtio_uml.device={path}:5",
+            *disk,
+            *KERNEL_WORDS,
+            *shape.kernel_words,
+        ]
 
     def environment(self):
         """Returns the guest's environment: its memory is in /dev/shm, but where one of these names another folder."""
-        return {name: it for name, it in os.environ.items() if name not in ("TMPDIR", "TMP", "TEMP")} | self.preloaded
+        return {
+            name: it for name, it in os.environ.items() if name not in ("TMPDIR", "TMP", "TEMP")
+        } | self.preloaded
 
     def control(self, _):
         """Nobody tells it to act."""
@@ -157,13 +190,18 @@ def can_create(program, device):
         raise Missing(f"{program[0]}: {last_line(said.stderr)}")
     if not said.stdout.startswith(f"{device} options"):
         return False
-    tried = subprocess.run([*program, "-machine", "none", "-nodefaults", "-display", "none", "-device", device], capture_output=True, text=True)
+    tried = subprocess.run(
+        [*program, "-machine", "none", "-nodefaults", "-display", "none", "-device", device],
+        capture_output=True,
+        text=True,
+    )
     return "pluggable device type" not in tried.stderr
 
 
 class Emulator:
     """QEMU, and a machine whose device isn't said. A class of it says which devices do (`devices`), whose QEMU is fetched where the
-    one that is installed has none of them (`debian`), and what its kernel is told besides (`kernel_words`)."""
+    one that is installed has none of them (`debian`), and what its kernel is told besides (`kernel_words`).
+    """
 
     patience, most_guests = EMULATED, MOST_EMULATED
 
@@ -172,7 +210,12 @@ class Emulator:
         files = fetch_kernel(suite)
         self.kernel = one_of(files, "boot/vmlinuz-*", "usr/lib/modules/*/vmlinuz")
         names = ("virtio/virtio*", "block/virtio_blk")
-        modules = [it for top in ("", "usr/") for name in names for it in glob.glob(f"{files}/{top}lib/modules/*/kernel/drivers/{name}.ko*")]
+        modules = [
+            it
+            for top in ("", "usr/")
+            for name in names
+            for it in glob.glob(f"{files}/{top}lib/modules/*/kernel/drivers/{name}.ko*")
+        ]
         self.initramfs = make_initramfs(folder, busybox_of(files), modules)
 
     def find(self):
@@ -197,15 +240,38 @@ class Emulator:
     def machine(self, shape):
         """Returns the guest's command but for the device."""
         slots = f",slots=1,maxmem={shape.memory + shape.pluggable}M" if shape.pluggable else ""
-        memory = f"memory-backend-file,mem-path={shape.place}" if shape.place else "memory-backend-memfd"
-        of_disk = ("-drive", f"if=virtio,file={shape.disk},format=raw,read-only=on") if shape.disk else ()
+        memory = (
+            f"memory-backend-file,mem-path={shape.place}" if shape.place else "memory-backend-memfd"
+        )
+        of_disk = (
+            ("-drive", f"if=virtio,file={shape.disk},format=raw,read-only=on") if shape.disk else ()
+        )
         return [
-            *self.program, "-nodefaults", "-no-user-config", "-display", "none",
-            "-accel", self.accelerator(), "-smp", str(shape.processors), "-no-reboot", "-serial", "stdio",
-            "-m", f"{shape.memory}M{slots}",
-            "-object", f"{memory},id=memory,size={shape.memory}M,share=on", "-machine", "q35,memory-backend=memory",
-            "-kernel", self.kernel, "-initrd", self.initramfs, *of_disk,
-            "-append", " ".join((*self.kernel_words, *KERNEL_WORDS, *shape.kernel_words)),
+            *self.program,
+            "-nodefaults",
+            "-no-user-config",
+            "-display",
+            "none",
+            "-accel",
+            self.accelerator(),
+            "-smp",
+            str(shape.processors),
+            "-no-reboot",
+            "-serial",
+            "stdio",
+            "-m",
+            f"{shape.memory}M{slots}",
+            "-object",
+            f"{memory},id=memory,size={shape.memory}M,share=on",
+            "-machine",
+            "q35,memory-backend=memory",
+            "-kernel",
+            self.kernel,
+            "-initrd",
+            self.initramfs,
+            *of_disk,
+            "-append",
+            " ".join((*self.kernel_words, *KERNEL_WORDS, *shape.kernel_words)),
         ]
 
     def environment(self):
@@ -217,9 +283,17 @@ def fetched_qemu(debian):
     """Returns the words that begin a command of a fetched QEMU: its own loader, libraries, modules and files of its machine."""
     root = fetch_qemu(debian)
     libraries = [os.path.join(root, it, "x86_64-linux-gnu") for it in ("usr/lib", "lib")]
-    files = [it for name in ("qemu", "seabios") for it in ("-L", os.path.join(root, "usr/share", name))]
+    files = [
+        it for name in ("qemu", "seabios") for it in ("-L", os.path.join(root, "usr/share", name))
+    ]
     loader = [libc_of(root)[0], "--library-path", ":".join(libraries)]
-    return ["env", f"QEMU_MODULE_DIR={libraries[0]}/qemu", *loader, os.path.join(root, "usr/bin/qemu-system-x86_64"), *files]
+    return [
+        "env",
+        f"QEMU_MODULE_DIR={libraries[0]}/qemu",
+        *loader,
+        os.path.join(root, "usr/bin/qemu-system-x86_64"),
+        *files,
+    ]
 
 
 class Qemu(OverSocket, Emulator):
@@ -240,14 +314,30 @@ class Qemu(OverSocket, Emulator):
     def device_words(self, shape):
         """Returns the device by its names, as QEMU's command line and its control socket have them."""
         queues = {"num_vqs": shape.queues, "vq_size": shape.queue_size}
-        return {"driver": self.device, "id": "balloon", "bus": "port1", "chardev": "device", **self.OF_BALLOON, **queues}
+        return {
+            "driver": self.device,
+            "id": "balloon",
+            "bus": "port1",
+            "chardev": "device",
+            **self.OF_BALLOON,
+            **queues,
+        }
 
     def words(self, folder, shape, path):
         """Returns the guest's command; the device is in a slot from which it can be unplugged."""
-        device = ",".join(f"{name}={it}" for name, it in self.device_words(shape).items()).removeprefix("driver=")
+        device = ",".join(
+            f"{name}={it}" for name, it in self.device_words(shape).items()
+        ).removeprefix("driver=")
         return [
-            *self.machine(shape), "-chardev", f"socket,id=device,path={path}", "-device", "pcie-root-port,id=port1,chassis=1,slot=1",
-            "-device", device, "-qmp", f"unix:{folder}/qmp,server=on,wait=off",
+            *self.machine(shape),
+            "-chardev",
+            f"socket,id=device,path={path}",
+            "-device",
+            "pcie-root-port,id=port1,chassis=1,slot=1",
+            "-device",
+            device,
+            "-qmp",
+            f"unix:{folder}/qmp,server=on,wait=off",
         ]
 
     def control(self, folder):
@@ -281,7 +371,9 @@ class QemuProxy(Emulator):
         said = subprocess.run([*found, "--version"], capture_output=True, text=True).stdout
         version = re.search(r"version (\d+)\.[\d.]+", said)
         if version and int(version[1]) > LAST_PROXY:
-            raise Missing(f"{found[0]} is of {version[0]}, whose {device} ends by a signal: QEMU 7 to {LAST_PROXY} is wanted, or --vmm qemu")
+            raise Missing(
+                f"{found[0]} is of {version[0]}, whose {device} ends by a signal: QEMU 7 to {LAST_PROXY} is wanted, or --vmm qemu"
+            )
         return found, device
 
     def accelerator(self):

@@ -30,7 +30,11 @@ def leave_mounts():
     if user == 0 and LIBC.unshare(NEW_MOUNTS) == 0:
         return
     demand(LIBC.unshare(NEW_USER | NEW_MOUNTS), "name spaces")
-    for name, text in (("setgroups", "deny"), ("uid_map", f"{user} {user} 1"), ("gid_map", f"{group} {group} 1")):
+    for name, text in (
+        ("setgroups", "deny"),
+        ("uid_map", f"{user} {user} 1"),
+        ("gid_map", f"{group} {group} 1"),
+    ):
         with open(f"/proc/self/{name}", "w", encoding="ascii") as file:
             file.write(text)
 
@@ -52,4 +56,6 @@ if __name__ == "__main__":
     try:
         main(*sys.argv[1:])
     except OSError as fault:
-        sys.exit(f"a kernel of another Debian wants mounts of its own: {fault.filename}: {fault.strerror}")
+        sys.exit(
+            f"a kernel of another Debian wants mounts of its own: {fault.filename}: {fault.strerror}"
+        )

@@ -1,6 +1,7 @@
-/* Has User Mode Linux before 6.13 run on a processor with more registers than it has room for (AMX): the kernel takes all of a process's registers or
- * none, and User Mode Linux, which sets those that it knows, would end by a panic as it boots. Preloaded (LD_PRELOAD), it sets these, and leaves the
- * others as they are. */
+/* Has User Mode Linux before 6.13 run on a processor with more registers than it has room for
+ * (AMX): the kernel takes all of a process's registers or none, and User Mode Linux, which sets
+ * those that it knows, would end by a panic as it boots. Preloaded (LD_PRELOAD), it sets these, and
+ * leaves the others as they are. */
 #define _GNU_SOURCE
 #include <elf.h>
 #include <stdarg.h>
@@ -37,7 +38,8 @@ long ptrace(enum __ptrace_request request, ...)
     if (request == PTRACE_SETREGSET && address == (void *)NT_X86_XSTATE)
         return set_first(process, address, data);
     long word = 0;
-    bool peeks = request == PTRACE_PEEKTEXT || request == PTRACE_PEEKDATA || request == PTRACE_PEEKUSER;
+    bool peeks =
+        request == PTRACE_PEEKTEXT || request == PTRACE_PEEKDATA || request == PTRACE_PEEKUSER;
     long answer = syscall(SYS_ptrace, request, process, address, peeks ? &word : data);
     return peeks && answer == 0 ? word : answer;
 }

@@ -12,10 +12,28 @@ from waiting import PATIENCE
 PAGE = 4096
 PAGES = 64
 
-SYNC_MEMORY, RETURN, CONFIGURATION_WRITE, CONFIGURATION_READ, BAR_WRITE, BAR_READ, SET_INTERRUPT, DEVICE_RESET = range(8)
+(
+    SYNC_MEMORY,
+    RETURN,
+    CONFIGURATION_WRITE,
+    CONFIGURATION_READ,
+    BAR_WRITE,
+    BAR_READ,
+    SET_INTERRUPT,
+    DEVICE_RESET,
+) = range(8)
 
 # Offsets of the registers (VIRTIO 1.1, 4.1.4.3).
-OFFER_SELECT, OFFERED, ACCEPT_SELECT, ACCEPTED, MSIX, QUEUES, STATUS, GENERATION = 0, 4, 8, 12, 16, 18, 20, 21
+OFFER_SELECT, OFFERED, ACCEPT_SELECT, ACCEPTED, MSIX, QUEUES, STATUS, GENERATION = (
+    0,
+    4,
+    8,
+    12,
+    16,
+    18,
+    20,
+    21,
+)
 SELECT, SIZE, QUEUE_MSIX, ENABLE, NOTIFY_OFF, PLACE = 22, 24, 26, 28, 30, 32
 NOTIFY, ISR, DEVICE = 0x1000, 0x2000, 0x3000
 
@@ -30,7 +48,12 @@ class Client:
         self.folder = tempfile.TemporaryDirectory(prefix="test-pci-proxy-")
         self.socket, theirs = socket.socketpair()
         self.socket.settimeout(PATIENCE)
-        self.backend = linux_guest.Backend(program, self.folder.name, [str(theirs.fileno()), "--strict", *options], [theirs.fileno()])
+        self.backend = linux_guest.Backend(
+            program,
+            self.folder.name,
+            [str(theirs.fileno()), "--strict", *options],
+            [theirs.fileno()],
+        )
         theirs.close()
         self.memory, self.interrupt = os.memfd_create("memory"), os.eventfd(0, os.EFD_NONBLOCK)
         os.write(self.memory, bytes(16 * PAGE) + b"\xff" * (PAGES - 16) * PAGE)
@@ -100,7 +123,9 @@ class Client:
         for status in (0, 1, 3):
             self.write(STATUS, status)
         for half in (0, 1):
-            self.write(ACCEPT_SELECT, half), self.write(ACCEPTED, features >> 32 * half & 0xFFFFFFFF)
+            self.write(ACCEPT_SELECT, half), self.write(
+                ACCEPTED, features >> 32 * half & 0xFFFFFFFF
+            )
         self.write(STATUS, 11)
 
     def start(self):

@@ -25,7 +25,10 @@ def library(shared):
 
 def words_of(*words, path=CLIENT):
     """Returns the command, and its environment."""
-    return ["/usr/bin/python3", "-B", "-m", "bigvasta", "plan", *words], {**os.environ, "PYTHONPATH": path}
+    return ["/usr/bin/python3", "-B", "-m", "bigvasta", "plan", *words], {
+        **os.environ,
+        "PYTHONPATH": path,
+    }
 
 
 def run(*words, status=0, path=CLIENT, limit=PATIENCE):

@@ -21,7 +21,9 @@ def collector_of(control):
     try:
         from bigvasta.collector import Collector
     except ImportError:
-        raise linux_kit.Missing("metrics want a library: apt-get install python3-prometheus-client") from None
+        raise linux_kit.Missing(
+            "metrics want a library: apt-get install python3-prometheus-client"
+        ) from None
     return Collector(control)
 
 
@@ -39,8 +41,15 @@ class Recorder(threading.Thread):
 
     def look(self):
         """Notes the metrics of now."""
-        samples = [it for family in self.collector.collect() for it in family.samples if it.name in KNOWN]
-        self.looks.append((time.time(), {(it.name, it.labels.get("guest", "")): text_of(it.value) for it in samples}))
+        samples = [
+            it for family in self.collector.collect() for it in family.samples if it.name in KNOWN
+        ]
+        self.looks.append(
+            (
+                time.time(),
+                {(it.name, it.labels.get("guest", "")): text_of(it.value) for it in samples},
+            )
+        )
 
     def run(self):
         """Looks once in a while."""
@@ -74,7 +83,14 @@ class Recorder(threading.Thread):
             for key, text in values.items():
                 series.setdefault(key, []).append([at, text])
         result = [
-            {"metric": {"__name__": name, "instance": "localhost:9750", **({"guest": guest} if guest else {})}, "values": values}
+            {
+                "metric": {
+                    "__name__": name,
+                    "instance": "localhost:9750",
+                    **({"guest": guest} if guest else {}),
+                },
+                "values": values,
+            }
             for (name, guest), values in series.items()
         ]
         return {"status": "success", "data": {"resultType": "matrix", "result": result}}

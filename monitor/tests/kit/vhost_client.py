@@ -21,7 +21,13 @@ REGIONS = ((0x100000, 0x7F0000000000), (0x180000, 0x7F1000000000))
 GET_FEATURES, SET_FEATURES, SET_OWNER, RESET_OWNER, SET_MEM_TABLE = 1, 2, 3, 4, 5
 SET_VRING_NUM, SET_VRING_ADDR, SET_VRING_BASE, GET_VRING_BASE = 8, 9, 10, 11
 SET_VRING_KICK, SET_VRING_CALL, SET_VRING_ERR = 12, 13, 14
-GET_PROTOCOL_FEATURES, SET_PROTOCOL_FEATURES, GET_QUEUE_NUM, SET_VRING_ENABLE, SET_BACKEND_REQ_FD = 15, 16, 17, 18, 21
+(
+    GET_PROTOCOL_FEATURES,
+    SET_PROTOCOL_FEATURES,
+    GET_QUEUE_NUM,
+    SET_VRING_ENABLE,
+    SET_BACKEND_REQ_FD,
+) = (15, 16, 17, 18, 21)
 GET_CONFIG, SET_CONFIG, RESET_DEVICE, VRING_KICK = 24, 25, 34, 35
 GET_MAX_MEM_SLOTS, ADD_MEM_REG, REM_MEM_REG, SET_STATUS, GET_STATUS = 36, 37, 38, 39, 40
 CONFIG_CHANGED, VRING_CALL = 2, 4
@@ -43,7 +49,18 @@ SIZE = 8
 BUFFERS = REGIONS[0][0] + 16 * PAGE
 
 # Words that are no decimal number, nor one of 64 bits: what C's strtoul would take is among them.
-NO_NUMBERS = ("", "x", " 5", "+5", "-1", "5 ", "5x", "0x5", "-18446744073709551615", "18446744073709551621")
+NO_NUMBERS = (
+    "",
+    "x",
+    " 5",
+    "+5",
+    "-1",
+    "5 ",
+    "5x",
+    "0x5",
+    "-18446744073709551615",
+    "18446744073709551621",
+)
 
 # What may be in front of a line so that nothing of it is obeyed: more bytes than a line may have, or a byte 0.
 NO_LINES = (*("x" * it for it in (127, 128, 254, 255, 256, 257, 511, 512, 513)), "\0", "x\0")
@@ -149,7 +166,14 @@ class Client:
 
     def region_body(self, region):
         """Returns the body of a message that adds a region, or takes it away."""
-        return struct.pack("<QQQQQ", 0, self.regions[region][0], self.pages_of_region * PAGE, self.regions[region][1], self.offset)
+        return struct.pack(
+            "<QQQQQ",
+            0,
+            self.regions[region][0],
+            self.pages_of_region * PAGE,
+            self.regions[region][1],
+            self.offset,
+        )
 
     def add_memory(self):
         """Tells the backend of the memory, region by region."""
@@ -161,7 +185,9 @@ class Client:
         user = self.regions[self.region][1] + 3 * number * PAGE + shift
         self.accepted(SET_VRING_NUM, struct.pack("<II", number, size))
         self.accepted(SET_VRING_BASE, struct.pack("<II", number, base))
-        self.accepted(SET_VRING_ADDR, struct.pack("<IIQQQQ", number, 0, user, user + 2 * PAGE, user + PAGE, 0))
+        self.accepted(
+            SET_VRING_ADDR, struct.pack("<IIQQQQ", number, 0, user, user + 2 * PAGE, user + PAGE, 0)
+        )
 
     def clear(self, number):
         """Clears the rings of a queue."""
@@ -190,11 +216,17 @@ class Client:
         if self.begun:
             self.own.close(), self.theirs.close()
             self.own, self.theirs = socket.socketpair()
-        says = (lambda *it: self.accepted(*it)) if protocol & REPLY_ACK else (lambda *it: self.send(*it, flags=1))
+        says = (
+            (lambda *it: self.accepted(*it))
+            if protocol & REPLY_ACK
+            else (lambda *it: self.send(*it, flags=1))
+        )
         if protocol & BY_MESSAGES:
             self.send(SET_OWNER, flags=1)
         self.offered(GET_FEATURES, HAS_PROTOCOL)
-        says(SET_PROTOCOL_FEATURES, struct.pack("<Q", self.offered(GET_PROTOCOL_FEATURES, protocol)))
+        says(
+            SET_PROTOCOL_FEATURES, struct.pack("<Q", self.offered(GET_PROTOCOL_FEATURES, protocol))
+        )
         says(SET_BACKEND_REQ_FD, b"", [self.theirs.fileno()])
         if not protocol & BY_MESSAGES:
             says(SET_OWNER)
@@ -204,7 +236,9 @@ class Client:
         """Does what comes before memory; a session begins once a connection."""
         if not self.begun:
             self.begin(protocol)
-        self.accepted(SET_FEATURES, struct.pack("<Q", self.offered(GET_FEATURES, features | HAS_PROTOCOL)))
+        self.accepted(
+            SET_FEATURES, struct.pack("<Q", self.offered(GET_FEATURES, features | HAS_PROTOCOL))
+        )
 
     def start(self, features=FEATURES, queues=4, size=SIZE):
         """Does what virtio_uml and its driver do until the device is ready."""
@@ -244,7 +278,9 @@ class Client:
 
     def stop_ring(self, number):
         """Stops a ring; returns where it goes on."""
-        answered, base = struct.unpack("<II", self.send(GET_VRING_BASE, struct.pack("<II", number, 0)))
+        answered, base = struct.unpack(
+            "<II", self.send(GET_VRING_BASE, struct.pack("<II", number, 0))
+        )
         if answered != number:
             raise AssertionError(f"queue {number} is asked for, and {answered} is answered")
         return base
@@ -255,7 +291,9 @@ class Client:
 
     def describe(self, number, head, address, length, flags=0, follows=0):
         """Writes a descriptor."""
-        self.write(self.table(number) + 16 * head, struct.pack("<QIHH", address, length, flags, follows))
+        self.write(
+            self.table(number) + 16 * head, struct.pack("<QIHH", address, length, flags, follows)
+        )
 
     def publish(self, number, head, by=1):
         """Makes a chain available."""
@@ -288,7 +326,9 @@ class Client:
     def used(self, number):
         """Returns the used index, and the entries that are there."""
         at, index = self.table(number) + 2 * PAGE, self.used_index(number)
-        return index, [struct.unpack("<II", self.read(at + 4 + 8 * (it % SIZE), 8)) for it in range(index)]
+        return index, [
+            struct.unpack("<II", self.read(at + 4 + 8 * (it % SIZE), 8)) for it in range(index)
+        ]
 
     def told(self, limit=PATIENCE):
         """Returns the next thing that the backend tells: a queue's number, or None for the configuration."""
@@ -305,4 +345,8 @@ class Client:
 
     def said(self, number, limit=PATIENCE):
         """Returns the next bytes of a pipe by which a queue is called; none where nothing comes in time."""
-        return os.read(self.calls[number], 8) if select.select([self.calls[number]], [], [], limit)[0] else b""
+        return (
+            os.read(self.calls[number], 8)
+            if select.select([self.calls[number]], [], [], limit)[0]
+            else b""
+        )

@@ -11,13 +11,20 @@ import linux_guest
 from vhost_client import BUFFERS, PAGE, PAGES_OF_REGION, REGIONS, SIZE, VRING_KICK, Client
 from waiting import PATIENCE, patience_from_now
 
+
 class Served(Client):
     """A client with a backend of its own."""
 
     def __init__(self, program, *options, environment=None):
-        self.folder, self.lines, self.program = tempfile.TemporaryDirectory(prefix="test-vhost-user-"), [], program
+        self.folder, self.lines, self.program = (
+            tempfile.TemporaryDirectory(prefix="test-vhost-user-"),
+            [],
+            program,
+        )
         self.path = os.path.join(self.folder.name, "socket")
-        self.backend = linux_guest.Backend(program, self.folder.name, [self.path, *options], environment=environment)
+        self.backend = linux_guest.Backend(
+            program, self.folder.name, [self.path, *options], environment=environment
+        )
         super().__init__(self.path, self.backend.why)
 
     def restart(self, *options, killed=False):
@@ -72,7 +79,10 @@ class Served(Client):
     def are_used(self, numbers, count):
         """Waits until `count` chains of each queue are used: whether they are, in time."""
         end = patience_from_now()
-        while any(self.read(self.table(it) + 2 * PAGE + 2, 2) != struct.pack("<H", count) for it in numbers):
+        while any(
+            self.read(self.table(it) + 2 * PAGE + 2, 2) != struct.pack("<H", count)
+            for it in numbers
+        ):
             if time.monotonic() > end:
                 return False
             time.sleep(0.01)
@@ -82,7 +92,9 @@ class Served(Client):
         """Makes whole queues of `count` chains available, and kicks each once, all at a time: whether all are served, in time."""
         for it in numbers:
             self.describe_all(it, count)
-        self.socket.sendall(b"".join(struct.pack("<IIIII", VRING_KICK, 1, 8, it, 0) for it in numbers))
+        self.socket.sendall(
+            b"".join(struct.pack("<IIIII", VRING_KICK, 1, 8, it, 0) for it in numbers)
+        )
         return self.are_used(numbers, count)
 
     def served_by_a_kick(self, number, seconds):
@@ -91,7 +103,9 @@ class Served(Client):
         self.describe_all(number, SIZE)
         at = self.table(number) - REGIONS[self.region][0]
         used, available = (at + 2 * PAGE + 2) // 2, (at + PAGE + 2) // 2
-        with mmap.mmap(self.files[self.region], PAGES_OF_REGION * PAGE) as memory, memoryview(memory).cast("H") as words:
+        with mmap.mmap(self.files[self.region], PAGES_OF_REGION * PAGE) as memory, memoryview(
+            memory
+        ).cast("H") as words:
             first = words[used]
             words[available] = (first + SIZE) & 0xFFFF
             publisher = os.fork()

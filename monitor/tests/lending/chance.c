@@ -55,8 +55,8 @@ static uint32_t any_pages(enum kind kind, const VbLoan *loan)
     }
 }
 
-/* In the balloon of a guest that has this many pages from now on: as few as may be, as many as there are pages, or any; and one less or
- * one more. */
+/* In the balloon of a guest that has this many pages from now on: as few as may be, as many as
+ * there are pages, or any; and one less or one more. */
 static uint32_t any_ballooned(uint32_t pages, const VbLoan *loan)
 {
     uint32_t least = pages > loan->lent ? pages - loan->lent : 0;
@@ -87,7 +87,7 @@ static uint32_t any_frames(const struct day *day)
 /* What may well happen next to a guest with this loan, so that events fit. */
 static enum kind likely_kind(const VbLoan *loan)
 {
-    static const enum kind heard[] = { GIVE, ASK, ASK, ASK, ASK, RESET, GROW };
+    static const enum kind heard[] = {GIVE, ASK, ASK, ASK, ASK, RESET, GROW};
     if (loan->pages == 0)
         return ARRIVE;
     if (loan->asked != 0)
@@ -99,20 +99,25 @@ static enum kind likely_kind(const VbLoan *loan)
 
 static enum kind any_kind(void)
 {
-    static const enum kind often[] = { ARRIVE, LEAVE, GIVE, GIVE, ASK, ASK, RESET, TAKE, TAKE, UNCOUNT, RECOUNT, FIGURE, KEEP, WITHDRAW,
-                                       SHRINK, GROW, GRANT, GRANT, BUDGET };
+    static const enum kind often[] = {ARRIVE, LEAVE, GIVE,    GIVE,    ASK,    ASK,  RESET,
+                                      TAKE,   TAKE,  UNCOUNT, RECOUNT, FIGURE, KEEP, WITHDRAW,
+                                      SHRINK, GROW,  GRANT,   GRANT,   BUDGET};
     return often[chance(sizeof often / sizeof *often)];
 }
 
 struct event any_event(const struct day *day)
 {
-    size_t guest = chance(20) ? chance((uint32_t)day->count + 1) : chance(50) ? day->count : (size_t)any();
+    size_t guest = chance(20)   ? chance((uint32_t)day->count + 1)
+                   : chance(50) ? day->count
+                                : (size_t)any();
     bool likely = guest < day->count && chance(3) != 0;
-    struct event event = { .kind = likely ? likely_kind(&day->loans[guest]) : any_kind(), .guest = guest };
+    struct event event = {.kind = likely ? likely_kind(&day->loans[guest]) : any_kind(),
+                          .guest = guest};
     if (event.kind == ARRIVE || event.kind == RESET || event.kind == GROW)
         event.line = chance(2) ? 0 : chance(4) ? 1 : (uint16_t)any();
     if (event.kind == ARRIVE || event.kind == GROW) {
-        event.pages = more_pages(event.kind == GROW && guest < day->count ? day->loans[guest].pages : 0);
+        event.pages =
+            more_pages(event.kind == GROW && guest < day->count ? day->loans[guest].pages : 0);
     } else if (event.kind == BUDGET) {
         event.pages = any_frames(day);
     } else if (guest < day->count) {
@@ -131,7 +136,14 @@ static uint32_t odd_number(void)
 
 static VbLoan odd_loan(void)
 {
-    VbLoan loan = { odd_number(), odd_number(), odd_number(), chance(2) ? odd_number() : 0, chance(5), odd_number(), 0, 0 };
+    VbLoan loan = {odd_number(),
+                   odd_number(),
+                   odd_number(),
+                   chance(2) ? odd_number() : 0,
+                   chance(5),
+                   odd_number(),
+                   0,
+                   0};
     if (chance(6) == 0)
         loan.turn = chance(2) ? UINT64_MAX - chance(3) : any();
     if (chance(3) == 0)
@@ -144,7 +156,7 @@ static VbLoan odd_loan(void)
 /* A host without a guest; each eighth day one whose loans are any numbers. */
 void begin_day(struct day *day, unsigned long long number)
 {
-    *day = (struct day){ .count = chance(MOST_GUESTS + 1), .number = number, .odd = number % 8 == 0 };
+    *day = (struct day){.count = chance(MOST_GUESTS + 1), .number = number, .odd = number % 8 == 0};
     day->frames = chance(4) ? 40 + chance(160) : (uint32_t)any();
     for (size_t i = 0; day->odd && i < day->count; i++)
         day->loans[i] = odd_loan();

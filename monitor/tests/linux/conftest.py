@@ -8,15 +8,23 @@ from linux_vmms import FORMS, VMMS
 def pytest_addoption(parser):
     """The options of this suite."""
     words = parser.getgroup("linux")
-    words.addoption("--form", choices=FORMS, help="the one form in which guest and device notify each other")
-    words.addoption("--suite", metavar="NAME", help="the kernel of another Debian than the machine's: bookworm, trixie, sid")
+    words.addoption(
+        "--form", choices=FORMS, help="the one form in which guest and device notify each other"
+    )
+    words.addoption(
+        "--suite",
+        metavar="NAME",
+        help="the kernel of another Debian than the machine's: bookworm, trixie, sid",
+    )
 
 
 def forms_of(config):
     """Returns the forms of the VMM that the command line asks for."""
     asked, forms = config.getoption("--form"), VMMS[config.getoption("--vmm")].forms
     if asked and asked not in forms:
-        raise pytest.UsageError(f"--form {asked}: guests of this VMM notify their device by {forms[0]} alone")
+        raise pytest.UsageError(
+            f"--form {asked}: guests of this VMM notify their device by {forms[0]} alone"
+        )
     return [asked] if asked else forms
 
 
@@ -29,7 +37,9 @@ def cases(names, forms, seeds):
     """Returns all runs: with a guest of each size, in each of the forms, which change places from run to run."""
     return [
         (name, memory, forms[(number + place + seed) % len(forms)], seed)
-        for seed in seeds for place, name in enumerate(names) for number, memory in enumerate(ALL_RUNS[name].sizes)
+        for seed in seeds
+        for place, name in enumerate(names)
+        for number, memory in enumerate(ALL_RUNS[name].sizes)
     ]
 
 
@@ -38,9 +48,15 @@ def pytest_generate_tests(metafunc):
     forms = forms_of(metafunc.config)
     if "name" in metafunc.fixturenames:
         runs = cases(names_of(metafunc.config), forms, range(metafunc.config.getoption("--times")))
-        metafunc.parametrize("name, memory, form, seed", runs, ids=["-".join(map(str, it)) for it in runs])
+        metafunc.parametrize(
+            "name, memory, form, seed", runs, ids=["-".join(map(str, it)) for it in runs]
+        )
     if "wrong" in metafunc.fixturenames:
-        devices = [pytest.param(it, form, marks=pytest.mark.wrong(it)) for it in WRONG_DEVICES for form in forms]
+        devices = [
+            pytest.param(it, form, marks=pytest.mark.wrong(it))
+            for it in WRONG_DEVICES
+            for form in forms
+        ]
         metafunc.parametrize("wrong, form", devices)
 
 

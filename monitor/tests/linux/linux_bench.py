@@ -29,8 +29,12 @@ class Bench:
         folder = os.path.join(self.folder, f"run-{self.count}")
         run = ALL_RUNS[name]
         options, shape = ["--strict", *FORMS[form], *run.backend_words], Shape(memory, **run.guest)
-        program = linux_kit.built(f"{'audited-checked' if name in MACHINE_RUNS else 'audited'}/{self.vmm.backend}")
-        with Machine(self.vmm, program, folder, shape, options, {"BALLOON_WRONG": wrong or "0"}) as machine:
+        program = linux_kit.built(
+            f"{'audited-checked' if name in MACHINE_RUNS else 'audited'}/{self.vmm.backend}"
+        )
+        with Machine(
+            self.vmm, program, folder, shape, options, {"BALLOON_WRONG": wrong or "0"}
+        ) as machine:
             said = self.judge(machine, run.do, random.Random(f"{name} {memory} {seed}"))
             counters, entries = machine.backend.counters(), audit(machine)
             demand(machine.guest.close(), "the guest doesn't power off")
@@ -38,8 +42,14 @@ class Bench:
             demand(status == 0, f"the backend ends with status {status}")
             demand(not machine.backend.why(), "the backend isn't silent")
             demand(not machine.guest.why(), f"the guest's VMM says: {machine.guest.why()}")
-        words = [f"{counters['inflated']} pages inflated", f"{counters['reported']} reported", f"{entries} used elements"]
-        return ", ".join([*words, *([said] if said else []), f"memory ends at page {counters['end']}"])
+        words = [
+            f"{counters['inflated']} pages inflated",
+            f"{counters['reported']} reported",
+            f"{entries} used elements",
+        ]
+        return ", ".join(
+            [*words, *([said] if said else []), f"memory ends at page {counters['end']}"]
+        )
 
     def boot_unbound(self):
         """Boots a guest whose device nobody serves; returns what it says of that."""

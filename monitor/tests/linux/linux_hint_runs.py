@@ -39,7 +39,10 @@ def has_free(machine, mib):
 def holds(machine, most):
     """Whether the host holds at most this many MiB, and how many it holds."""
     held = machine.guest.held_mib()
-    return held <= most, f"the host holds {held:.0f} MiB, and at most {most:.0f} are wanted: {machine.backend.counters()}"
+    return (
+        held <= most,
+        f"the host holds {held:.0f} MiB, and at most {most:.0f} are wanted: {machine.backend.counters()}",
+    )
 
 
 def hinted(machine):
@@ -64,10 +67,18 @@ def hints_run(machine, _):
         demand(filled >= HOG, f"the guest has only {filled} MiB to fill")
         before = machine.guest.held_mib()
         demand(order(machine, "start") == f"round {number + 2}", "a round has another's id")
-        becomes(machine, "hinted memory doesn't come back", lambda free=free: holds(machine, machine.memory - free + UNHINTED))
+        becomes(
+            machine,
+            "hinted memory doesn't come back",
+            lambda free=free: holds(machine, machine.memory - free + UNHINTED),
+        )
         held = machine.guest.held_mib()
         order(machine, "done")
-        becomes(machine, "the driver keeps what it hinted", lambda free=free: has_free(machine, free - LEFT_FREE))
+        becomes(
+            machine,
+            "the driver keeps what it hinted",
+            lambda free=free: has_free(machine, free - LEFT_FREE),
+        )
         said.append(f"{before:.0f} to {held:.0f} MiB held, with {machine.memory - free:.0f} in use")
         audit(machine)
     machine.guest.do(f"hog {filled}")
@@ -87,7 +98,9 @@ def amid_run(machine, chance):
         time.sleep(chance.random() * MOST_REST)
         for line in chance.choice((("done",), ("stop", "done"), ("start", "done"))):
             order(machine, line)
-        becomes(machine, "the driver keeps what it hinted", lambda: has_free(machine, free - LEFT_FREE))
+        becomes(
+            machine, "the driver keeps what it hinted", lambda: has_free(machine, free - LEFT_FREE)
+        )
         if chance.random() < 0.5:
             machine.guest.do(f"hog {filled}")
             machine.backend.ask("snapshot")

@@ -5,7 +5,17 @@ import time
 from linux_guest import PAGES_PER_MIB
 from linux_kit import demand
 from linux_runs import (
-    LEFT_FREE, TARGET_LIMIT, Run, audit, churn_run, fill_memory, finish, free_and_report, inflate_filled, keep, settle,
+    LEFT_FREE,
+    TARGET_LIMIT,
+    Run,
+    audit,
+    churn_run,
+    fill_memory,
+    finish,
+    free_and_report,
+    inflate_filled,
+    keep,
+    settle,
 )
 
 # Stops of the run `pause`; the longest rest before one, in seconds.
@@ -44,7 +54,11 @@ def stop(machine):
     before = machine.backend.counters()
     time.sleep(0.1)
     after = machine.backend.counters()
-    moved = {name: (before[name], it) for name, it in after.items() if name != "messages" and it != before[name]}
+    moved = {
+        name: (before[name], it)
+        for name, it in after.items()
+        if name != "messages" and it != before[name]
+    }
     demand(not moved, f"a machine that is stopped is served: {moved}")
 
 
@@ -79,14 +93,20 @@ def pause_run(machine, chance):
 def written_run(machine, chance):
     """`actual` is what the driver has in its balloon: it writes it after each of its requests."""
     kept = keep(machine, "keep", machine.memory // 6)
-    most, samples, before = int(machine.guest.memory_mib()[1]) - LEFT_FREE, 0, machine.backend.counters()
+    most, samples, before = (
+        int(machine.guest.memory_mib()[1]) - LEFT_FREE,
+        0,
+        machine.backend.counters(),
+    )
     for number in range(WRITTEN):
         machine.set_target(chance.randint(0, most))
         end = machine.end_of(TARGET_LIMIT)
         while (now := machine.backend.counters())["actual"] != now["target"]:
             demand(time.monotonic() < end, f"target {number + 1}: {now}")
             apart = abs(now["inflated"] - now["deflated"] - now["actual"])
-            demand(apart <= REQUEST, f"`actual` is {apart} pages from what is in the balloon: {now}")
+            demand(
+                apart <= REQUEST, f"`actual` is {apart} pages from what is in the balloon: {now}"
+            )
             samples += now["actual"] not in (before["actual"], before["target"])
             time.sleep(0.005)
             before = now
@@ -101,7 +121,9 @@ def plug_again(machine):
     """The device is unplugged, and the driver takes all pages out of its balloon; then it is plugged over the same connection."""
     machine.control.do("device_del", id="balloon")
     machine.control.await_event("DEVICE_DELETED", device="balloon")
-    gone = lambda now: now["status"] == 0 and now["actual"] == 0 and now["inflated"] == now["deflated"]
+    gone = (
+        lambda now: now["status"] == 0 and now["actual"] == 0 and now["inflated"] == now["deflated"]
+    )
     become(machine, "after the device was unplugged", gone)
     machine.control.do("device_add", **machine.vmm.device_words(machine.shape))
     become(machine, "a device that was plugged has no driver", lambda now: now["status"] == 15)
@@ -114,7 +136,11 @@ def plug_run(machine, _):
     filled = fill_memory(machine)
     free_and_report(machine, filled)
     # Pages aren't free for Linux while it reports them.
-    become(machine, "what was filled isn't free again", lambda _: machine.statistics()["free_memory"] > filled * MIB)
+    become(
+        machine,
+        "what was filled isn't free again",
+        lambda _: machine.statistics()["free_memory"] > filled * MIB,
+    )
     for mib in (filled * part // 10 for part in PLUGGED):
         machine.set_target(mib)
         settle(machine, f"a balloon of {mib} MiB")
@@ -122,9 +148,16 @@ def plug_run(machine, _):
         go_on(machine)
         plug_again(machine)
         settle(machine, f"a balloon of {mib} MiB in a device that was plugged again")
-        become(machine, "after the device was plugged", lambda now: now["inflated"] - now["deflated"] == mib * PAGES_PER_MIB)
+        become(
+            machine,
+            "after the device was plugged",
+            lambda now: now["inflated"] - now["deflated"] == mib * PAGES_PER_MIB,
+        )
         free = machine.statistics()["free_memory"] // MIB
-        demand(free < filled + LEFT_FREE * 2 - mib, f"with {mib} MiB of {filled} in the balloon {free} are free")
+        demand(
+            free < filled + LEFT_FREE * 2 - mib,
+            f"with {mib} MiB of {filled} in the balloon {free} are free",
+        )
         audit(machine)
     finish(machine, kept)
 
@@ -136,12 +169,18 @@ def dimm_run(machine, _):
     end, most = machine.backend.counters()["end"], int(free) - LEFT_FREE
     machine.set_target(most)
     settle(machine, "a balloon of what is free at first")
-    machine.control.do("object-add", **{"qom-type": "memory-backend-memfd", "id": "more", "size": DIMM << 20, "share": True})
+    machine.control.do(
+        "object-add",
+        **{"qom-type": "memory-backend-memfd", "id": "more", "size": DIMM << 20, "share": True},
+    )
     machine.control.do("device_add", driver="pc-dimm", id="dimm", memdev="more")
     until = machine.end_of(TARGET_LIMIT)
     while machine.guest.memory_mib()[0] < total + DIMM // 2:
         demand(time.monotonic() < until, "the guest doesn't have the memory that was plugged in")
-    demand(machine.backend.counters()["end"] > end, "the backend doesn't have the memory that was plugged in")
+    demand(
+        machine.backend.counters()["end"] > end,
+        "the backend doesn't have the memory that was plugged in",
+    )
     machine.set_target(most + DIMM * 3 // 4)
     settle(machine, "a balloon that has pages of the new memory")
     audit(machine)
@@ -163,7 +202,10 @@ def begin_anew(machine, how):
     machine.guest.boot()
     settle(machine, "the balloon of a guest that began anew")
     counters = machine.backend.counters()
-    demand(counters["inflated"] - inflated == mib * PAGES_PER_MIB, f"after a guest began anew: {counters}")
+    demand(
+        counters["inflated"] - inflated == mib * PAGES_PER_MIB,
+        f"after a guest began anew: {counters}",
+    )
     machine.control.do("set-action", reboot="shutdown")
     audit(machine)
     machine.set_target(0)
@@ -195,10 +237,13 @@ def large_run(machine, _):
 
 
 MACHINE_RUNS = {
-    "written": Run(written_run), "pause": Run(pause_run), "dimm": Run(dimm_run, guest={"pluggable": DIMM}),
+    "written": Run(written_run),
+    "pause": Run(pause_run),
+    "dimm": Run(dimm_run, guest={"pluggable": DIMM}),
     # A queue more than has a kind, as Linux 7.2 asks for.
     "plug": Run(plug_run, guest={"queues": 5}),
-    "reset": Run(reset_run), "reboot": Run(reboot_run),
+    "reset": Run(reset_run),
+    "reboot": Run(reboot_run),
     "pair": Run(churn_run, guest={"processors": 2, "queues": 5, "queue_size": MOST_DESCRIPTORS}),
     "large": Run(large_run, sizes=(LARGE,)),
 }

@@ -36,7 +36,10 @@ def audit(machine):
 
 def settle(machine, what):
     """Demands that the target is reached."""
-    demand(machine.settle(TARGET_LIMIT) is not None, f"{what}: not reached: {machine.backend.counters()}")
+    demand(
+        machine.settle(TARGET_LIMIT) is not None,
+        f"{what}: not reached: {machine.backend.counters()}",
+    )
 
 
 def keep(machine, name, mib):
@@ -62,7 +65,9 @@ def inflate_filled(machine, mib):
     machine.set_target(machine.backend.counters()["actual"] // PAGES_PER_MIB + mib)
     settle(machine, f"{mib} MiB more")
     fell = before - machine.guest.held_mib()
-    demand(fell >= COMES_BACK * mib, f"{mib} MiB were inflated, and the host got {fell:.1f} MiB back")
+    demand(
+        fell >= COMES_BACK * mib, f"{mib} MiB were inflated, and the host got {fell:.1f} MiB back"
+    )
     audit(machine)
 
 
@@ -76,7 +81,10 @@ def free_and_report(machine, mib):
         time.sleep(0.1)
     fell = before - machine.guest.held_mib()
     told = (machine.backend.counters()["reported"] - reported) / PAGES_PER_MIB
-    demand(fell >= mib / 2, f"{mib} MiB were free, {told:.1f} were reported, and the host got {fell:.1f} back")
+    demand(
+        fell >= mib / 2,
+        f"{mib} MiB were free, {told:.1f} were reported, and the host got {fell:.1f} back",
+    )
     audit(machine)
 
 
@@ -103,7 +111,10 @@ def main_run(machine, _):
     machine.backend.ask("snapshot")
     figures = machine.statistics()
     total, _ = machine.guest.memory_mib()
-    demand(abs(figures["total_memory"] / 2**20 - total) < 4, f"statistics have other words for {total} MiB: {figures}")
+    demand(
+        abs(figures["total_memory"] / 2**20 - total) < 4,
+        f"statistics have other words for {total} MiB: {figures}",
+    )
     machine.set_target(0)
     settle(machine, "a deflate")
     kept += keep(machine, "more", filled // 2 - LEFT_FREE)
@@ -159,7 +170,9 @@ def unload_run(machine, _):
         machine.guest.do("unload")
         counters = machine.backend.counters()
         # On PCI, Linux itself acknowledges the device that nobody drives.
-        demand(counters["status"] in (0, 1) and counters["actual"] == 0, f"after an unload: {counters}")
+        demand(
+            counters["status"] in (0, 1) and counters["actual"] == 0, f"after an unload: {counters}"
+        )
         # The target is set: the driver inflates as soon as it is there.
         machine.guest.do("load")
         settle(machine, "the balloon of a driver that was loaded again")
@@ -218,7 +231,15 @@ class Run(NamedTuple):
 
 
 RUNS = {
-    "main": Run(main_run), "churn": Run(churn_run), "oom": Run(oom_run), "unload": Run(unload_run), "compact": Run(compact_run),
+    "main": Run(main_run),
+    "churn": Run(churn_run),
+    "oom": Run(oom_run),
+    "unload": Run(unload_run),
+    "compact": Run(compact_run),
     # The device offers PAGE_POISON, too.
-    "zeroed": Run(zeroed_run, guest={"kernel_words": ("init_on_free=1",)}, backend_words=("--features", "100000037")),
+    "zeroed": Run(
+        zeroed_run,
+        guest={"kernel_words": ("init_on_free=1",)},
+        backend_words=("--features", "100000037"),
+    ),
 }

@@ -28,7 +28,9 @@ def boot(tmp_path):
     guests = []
 
     def make(text):
-        guest = linux_guest.Guest([program(tmp_path, "guest", f"{text}\nread line")], None, (), str(tmp_path), 0)
+        guest = linux_guest.Guest(
+            [program(tmp_path, "guest", f"{text}\nread line")], None, (), str(tmp_path), 0
+        )
         guests.append(guest)
         guest.memory_file = lambda: os.open(tmp_path, os.O_RDONLY)
         begin = time.monotonic()
@@ -45,11 +47,16 @@ def boot(tmp_path):
         it.close(), it.process.stdin.close(), it.process.stdout.close()
 
 
-@pytest.mark.parametrize("console, why", (
-    ("echo Linux; echo 'UNBOUND: 5 VQs requested/probe failed with error -22'",
-     "the guest boots, but its driver has no device: 5 VQs requested/probe failed with error -22"),
-    ("echo Linux; echo READY", None),
-))
+@pytest.mark.parametrize(
+    "console, why",
+    (
+        (
+            "echo Linux; echo 'UNBOUND: 5 VQs requested/probe failed with error -22'",
+            "the guest boots, but its driver has no device: 5 VQs requested/probe failed with error -22",
+        ),
+        ("echo Linux; echo READY", None),
+    ),
+)
 def test_a_driver_that_has_no_device(boot, console, why):
     assert boot(console) == why
 
@@ -79,7 +86,10 @@ def qemu_of(tmp_path, monkeypatch):
     it is to list all devices; returns its own path."""
     monkeypatch.setenv("PATH", f"{tmp_path}:{os.environ['PATH']}")
     return lambda version, device, tried="No 'PCI' bus found": program(
-        tmp_path, "qemu-system-x86_64", FAKE_QEMU.format(version=version, device=device, tried=tried))
+        tmp_path,
+        "qemu-system-x86_64",
+        FAKE_QEMU.format(version=version, device=device, tried=tried),
+    )
 
 
 @pytest.fixture
@@ -100,25 +110,41 @@ def test_a_qemu_whose_proxy_ends_by_a_signal(qemu_of, version, tmp_path):
     assert str(missing.value) == f"{path} is of version {version.split()[0]}, {OLD_QEMU}"
 
 
-@pytest.mark.parametrize("vmm, version, device", (
-    (linux_vmms.QemuProxy, "10.2.1", PROXY), (linux_vmms.QemuProxy, "7.2.18", PROXY),
-    (linux_vmms.Qemu, "10.2.1", GENERIC), (linux_vmms.Qemu, "12.0.0", "vhost-user-device-pci"),
-))
+@pytest.mark.parametrize(
+    "vmm, version, device",
+    (
+        (linux_vmms.QemuProxy, "10.2.1", PROXY),
+        (linux_vmms.QemuProxy, "7.2.18", PROXY),
+        (linux_vmms.Qemu, "10.2.1", GENERIC),
+        (linux_vmms.Qemu, "12.0.0", "vhost-user-device-pci"),
+    ),
+)
 def test_an_installed_qemu_that_does(qemu_of, vmm, version, device):
     path = qemu_of(version, device)
     assert vmm.find(object.__new__(vmm)) == ([path], device)
 
 
-NOT_TO_BE_CREATED = ("10.0.2", "vhost-user-device-pci", "Parameter 'driver' expects a pluggable device type")
+NOT_TO_BE_CREATED = (
+    "10.0.2",
+    "vhost-user-device-pci",
+    "Parameter 'driver' expects a pluggable device type",
+)
 
 
-@pytest.mark.parametrize("vmm, qemu", (
-    (linux_vmms.Qemu, ("7.2.18", "virtio-balloon-pci")), (linux_vmms.QemuProxy, ("7.2.18", "virtio-balloon-pci")), (linux_vmms.Qemu, NOT_TO_BE_CREATED),
-))
+@pytest.mark.parametrize(
+    "vmm, qemu",
+    (
+        (linux_vmms.Qemu, ("7.2.18", "virtio-balloon-pci")),
+        (linux_vmms.QemuProxy, ("7.2.18", "virtio-balloon-pci")),
+        (linux_vmms.Qemu, NOT_TO_BE_CREATED),
+    ),
+)
 def test_no_qemu_and_no_mirror(qemu_of, no_debian, vmm, qemu, tmp_path):
     qemu_of(*qemu)
     begin = time.monotonic()
-    with pytest.raises(linux_packages.Missing, match=f"apt-get finds no packages of {vmm.debian}: .*") as missing:
+    with pytest.raises(
+        linux_packages.Missing, match=f"apt-get finds no packages of {vmm.debian}: .*"
+    ) as missing:
         vmm(str(tmp_path))
     assert time.monotonic() - begin < PATIENCE and str(missing.value).count("\n") == 0
 
@@ -126,7 +152,9 @@ def test_no_qemu_and_no_mirror(qemu_of, no_debian, vmm, qemu, tmp_path):
 def test_a_mirror_that_says_nothing(no_debian, monkeypatch):
     monkeypatch.setenv("no_proxy", "127.0.0.1")
     with socket.create_server(("127.0.0.1", 0)) as silent:
-        monkeypatch.setattr(linux_packages, "MIRROR", f"http://127.0.0.1:{silent.getsockname()[1]}/debian")
+        monkeypatch.setattr(
+            linux_packages, "MIRROR", f"http://127.0.0.1:{silent.getsockname()[1]}/debian"
+        )
         begin = time.monotonic()
         with pytest.raises(linux_packages.Missing, match="apt-get finds no packages of sid: .*"):
             linux_packages.fetch_kernel("sid")
@@ -136,7 +164,13 @@ def test_a_mirror_that_says_nothing(no_debian, monkeypatch):
 @pytest.mark.parametrize("words", (("boot-linux",), ("test", "linux")))
 def test_a_tool_says_so_in_one_line(qemu_of, words):
     qemu_of("11.1.3", PROXY)
-    command = [os.path.join(linux_packages.ROOT, "tools", words[0]), *words[1:], "--vmm", "qemu-proxy", "--reference"]
+    command = [
+        os.path.join(linux_packages.ROOT, "tools", words[0]),
+        *words[1:],
+        "--vmm",
+        "qemu-proxy",
+        "--reference",
+    ]
     ran = subprocess.run(command, capture_output=True, text=True, timeout=PATIENCE)
     assert (ran.returncode, ran.stdout, ran.stderr.count("\n")) == (2, "", 1), ran.stderr
     assert OLD_QEMU in ran.stderr
@@ -146,12 +180,18 @@ def test_a_tool_says_so_in_one_line(qemu_of, words):
 OF_INTEL, OF_AMD, OF_NONE = "fpu vmx sse", "fpu svm sse", "fpu hypervisor sse"
 
 
-@pytest.mark.parametrize("answer, flags, word", (
-    (linux_vmms.KVM_API_VERSION, OF_INTEL, "kvm"), (linux_vmms.KVM_API_VERSION, OF_AMD, "kvm"),
-    # Such a KVM ends a kernel that isn't made for it: "emulation failure".
-    (linux_vmms.KVM_API_VERSION, OF_NONE, "tcg"), (linux_vmms.KVM_API_VERSION, "", "tcg"),
-    (11, OF_INTEL, "tcg"), (OSError, OF_INTEL, "tcg"),
-))
+@pytest.mark.parametrize(
+    "answer, flags, word",
+    (
+        (linux_vmms.KVM_API_VERSION, OF_INTEL, "kvm"),
+        (linux_vmms.KVM_API_VERSION, OF_AMD, "kvm"),
+        # Such a KVM ends a kernel that isn't made for it: "emulation failure".
+        (linux_vmms.KVM_API_VERSION, OF_NONE, "tcg"),
+        (linux_vmms.KVM_API_VERSION, "", "tcg"),
+        (11, OF_INTEL, "tcg"),
+        (OSError, OF_INTEL, "tcg"),
+    ),
+)
 def test_kvm_where_it_answers_and_takes_any_kernel(monkeypatch, tmp_path, answer, flags, word):
     def ioctl(_, request):
         assert request == 0xAE00
@@ -160,9 +200,13 @@ def test_kvm_where_it_answers_and_takes_any_kernel(monkeypatch, tmp_path, answer
         return answer
 
     processor = tmp_path / "cpuinfo"
-    processor.write_text(f"processor\t: 0\nflags\t\t: {flags}\n" if flags else "processor\t: 0\n", encoding="utf-8")
+    processor.write_text(
+        f"processor\t: 0\nflags\t\t: {flags}\n" if flags else "processor\t: 0\n", encoding="utf-8"
+    )
     real, others = open, {"/dev/kvm": "/dev/null", "/proc/cpuinfo": processor}
-    monkeypatch.setattr("builtins.open", lambda name, *words, **how: real(others.get(name, name), *words, **how))
+    monkeypatch.setattr(
+        "builtins.open", lambda name, *words, **how: real(others.get(name, name), *words, **how)
+    )
     monkeypatch.setattr(linux_vmms.fcntl, "ioctl", ioctl)
     assert linux_vmms.accelerator() == word
 

@@ -18,7 +18,9 @@ def no_disk(tmp_path, monkeypatch):
     monkeypatch.setattr(debian_disk, "CACHE", str(tmp_path))
 
 
-@pytest.mark.parametrize("program, package", (("mmdebstrap", "mmdebstrap"), ("mkfs.ext4", "e2fsprogs")))
+@pytest.mark.parametrize(
+    "program, package", (("mmdebstrap", "mmdebstrap"), ("mkfs.ext4", "e2fsprogs"))
+)
 def test_a_program_that_makes_disks_is_missing(no_disk, tmp_path, monkeypatch, program, package):
     for other in {"mmdebstrap", "mkfs.ext4"} - {program}:
         (tmp_path / other).touch(mode=0o755)
@@ -32,7 +34,9 @@ def test_who_is_not_root_makes_no_disk(no_disk, tmp_path, monkeypatch):
         (tmp_path / name).touch(mode=0o755)
     monkeypatch.setenv("PATH", str(tmp_path))
     monkeypatch.setattr(os, "geteuid", lambda: 1000)
-    with pytest.raises(Missing, match="^the root of a Debian is made by root: run it with sudo, once$"):
+    with pytest.raises(
+        Missing, match="^the root of a Debian is made by root: run it with sudo, once$"
+    ):
         debian_disk.demand_disk()
 
 
@@ -52,7 +56,9 @@ def ends(tmp_path, monkeypatch):
 
 def test_a_command_that_says_nothing_hangs(ends, monkeypatch):
     monkeypatch.setattr(debian_machine, "QUIET", 0.5)
-    with pytest.raises(Fault, match="^a command hangs: nothing for 0.5 s; the console's last line: its last words$"):
+    with pytest.raises(
+        Fault, match="^a command hangs: nothing for 0.5 s; the console's last line: its last words$"
+    ):
         ends[0].run("true", "a command")
 
 

@@ -22,7 +22,11 @@ def tell(port, word):
 def run(port, words):
     """Runs a command; what it prints goes as it comes."""
     process = subprocess.Popen(
-        ["/bin/bash", "-ec", words], stdin=subprocess.DEVNULL, stdout=subprocess.PIPE, stderr=subprocess.STDOUT, start_new_session=True,
+        ["/bin/bash", "-ec", words],
+        stdin=subprocess.DEVNULL,
+        stdout=subprocess.PIPE,
+        stderr=subprocess.STDOUT,
+        start_new_session=True,
         env={**os.environ, "LC_ALL": "C.UTF-8", "HOME": "/root", "PYTHONDONTWRITEBYTECODE": "1"},
     )
     for line in process.stdout:

@@ -18,7 +18,9 @@ SOURCES = ("monitor/tests", "client", "pytest.ini")
 def package(tmp_path_factory):
     """A folder with the package of a host, and in one line why it isn't there; nothing where it is."""
     folder = str(tmp_path_factory.mktemp("package"))
-    made = subprocess.run([sys.executable, f"{ROOT}/tools/package-host", folder], capture_output=True, text=True)
+    made = subprocess.run(
+        [sys.executable, f"{ROOT}/tools/package-host", folder], capture_output=True, text=True
+    )
     return folder, last_line(made.stderr) if made.returncode != 0 else ""
 
 
@@ -30,7 +32,11 @@ def files(request):
     if request.config.getoption("--wrong") is not None:
         return sources | {"programs": os.path.dirname(built("wrong-plain/vhost_user_host"))}
     package = request.getfixturevalue("package")[0]
-    return sources | {"programs": os.path.dirname(built("plain/vhost_user_host")), "older": os.path.dirname(older_program()), "package": package}
+    return sources | {
+        "programs": os.path.dirname(built("plain/vhost_user_host")),
+        "older": os.path.dirname(older_program()),
+        "package": package,
+    }
 
 
 @pytest.fixture(scope="session")

@@ -33,8 +33,12 @@ CLIENT = f"yes turn 0 {TURN} {OF_REQUEST} | python3 -B {HERE}/../host/charged_gu
 
 def run(*words):
     """Runs a program that has to succeed; returns what it printed."""
-    ran = subprocess.run(words, stdin=subprocess.DEVNULL, capture_output=True, text=True, timeout=PATIENCE)
-    assert ran.returncode == 0, f"{' '.join(words)}: {ran.returncode}: {ran.stderr.strip() or ran.stdout.strip()}"
+    ran = subprocess.run(
+        words, stdin=subprocess.DEVNULL, capture_output=True, text=True, timeout=PATIENCE
+    )
+    assert (
+        ran.returncode == 0
+    ), f"{' '.join(words)}: {ran.returncode}: {ran.stderr.strip() or ran.stdout.strip()}"
     return ran.stdout
 
 
@@ -72,7 +76,10 @@ def its(name):
 def goes_on(before=None):
     """Demands that the guest makes two turns more from now on, with all bytes right; says how many there are."""
     begun = len(answers())
-    eventually(lambda: len(answers()) >= begun + 2, lambda: f"the guest does nothing more after {begun} turns: {guest()}")
+    eventually(
+        lambda: len(answers()) >= begun + 2,
+        lambda: f"the guest does nothing more after {begun} turns: {guest()}",
+    )
     wrong = [it for it in answers() if it != "right"]
     assert not wrong, wrong
     now = (process_of(GUEST), its("cgroup.procs"))
@@ -96,8 +103,17 @@ def begin():
     run("bigvasta", "add", NAME, "strict=yes", "overhead=32M", f"limit=cgroup:{CGROUP}")
     with open(ANSWERS, "w", encoding="ascii"):
         path = os.environ["PYTHONPATH"]
-    run("systemd-run", "--quiet", f"--unit={GUEST}", f"--setenv=PYTHONPATH={path}",
-        f"--property=ExecStartPre=chown bigvasta {CGROUP}/memory.max", "--property=MemoryAccounting=yes", "bash", "-c", CLIENT)
+    run(
+        "systemd-run",
+        "--quiet",
+        f"--unit={GUEST}",
+        f"--setenv=PYTHONPATH={path}",
+        f"--property=ExecStartPre=chown bigvasta {CGROUP}/memory.max",
+        "--property=MemoryAccounting=yes",
+        "bash",
+        "-c",
+        CLIENT,
+    )
     goes_on()
     assert guest()["limit"] > 0
 
@@ -121,10 +137,15 @@ def processes():
         time.sleep(random.random() * 0.2)
         seen = amid_inflates()
         os.kill(seen["process"], signal.SIGKILL)
-        eventually(lambda: guest()["process"] not in (0, seen["process"]), "nobody goes on with the guest")
+        eventually(
+            lambda: guest()["process"] not in (0, seen["process"]), "nobody goes on with the guest"
+        )
         begun = len(answers())
         eventually(lambda: len(answers()) > begun, "the guest does nothing more")
-        print(f"killed {number + 1} times, with {seen['ballooned'] // PAGE} pages in its balloon", flush=True)
+        print(
+            f"killed {number + 1} times, with {seen['ballooned'] // PAGE} pages in its balloon",
+            flush=True,
+        )
     goes_on(before)
     assert guest()["counters"]["clients"] == came
 
@@ -134,7 +155,10 @@ def another_lender(act):
     before, process, lender = goes_on(), guest()["process"], process_of(HOST)
     act(lender)
     eventually(lambda: process_of(HOST) not in (0, lender), "no other lender comes")
-    eventually(lambda: guest()["state"] == "ready" and guest()["answers"], lambda: f"the lender doesn't go on: {guest()}")
+    eventually(
+        lambda: guest()["state"] == "ready" and guest()["answers"],
+        lambda: f"the lender doesn't go on: {guest()}",
+    )
     assert guest()["process"] == process
     goes_on(before)
 
@@ -153,8 +177,17 @@ def restart():
 
 def upgrade():
     """Puts the programs of the package in the place of older ones, and has the host and the guest be of them."""
-    before, process, lender, old = goes_on(), guest()["process"], process_of(HOST), guest()["version"]
-    run("sh", "-c", "dpkg-deb --fsys-tarfile /srv/machine/package/*.deb | tar -x -C / --wildcards './usr/bin/vhost_user_*'")
+    before, process, lender, old = (
+        goes_on(),
+        guest()["process"],
+        process_of(HOST),
+        guest()["version"],
+    )
+    run(
+        "sh",
+        "-c",
+        "dpkg-deb --fsys-tarfile /srv/machine/package/*.deb | tar -x -C / --wildcards './usr/bin/vhost_user_*'",
+    )
     new = run("vhost_user_host", "--version").split()[1]
     said = run("bigvasta", "upgrade")
     assert said.splitlines() == [f"{it}: {old} -> {new}" for it in ("host", NAME)], said

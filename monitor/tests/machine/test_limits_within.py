@@ -33,7 +33,11 @@ def names(file):
 
 def words_of(tests, **settings):
     """Returns the words that run tests there, but for those over a tmpfs, which any machine has."""
-    settings = {"HOST_PROGRAM": f"{FOLDER}/programs/vhost_user_host", "PYTHONUNBUFFERED": 1, **settings}
+    settings = {
+        "HOST_PROGRAM": f"{FOLDER}/programs/vhost_user_host",
+        "PYTHONUNBUFFERED": 1,
+        **settings,
+    }
     said = " ".join(f"{name}={it}" for name, it in settings.items())
     paths = " ".join(f"{HOST}/{it}" for it in tests)
     return f"cd {FOLDER}/source && {said} python3 -m pytest -v --tb=short -o timeout={LIMIT} -k 'not tmpfs' --junitxml=/tmp/report {paths}"
@@ -44,7 +48,11 @@ def cases(report):
     found = {}
     for case in xml.etree.ElementTree.fromstring(report).iter("testcase"):
         name = f"{case.get('classname').rsplit('.', 1)[1]}.py::{case.get('name').split('[')[0]}"
-        whys = [f"{case.get('name')}: {it.tag}: {it.get('message')}\n{it.text}" for it in case if it.tag in ("failure", "error", "skipped")]
+        whys = [
+            f"{case.get('name')}: {it.tag}: {it.get('message')}\n{it.text}"
+            for it in case
+            if it.tag in ("failure", "error", "skipped")
+        ]
         found.setdefault(name, []).extend(whys or [None])
     return found
 
@@ -52,7 +60,9 @@ def cases(report):
 @pytest.fixture(scope="module")
 def outcomes(machine, request):
     """What became of each test that is asked for."""
-    asked = [it.callspec.params["name"] for it in request.session.items if "outcomes" in it.fixturenames]
+    asked = [
+        it.callspec.params["name"] for it in request.session.items if "outcomes" in it.fixturenames
+    ]
     status, lines = machine.tried(words_of(asked), "the tests of a host")
     assert status in (0, 1), "\n".join(lines[-20:])
     return cases(machine.run("cat /tmp/report", "the report"))

@@ -19,7 +19,10 @@ def service(machine, package):
     def do(step):
         return machine.run(f"{settings} python3 -B {tests}/machine/service.py {step}", step)
 
-    machine.run(f"dpkg -i {FOLDER}/package/*.deb && cp --remove-destination {FOLDER}/older/vhost_user_* /usr/bin", "the package")
+    machine.run(
+        f"dpkg -i {FOLDER}/package/*.deb && cp --remove-destination {FOLDER}/older/vhost_user_* /usr/bin",
+        "the package",
+    )
     do("begin")
     return do
 

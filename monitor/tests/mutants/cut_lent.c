@@ -1,6 +1,7 @@
-/* A guest's process that aborts in one place, so that another one goes on: that of the guest `cut-N` or `cut-N-..` at the Nth of
- * these places that it comes by, which are before and after each call that this file is put before. Later processes of that guest don't end,
- * but those of the guest `cut-always`, each at the first place.
+/* A guest's process that aborts in one place, so that another one goes on: that of the guest
+ * `cut-N` or `cut-N-..` at the Nth of these places that it comes by, which are before and after
+ * each call that this file is put before. Later processes of that guest don't end, but those of the
+ * guest `cut-always`, each at the first place.
  *
  * The environment's ANEW_WRONG names what later processes do wrong:
  *
@@ -41,27 +42,30 @@ static void cut(void)
         abort();
 }
 
-#define REAL(type, name, ...) \
-    type __real_##name(__VA_ARGS__); \
-    type __wrap_##name(__VA_ARGS__); \
+#define REAL(type, name, ...)                                                                      \
+    type __real_##name(__VA_ARGS__);                                                               \
+    type __wrap_##name(__VA_ARGS__);                                                               \
     type __wrap_##name(__VA_ARGS__)
 
-#define CUT(type, name, call, ...) \
-    REAL(type, name, __VA_ARGS__) \
-    { \
-        cut(); \
-        type answer = __real_##name call; \
-        cut(); \
-        return answer; \
+#define CUT(type, name, call, ...)                                                                 \
+    REAL(type, name, __VA_ARGS__)                                                                  \
+    {                                                                                              \
+        cut();                                                                                     \
+        type answer = __real_##name call;                                                          \
+        cut();                                                                                     \
+        return answer;                                                                             \
     }
 
-CUT(uint32_t, vb_go_on, (notice, balloon, regions, count, room, answer_of),
-    VbNotice *notice, VbBalloon *balloon, const VbRegion *regions, size_t count, VbRoom *room, uint16_t answer_of)
-CUT(VbMarked, vb_mark, (kind, runs, count, set, words), uint32_t kind, const VbRun *runs, uint32_t count, uint64_t *set, size_t words)
-CUT(uint64_t, vb_unmark, (pages, count, set, words), const uint64_t *pages, size_t count, uint64_t *set, size_t words)
+CUT(uint32_t, vb_go_on, (notice, balloon, regions, count, room, answer_of), VbNotice *notice,
+    VbBalloon *balloon, const VbRegion *regions, size_t count, VbRoom *room, uint16_t answer_of)
+CUT(VbMarked, vb_mark, (kind, runs, count, set, words), uint32_t kind, const VbRun *runs,
+    uint32_t count, uint64_t *set, size_t words)
+CUT(uint64_t, vb_unmark, (pages, count, set, words), const uint64_t *pages, size_t count,
+    uint64_t *set, size_t words)
 CUT(ssize_t, recvmsg, (file, message, flags), int file, struct msghdr *message, int flags)
 CUT(ssize_t, write, (file, bytes, length), int file, const void *bytes, size_t length)
-CUT(ssize_t, splice, (from, at_from, to, at_to, length, flags), int from, off_t *at_from, int to, off_t *at_to, size_t length, unsigned flags)
+CUT(ssize_t, splice, (from, at_from, to, at_to, length, flags), int from, off_t *at_from, int to,
+    off_t *at_to, size_t length, unsigned flags)
 CUT(int, fallocate, (file, mode, begin, length), int file, int mode, off_t begin, off_t length)
 CUT(bool, lending_send, (channel, message), int channel, struct lending_message *message)
 CUT(int, lending_read, (channel, message), int channel, struct lending_message *message)

@@ -1,5 +1,6 @@
-/* Backends that are wrong on purpose: tools/test vhost-user has to find each, by one test of its own. The linker puts these
- * functions before those of the same names, and the environment's BACKEND_WRONG names the one that it is:
+/* Backends that are wrong on purpose: tools/test vhost-user has to find each, by one test of its
+ * own. The linker puts these functions before those of the same names, and the environment's
+ * BACKEND_WRONG names the one that it is:
  *
  *     no-call           a used buffer isn't told by the event of its queue
  *     serves-stopped    a ring that was stopped goes on being served at its kicks
@@ -42,8 +43,8 @@ static bool is(const char *name)
 }
 
 /* Declares the right function and the one in its place. */
-#define WRAPPED(type, name, ...) \
-    type __real_##name(__VA_ARGS__); \
+#define WRAPPED(type, name, ...)                                                                   \
+    type __real_##name(__VA_ARGS__);                                                               \
     type __wrap_##name(__VA_ARGS__)
 
 WRAPPED(bool, event_signal, const struct event *event)
@@ -57,7 +58,8 @@ WRAPPED(void, ring_end, struct backend *backend, unsigned number)
         __real_ring_end(backend, number);
 }
 
-WRAPPED(bool, message_answer, int socket, const struct message *message, const void *body, size_t size)
+WRAPPED(bool, message_answer, int socket, const struct message *message, const void *body,
+        size_t size)
 {
     uint32_t words[2] = {message_u32(message, 0), 0};
     bool forgets = message->request == GET_VRING_BASE && is("base-0");
@@ -146,23 +148,28 @@ WRAPPED(bool, backend_start, struct backend *backend, const struct options *opti
     return started;
 }
 
-WRAPPED(enum stream_state, stream_fill, int socket, void *to, size_t length, size_t *got, struct files *files)
+WRAPPED(enum stream_state, stream_fill, int socket, void *to, size_t length, size_t *got,
+        struct files *files)
 {
     enum stream_state state = __real_stream_fill(socket, to, length, got, files);
     files->lost = files->lost && !is("no-ctrunc");
     return state;
 }
 
-WRAPPED(uint32_t, vb_start_queue, VbBalloon *balloon, const VbRegion *regions, size_t count, uint32_t kind, VbQueueStart at)
+WRAPPED(uint32_t, vb_start_queue, VbBalloon *balloon, const VbRegion *regions, size_t count,
+        uint32_t kind, VbQueueStart at)
 {
-    return is("small-rings") && at.size > 256 ? VB_MISPLACED : __real_vb_start_queue(balloon, regions, count, kind, at);
+    return is("small-rings") && at.size > 256
+               ? VB_MISPLACED
+               : __real_vb_start_queue(balloon, regions, count, kind, at);
 }
 
-WRAPPED(uint32_t, vb_begin, VbNotice *notice, VbBalloon *balloon, const VbRegion *regions, size_t count, VbRoom *room, uint32_t kind,
-        uint32_t chains, uint32_t pages, uint32_t keeps)
+WRAPPED(uint32_t, vb_begin, VbNotice *notice, VbBalloon *balloon, const VbRegion *regions,
+        size_t count, VbRoom *room, uint32_t kind, uint32_t chains, uint32_t pages, uint32_t keeps)
 {
     VbRound *round = &balloon->device.round;
-    if (kind == VB_HINT && ((is("old-round") && round->shown >= 2) || (is("after-done") && round->shown == 1)))
+    if (kind == VB_HINT &&
+        ((is("old-round") && round->shown >= 2) || (is("after-done") && round->shown == 1)))
         *round = (VbRound){round->last, round->last, 1};
     return __real_vb_begin(notice, balloon, regions, count, room, kind, chains, pages, keeps);
 }

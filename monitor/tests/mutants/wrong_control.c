@@ -1,11 +1,11 @@
-/* Hosts whose control socket, configuration or service is wrong on purpose: tools/test control has to find each, by one test of its own.
- * The linker puts these functions before those of the same names, and the environment's CONTROL_WRONG names the one that it is:
+/* Hosts whose control socket, configuration or service is wrong on purpose: tools/test control has
+ * to find each, by one test of its own. The linker puts these functions before those of the same
+ * names, and the environment's CONTROL_WRONG names the one that it is:
  *
- *     any-field         a field that a request doesn't have is ignored, and whatever is in a field is taken
- *     no-id             an answer doesn't repeat its request's id
- *     no-limit          a line without an end is waited for, however long it is
- *     waits-for-ever    a client that leaves too much unread stays
- *     all-lost          decisions that aren't kept any longer aren't counted as lost
+ *     any-field         a field that a request doesn't have is ignored, and whatever is in a field
+ * is taken no-id             an answer doesn't repeat its request's id no-limit          a line
+ * without an end is waited for, however long it is waits-for-ever    a client that leaves too much
+ * unread stays all-lost          decisions that aren't kept any longer aren't counted as lost
  *     no-events         who follows the host is told of nothing
  *     open-socket       anybody may connect to the control sockets
  *     changes-by-status a client of the socket that only shows the host may change it
@@ -42,8 +42,8 @@ static bool is(const char *name)
 }
 
 /* Declares the right function and the one in its place. */
-#define WRAPPED(type, name, ...) \
-    type __real_##name(__VA_ARGS__); \
+#define WRAPPED(type, name, ...)                                                                   \
+    type __real_##name(__VA_ARGS__);                                                               \
     type __wrap_##name(__VA_ARGS__)
 
 WRAPPED(json_t *, fields_refusal, const json_t *request, const struct field fields[MOST_FIELDS])
@@ -51,7 +51,8 @@ WRAPPED(json_t *, fields_refusal, const json_t *request, const struct field fiel
     return is("any-field") ? NULL : __real_fields_refusal(request, fields);
 }
 
-WRAPPED(json_t *, request_answer, struct control *control, struct control_client *client, struct host *host, const char *line, size_t length)
+WRAPPED(json_t *, request_answer, struct control *control, struct control_client *client,
+        struct host *host, const char *line, size_t length)
 {
     json_t *answer = __real_request_answer(control, client, host, line, length);
     if (is("no-id"))
@@ -103,7 +104,8 @@ WRAPPED(bool, config_read, const char *path, struct config *config)
     return __real_config_read(path, config) || is("half-a-file");
 }
 
-WRAPPED(bool, config_stays, const struct config *old, const struct config *new, const char **section, const char **key)
+WRAPPED(bool, config_stays, const struct config *old, const struct config *new,
+        const char **section, const char **key)
 {
     return __real_config_stays(old, new, section, key) || is("moves");
 }

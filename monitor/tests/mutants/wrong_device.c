@@ -1,5 +1,5 @@
-/* Devices that are wrong on purpose: tests have to find each. The linker puts these functions before those of the same
- * names, and the environment's BALLOON_WRONG says which device it is:
+/* Devices that are wrong on purpose: tests have to find each. The linker puts these functions
+ * before those of the same names, and the environment's BALLOON_WRONG says which device it is:
  *
  *     1  discards the page after the one that an inflate names
  *     2  gives a chain back by another id
@@ -14,7 +14,16 @@
 #include <stdlib.h>
 #include <time.h>
 
-enum { NEXT_PAGE = 1, OTHER_ID, LATE, BY_TWO, KEEPS, MOST_LATE = 65536, LATE_BY = 500, LOOK_EVERY = 20 };
+enum {
+    NEXT_PAGE = 1,
+    OTHER_ID,
+    LATE,
+    BY_TWO,
+    KEEPS,
+    MOST_LATE = 65536,
+    LATE_BY = 500,
+    LOOK_EVERY = 20
+};
 
 const struct guest_memory *wrong_memory;
 
@@ -22,8 +31,10 @@ static VbRun late_runs[MOST_LATE];
 static unsigned late_count;
 static int64_t late_at;
 
-uint32_t __real_vb_begin(VbNotice *, VbBalloon *, const VbRegion *, size_t, VbRoom *, uint32_t, uint32_t, uint32_t, uint32_t);
-uint32_t __wrap_vb_begin(VbNotice *, VbBalloon *, const VbRegion *, size_t, VbRoom *, uint32_t, uint32_t, uint32_t, uint32_t);
+uint32_t __real_vb_begin(VbNotice *, VbBalloon *, const VbRegion *, size_t, VbRoom *, uint32_t,
+                         uint32_t, uint32_t, uint32_t);
+uint32_t __wrap_vb_begin(VbNotice *, VbBalloon *, const VbRegion *, size_t, VbRoom *, uint32_t,
+                         uint32_t, uint32_t, uint32_t);
 uint32_t __real_vb_give_held(VbNotice *, VbBalloon *, const VbRegion *, size_t, VbRoom *, uint32_t);
 uint32_t __wrap_vb_give_held(VbNotice *, VbBalloon *, const VbRegion *, size_t, VbRoom *, uint32_t);
 uint32_t __real_vb_go_on(VbNotice *, VbBalloon *, const VbRegion *, size_t, VbRoom *, uint16_t);
@@ -67,9 +78,11 @@ static void spoil(VbNotice *notice, VbRoom *room)
     notice->used_index = (uint16_t)(notice->used_index + (wrong() == BY_TWO));
 }
 
-static uint32_t whole, left; /* what the library says is to be done, and what of it isn't handed over yet */
+static uint32_t whole,
+    left; /* what the library says is to be done, and what of it isn't handed over yet */
 
-/* Hands over what comes before a chain is given back, and then the rest, so that the audit looks between them. */
+/* Hands over what comes before a chain is given back, and then the rest, so that the audit looks
+ * between them. */
 static uint32_t hand_over(VbNotice *notice)
 {
     uint32_t before = left & (VB_GIVE_BACK - 1);
@@ -87,22 +100,23 @@ static uint32_t begin(VbNotice *notice, VbRoom *room)
     return hand_over(notice);
 }
 
-uint32_t __wrap_vb_begin(VbNotice *notice, VbBalloon *balloon, const VbRegion *regions, size_t count, VbRoom *room,
-                         uint32_t kind, uint32_t chains, uint32_t pages, uint32_t keeps)
+uint32_t __wrap_vb_begin(VbNotice *notice, VbBalloon *balloon, const VbRegion *regions,
+                         size_t count, VbRoom *room, uint32_t kind, uint32_t chains, uint32_t pages,
+                         uint32_t keeps)
 {
     __real_vb_begin(notice, balloon, regions, count, room, kind, chains, pages, keeps);
     return begin(notice, room);
 }
 
-uint32_t __wrap_vb_give_held(VbNotice *notice, VbBalloon *balloon, const VbRegion *regions, size_t count, VbRoom *room,
-                             uint32_t kind)
+uint32_t __wrap_vb_give_held(VbNotice *notice, VbBalloon *balloon, const VbRegion *regions,
+                             size_t count, VbRoom *room, uint32_t kind)
 {
     __real_vb_give_held(notice, balloon, regions, count, room, kind);
     return begin(notice, room);
 }
 
-uint32_t __wrap_vb_go_on(VbNotice *notice, VbBalloon *balloon, const VbRegion *regions, size_t count, VbRoom *room,
-                         uint16_t answer)
+uint32_t __wrap_vb_go_on(VbNotice *notice, VbBalloon *balloon, const VbRegion *regions,
+                         size_t count, VbRoom *room, uint16_t answer)
 {
     if (left)
         return hand_over(notice);

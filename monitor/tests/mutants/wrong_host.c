@@ -1,5 +1,5 @@
-/* Hosts that are wrong on purpose: tests have to find each. The linker puts these functions before those of the same
- * names, and the environment's HOST_WRONG says which host it is:
+/* Hosts that are wrong on purpose: tests have to find each. The linker puts these functions before
+ * those of the same names, and the environment's HOST_WRONG says which host it is:
  *
  *     1  asks each guest for the same
  *     2  asks each guest for what the guest before it should give
@@ -19,14 +19,29 @@
 #include <stdlib.h>
 #include <string.h>
 
-enum { EVENLY = 1, NEIGHBOURS, NO_FLOOR, COUNTS_DEAD, OLD_FLOOR = 7, LOWERS_EARLY = 9, GRANTS_EARLY, NONE_AHEAD, KEEPS_NONE, GRANTS_MORE };
+enum {
+    EVENLY = 1,
+    NEIGHBOURS,
+    NO_FLOOR,
+    COUNTS_DEAD,
+    OLD_FLOOR = 7,
+    LOWERS_EARLY = 9,
+    GRANTS_EARLY,
+    NONE_AHEAD,
+    KEEPS_NONE,
+    GRANTS_MORE
+};
 
-VbTargets __real_vb_guest_targets(const VbBudget *, const VbHostGuest *, size_t, VbShare *, size_t, VbNeed *, size_t, uint32_t *, size_t);
-VbTargets __wrap_vb_guest_targets(const VbBudget *, const VbHostGuest *, size_t, VbShare *, size_t, VbNeed *, size_t, uint32_t *, size_t);
-uint32_t __real_vb_needs_guest_targets(const VbBudget *, const VbHostGuest *, size_t, const uint32_t *, size_t, VbNeed *, size_t,
-                                       uint32_t *, size_t);
-uint32_t __wrap_vb_needs_guest_targets(const VbBudget *, const VbHostGuest *, size_t, const uint32_t *, size_t, VbNeed *, size_t,
-                                       uint32_t *, size_t);
+VbTargets __real_vb_guest_targets(const VbBudget *, const VbHostGuest *, size_t, VbShare *, size_t,
+                                  VbNeed *, size_t, uint32_t *, size_t);
+VbTargets __wrap_vb_guest_targets(const VbBudget *, const VbHostGuest *, size_t, VbShare *, size_t,
+                                  VbNeed *, size_t, uint32_t *, size_t);
+uint32_t __real_vb_needs_guest_targets(const VbBudget *, const VbHostGuest *, size_t,
+                                       const uint32_t *, size_t, VbNeed *, size_t, uint32_t *,
+                                       size_t);
+uint32_t __wrap_vb_needs_guest_targets(const VbBudget *, const VbHostGuest *, size_t,
+                                       const uint32_t *, size_t, VbNeed *, size_t, uint32_t *,
+                                       size_t);
 VbNeed __real_vb_guest_need(const VbHostGuest *, uint32_t);
 VbNeed __wrap_vb_guest_need(const VbHostGuest *, uint32_t);
 void __real_host_changed(struct host *, enum reason);
@@ -53,7 +68,9 @@ static uint32_t left_by_dead(uint64_t pages, uint32_t frames)
 {
     static uint64_t most;
     most = pages > most ? pages : most;
-    return wrong() != COUNTS_DEAD ? frames : most - pages < frames ? frames - (uint32_t)(most - pages) : 0;
+    return wrong() != COUNTS_DEAD  ? frames
+           : most - pages < frames ? frames - (uint32_t)(most - pages)
+                                   : 0;
 }
 
 static uint32_t floor_of(uint32_t floor)
@@ -83,12 +100,14 @@ static VbBudget changed(const VbBudget *budget, const VbHostGuest *guests, size_
     return other;
 }
 
-VbTargets __wrap_vb_guest_targets(const VbBudget *budget, const VbHostGuest *guests, size_t count, VbShare *shares,
-                                  size_t shares_room, VbNeed *needs, size_t needs_room, uint32_t *targets, size_t room)
+VbTargets __wrap_vb_guest_targets(const VbBudget *budget, const VbHostGuest *guests, size_t count,
+                                  VbShare *shares, size_t shares_room, VbNeed *needs,
+                                  size_t needs_room, uint32_t *targets, size_t room)
 {
     uint64_t sum = 0;
     VbBudget other = changed(budget, guests, count);
-    VbTargets answer = __real_vb_guest_targets(&other, guests, count, shares, shares_room, needs, needs_room, targets, room);
+    VbTargets answer = __real_vb_guest_targets(&other, guests, count, shares, shares_room, needs,
+                                               needs_room, targets, room);
     if (answer.code != VB_OK || count == 0)
         return answer;
     for (size_t i = 0; i < count; i++)
@@ -103,11 +122,14 @@ VbTargets __wrap_vb_guest_targets(const VbBudget *budget, const VbHostGuest *gue
     return answer;
 }
 
-uint32_t __wrap_vb_needs_guest_targets(const VbBudget *budget, const VbHostGuest *guests, size_t count, const uint32_t *old,
-                                       size_t old_count, VbNeed *needs, size_t needs_room, uint32_t *rests, size_t rests_room)
+uint32_t __wrap_vb_needs_guest_targets(const VbBudget *budget, const VbHostGuest *guests,
+                                       size_t count, const uint32_t *old, size_t old_count,
+                                       VbNeed *needs, size_t needs_room, uint32_t *rests,
+                                       size_t rests_room)
 {
     VbBudget other = changed(budget, guests, count);
-    return __real_vb_needs_guest_targets(&other, guests, count, old, old_count, needs, needs_room, rests, rests_room);
+    return __real_vb_needs_guest_targets(&other, guests, count, old, old_count, needs, needs_room,
+                                         rests, rests_room);
 }
 
 void __wrap_host_changed(struct host *host, enum reason reason)
@@ -124,7 +146,8 @@ void __wrap_limits_follow(struct host *host)
     memcpy(loans, host->loans, sizeof loans);
     for (unsigned i = 0; i < host->count && wrong() == LOWERS_EARLY; i++) {
         VbLoan *loan = &host->loans[host->seats[i]->place];
-        uint32_t asked = host->seats[i]->told > loan->ballooned ? host->seats[i]->told - loan->ballooned : 0;
+        uint32_t asked =
+            host->seats[i]->told > loan->ballooned ? host->seats[i]->told - loan->ballooned : 0;
         loan->lent -= asked < loan->lent ? asked : loan->lent;
     }
     __real_limits_follow(host);
@@ -151,5 +174,6 @@ void __wrap_loan_take_in(struct seat *seat, uint32_t pages)
 
 VbGrant __wrap_vb_loan_grant(uint32_t frames, VbLoan *loans, size_t count)
 {
-    return __real_vb_loan_grant(frames + (wrong() == GRANTS_MORE ? PAGES_PER_MIB : 0), loans, count);
+    return __real_vb_loan_grant(frames + (wrong() == GRANTS_MORE ? PAGES_PER_MIB : 0), loans,
+                                count);
 }

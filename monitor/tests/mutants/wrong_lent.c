@@ -1,9 +1,9 @@
-/* Guests' processes that are wrong on purpose: tests have to find each. The linker puts these functions before those of the same
- * names, and the environment's HOST_WRONG says which one it is:
+/* Guests' processes that are wrong on purpose: tests have to find each. The linker puts these
+ * functions before those of the same names, and the environment's HOST_WRONG says which one it is:
  *
  *     5  counts all pages of a deflate that ends below the target as taken
- *     8  a region that comes back has the pages in the balloon that the one before had there
- */
+ *     8  a region that comes back has the pages in the balloon that the one before had
+  * there */
 #include "../../backends/guest/lent.h"
 
 #include <stdlib.h>
@@ -37,7 +37,8 @@ bool __wrap_marks_follow(struct backend *backend, struct marks *marks, uint64_t 
     bool made = __real_marks_follow(backend, marks, end);
     size_t now = backend->balloon.ballooned_words;
     if (set)
-        memcpy(marks->set, set, (now < words ? now : words) * sizeof *set), backend->ballooned = ballooned;
+        memcpy(marks->set, set, (now < words ? now : words) * sizeof *set),
+            backend->ballooned = ballooned;
     free(set);
     return made;
 }

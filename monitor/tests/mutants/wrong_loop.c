@@ -1,12 +1,13 @@
-/* Event loops that are wrong on purpose: tools/test vhost-user and tools/test host have to find each, by one test of its own. The linker puts these
- * functions before those of the same names, and the environment's LOOP_WRONG names the one that it is:
+/* Event loops that are wrong on purpose: tools/test vhost-user and tools/test host have to find
+ * each, by one test of its own. The linker puts these functions before those of the same names, and
+ * the environment's LOOP_WRONG names the one that it is:
  *
  *     no-hang-up        a file of which nothing but its end has come isn't served
  *     one-moment        of all moments that come one alone is waited for, the first
  *     last-first        what was waited for last is served first, and alone
  *     late-removal      a file that isn't waited for any longer is waited for in one more turn
- *     old-number        what serves a file is what served the first one that had its number
- */
+ *     old-number        what serves a file is what served the first one that had its
+  * number */
 #define _GNU_SOURCE
 #include "../../backends/loop/loop.h"
 
@@ -23,12 +24,13 @@ struct wait {
     void *context;
 };
 
-/* What the first loop of the process waits for, in this turn and in the one before, and what each number of a file was waited for by first. */
+/* What the first loop of the process waits for, in this turn and in the one before, and what each
+ * number of a file was waited for by first. */
 static struct {
     struct loop *loop;
     struct wait now[MOST_POLLED], before[MOST_POLLED], first[MOST_NUMBER];
     unsigned count, count_before;
-    bool came;                  /* a moment has come */
+    bool came; /* a moment has come */
 } waits;
 
 static bool is(const char *name)
@@ -39,8 +41,10 @@ static bool is(const char *name)
 
 int __real_poll_some(struct pollfd *files, nfds_t count, int limit);
 int __wrap_poll_some(struct pollfd *files, nfds_t count, int limit);
-void __real_loop_wait_for(struct loop *loop, int file, short events, loop_serve *serve, void *context);
-void __wrap_loop_wait_for(struct loop *loop, int file, short events, loop_serve *serve, void *context);
+void __real_loop_wait_for(struct loop *loop, int file, short events, loop_serve *serve,
+                          void *context);
+void __wrap_loop_wait_for(struct loop *loop, int file, short events, loop_serve *serve,
+                          void *context);
 void __real_loop_wait_until(struct loop *loop, int64_t moment);
 void __wrap_loop_wait_until(struct loop *loop, int64_t moment);
 
@@ -55,7 +59,8 @@ static struct wait as_waited(struct wait wait)
     return (struct wait){wait.file, wait.events, first->serve, first->context};
 }
 
-void __wrap_loop_wait_for(struct loop *loop, int file, short events, loop_serve *serve, void *context)
+void __wrap_loop_wait_for(struct loop *loop, int file, short events, loop_serve *serve,
+                          void *context)
 {
     struct wait wait = {file, events, serve, context};
     waits.loop = waits.loop ? waits.loop : loop;

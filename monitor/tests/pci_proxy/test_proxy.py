@@ -11,8 +11,23 @@ import time
 import pytest
 import linux_kit
 from pci_client import (
-    ACCEPTED, ACCEPT_SELECT, BAR_READ, BUFFERS, CONFIGURATION_WRITE, DEVICE, DEVICE_RESET, ISR, NOTIFY, OFFERED, PAGE,
-    PAGES, QUEUES, QUEUE_SIZE, SET_INTERRUPT, STATUS, SYNC_MEMORY,
+    ACCEPTED,
+    ACCEPT_SELECT,
+    BAR_READ,
+    BUFFERS,
+    CONFIGURATION_WRITE,
+    DEVICE,
+    DEVICE_RESET,
+    ISR,
+    NOTIFY,
+    OFFERED,
+    PAGE,
+    PAGES,
+    QUEUES,
+    QUEUE_SIZE,
+    SET_INTERRUPT,
+    STATUS,
+    SYNC_MEMORY,
 )
 from vhost_client import NO_NUMBERS
 from waiting import PATIENCE, patience_from_now
@@ -21,14 +36,25 @@ from waiting import PATIENCE, patience_from_now
 def test_configuration_space(client):
     assert (client.configuration(0), client.configuration(0x2C)) == (0x10451AF4, 0x11401AF4)
     # The command, not the status beside it; the cache line's size and the timer, not the kind of header; the base; the line, not the pin.
-    for at, left in ((4, 0x10FFFF), (0x0C, 0xFFFF), (0x10, 0xFFFFC000), (0x3C, 0x1FF), (0x34, 0x40), (0x2C, 0x11401AF4)):
+    for at, left in (
+        (4, 0x10FFFF),
+        (0x0C, 0xFFFF),
+        (0x10, 0xFFFFC000),
+        (0x3C, 0x1FF),
+        (0x34, 0x40),
+        (0x2C, 0x11401AF4),
+    ):
         client.ask(CONFIGURATION_WRITE, struct.pack("<III", at, 0xFFFFFFFF, 4))
         assert client.configuration(at) == left, hex(at)
     client.ask(CONFIGURATION_WRITE, struct.pack("<III", 0x0D, 0, 4))
     client.ask(CONFIGURATION_WRITE, struct.pack("<III", 0x0E, 0xC0FFFFFF, 4))
     assert (client.configuration(0x0C), client.configuration(0x10)) == (0xFF, 0xFFFFC000)
     client.ask(CONFIGURATION_WRITE, struct.pack("<III", 0, 0, 4))
-    assert (client.configuration(0), client.configuration(254), client.configuration(1 << 31)) == (0x10451AF4, 0, 0)
+    assert (client.configuration(0), client.configuration(254), client.configuration(1 << 31)) == (
+        0x10451AF4,
+        0,
+        0,
+    )
 
 
 def test_start(client):
@@ -59,7 +85,11 @@ def test_what_is_left_as_the_driver_gets_ready_is_served(client):
     size = 256
     client.negotiate()
     client.place(1, size)
-    os.pwrite(client.memory, b"".join(struct.pack("<QIHH", BUFFERS, 4, 0, 0) for _ in range(size)), 3 * PAGE)
+    os.pwrite(
+        client.memory,
+        b"".join(struct.pack("<QIHH", BUFFERS, 4, 0, 0) for _ in range(size)),
+        3 * PAGE,
+    )
     os.pwrite(client.memory, struct.pack("<I", 20), BUFFERS)
     os.pwrite(client.memory, struct.pack(f"<HH{size}H", 1, size, *range(size)), 4 * PAGE)
     client.write(STATUS, 15)
@@ -82,7 +112,9 @@ def test_inflate(client):
     client.start()
     client.post(0, [40, 41, 50])
     assert client.backend.counters()["inflated"] == 3
-    holes = [it for it in range(PAGES) if os.lseek(client.memory, it * PAGE, os.SEEK_HOLE) == it * PAGE]
+    holes = [
+        it for it in range(PAGES) if os.lseek(client.memory, it * PAGE, os.SEEK_HOLE) == it * PAGE
+    ]
     assert holes == [40, 41, 50]
     assert os.pread(client.memory, 12, 2 * PAGE) == struct.pack("<HHII", 0, 1, 0, 0)
     assert os.eventfd_read(client.interrupt) == 1
@@ -113,7 +145,9 @@ def demand_refused(client, words):
     assert said.startswith("refused: ") and words in said, said
 
 
-@pytest.mark.parametrize("words, pages, by", (("(rule 9)", [PAGES], 1), ("(rule 7)", [40], QUEUE_SIZE + 1)))
+@pytest.mark.parametrize(
+    "words, pages, by", (("(rule 9)", [PAGES], 1), ("(rule 7)", [40], QUEUE_SIZE + 1))
+)
 def test_rules(serve, words, pages, by):
     client = serve()
     client.start()
@@ -121,18 +155,24 @@ def test_rules(serve, words, pages, by):
     demand_refused(client, words)
 
 
-@pytest.mark.parametrize("words, command, body", (
-    ("message 8 is unknown", 8, b""),
-    ("no message", BAR_READ, bytes(300)),
-    ("an interrupt without a file", SET_INTERRUPT, b""),
-))
+@pytest.mark.parametrize(
+    "words, command, body",
+    (
+        ("message 8 is unknown", 8, b""),
+        ("no message", BAR_READ, bytes(300)),
+        ("an interrupt without a file", SET_INTERRUPT, b""),
+    ),
+)
 def test_messages(serve, words, command, body):
     client = serve()
     client.send(command, body)
     demand_refused(client, words)
 
 
-@pytest.mark.parametrize("make", (lambda: socket.socket(socket.AF_INET).detach(), lambda: os.open("/dev/null", os.O_RDWR)))
+@pytest.mark.parametrize(
+    "make",
+    (lambda: socket.socket(socket.AF_INET).detach(), lambda: os.open("/dev/null", os.O_RDWR)),
+)
 def test_an_interrupt_that_is_no_event(serve, make):
     client, file = serve(), make()
     client.send(SET_INTERRUPT, files=[file])
@@ -176,7 +216,13 @@ def test_place(serve):
 
 def test_help_and_version(program):
     for word, said in (("--help", "pci_proxy_balloon FD ["), ("--version", "pci_proxy_balloon ")):
-        ran = subprocess.run([program, word], stdin=subprocess.DEVNULL, capture_output=True, text=True, timeout=PATIENCE)
+        ran = subprocess.run(
+            [program, word],
+            stdin=subprocess.DEVNULL,
+            capture_output=True,
+            text=True,
+            timeout=PATIENCE,
+        )
         assert (ran.returncode, ran.stderr, ran.stdout[: len(said)]) == (0, "", said)
 
 
@@ -187,25 +233,43 @@ def test_a_signal_ends_it(serve):
     assert client.close() == (0, "")
 
 
-@pytest.mark.parametrize("words", ([], *([it] for it in NO_NUMBERS), ["4294967296"], ["0", "1"], ["0", "--features", "8"]))
+@pytest.mark.parametrize(
+    "words",
+    ([], *([it] for it in NO_NUMBERS), ["4294967296"], ["0", "1"], ["0", "--features", "8"]),
+)
 def test_command_lines(program, words):
-    ran = subprocess.run([program, *words], stdin=subprocess.DEVNULL, capture_output=True, timeout=PATIENCE)
+    ran = subprocess.run(
+        [program, *words], stdin=subprocess.DEVNULL, capture_output=True, timeout=PATIENCE
+    )
     assert (ran.returncode, ran.stdout) == (2, b"")
 
 
 def step(chance, client):
     """Does something random."""
     if chance.random() < 0.3:
-        os.pwrite(client.memory, chance.randbytes(16), chance.randrange(12) * PAGE + chance.randrange(64))
-        client.post(chance.randrange(4), [chance.randrange(PAGES + 2) for _ in range(chance.randint(1, 9))])
-    at = chance.choice((chance.randrange(56), NOTIFY + 4 * chance.randrange(8), DEVICE + chance.randrange(12), chance.getrandbits(40)))
+        os.pwrite(
+            client.memory, chance.randbytes(16), chance.randrange(12) * PAGE + chance.randrange(64)
+        )
+        client.post(
+            chance.randrange(4), [chance.randrange(PAGES + 2) for _ in range(chance.randint(1, 9))]
+        )
+    at = chance.choice(
+        (
+            chance.randrange(56),
+            NOTIFY + 4 * chance.randrange(8),
+            DEVICE + chance.randrange(12),
+            chance.getrandbits(40),
+        )
+    )
     value = chance.choice((0, 1, 3, 8, 11, 15, 255, chance.getrandbits(64)))
     if at == STATUS and chance.random() < 0.8:
         return
     length = chance.choice((1, 2, 4, 8, chance.getrandbits(32)))
     client.read(at, length) if chance.random() < 0.4 else client.write(at, value, length)
     client.configuration(chance.choice((chance.randrange(300), chance.getrandbits(32))), length)
-    client.ask(CONFIGURATION_WRITE, struct.pack("<III", chance.randrange(300), value & 0xFFFFFFFF, length))
+    client.ask(
+        CONFIGURATION_WRITE, struct.pack("<III", chance.randrange(300), value & 0xFFFFFFFF, length)
+    )
 
 
 @pytest.mark.parametrize("seed", range(150))

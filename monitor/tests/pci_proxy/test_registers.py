@@ -7,8 +7,30 @@ import time
 
 import pytest
 from pci_client import (
-    ACCEPTED, ACCEPT_SELECT, BAR_WRITE, BUFFERS, CONFIGURATION_READ, DEVICE, ENABLE, GENERATION, ISR, MSIX, NOTIFY,
-    NOTIFY_OFF, OFFERED, OFFER_SELECT, PAGE, PAGES, PLACE, QUEUES, QUEUE_MSIX, QUEUE_SIZE, SELECT, SET_INTERRUPT, SIZE, STATUS,
+    ACCEPTED,
+    ACCEPT_SELECT,
+    BAR_WRITE,
+    BUFFERS,
+    CONFIGURATION_READ,
+    DEVICE,
+    ENABLE,
+    GENERATION,
+    ISR,
+    MSIX,
+    NOTIFY,
+    NOTIFY_OFF,
+    OFFERED,
+    OFFER_SELECT,
+    PAGE,
+    PAGES,
+    PLACE,
+    QUEUES,
+    QUEUE_MSIX,
+    QUEUE_SIZE,
+    SELECT,
+    SET_INTERRUPT,
+    SIZE,
+    STATUS,
     SYNC_MEMORY,
 )
 from waiting import patience_from_now
@@ -22,7 +44,9 @@ UNPLACED, ABSENT = [256, 0xFFFF, *[0] * 7], [0] * 9
 def queue(client, number):
     """Selects a queue; returns its size, vector, whether it is enabled, and the halves of its place."""
     client.write(SELECT, number, 2)
-    return [client.read(it, 2) for it in (SIZE, QUEUE_MSIX, ENABLE)] + [client.read(PLACE + it) for it in range(0, 24, 4)]
+    return [client.read(it, 2) for it in (SIZE, QUEUE_MSIX, ENABLE)] + [
+        client.read(PLACE + it) for it in range(0, 24, 4)
+    ]
 
 
 def eventually(condition, words):
@@ -41,7 +65,10 @@ def test_capabilities(client):
         found[kind] = offset, size, client.configuration(at + 16) if kind == NOTIFIES else None
         at = follows
     assert found == {
-        COMMON: (0, 56, None), NOTIFIES: (NOTIFY, 4096, 4), INTERRUPTS: (ISR, 4, None), CONFIGURATION: (DEVICE, 16, None),
+        COMMON: (0, 56, None),
+        NOTIFIES: (NOTIFY, 4096, 4),
+        INTERRUPTS: (ISR, 4, None),
+        CONFIGURATION: (DEVICE, 16, None),
     }
     # A device of no other class, of revision 1, as QEMU's balloon.
     assert client.configuration(8) == 0x00FF0001
@@ -53,7 +80,10 @@ def test_features(client):
         assert (client.read(OFFER_SELECT), client.read(OFFERED)) == (select, offered)
     for select, accepted in ((1, 1), (0, 5), (2, 7), (0xFFFFFFFF, 7)):
         client.write(ACCEPT_SELECT, select), client.write(ACCEPTED, accepted)
-        assert (client.read(ACCEPT_SELECT), client.read(ACCEPTED)) == (select, accepted if select < 2 else 0)
+        assert (client.read(ACCEPT_SELECT), client.read(ACCEPTED)) == (
+            select,
+            accepted if select < 2 else 0,
+        )
     client.write(ACCEPT_SELECT, 0)
     assert (client.read(ACCEPTED), client.read(MSIX, 2), client.read(QUEUES, 2)) == (5, 0xFFFF, 5)
 
@@ -103,7 +133,9 @@ def test_a_reset_ends_what_is_left(client):
     client.negotiate()
     client.place(0, size)
     client.write(STATUS, 15, 1)
-    os.pwrite(client.memory, b"".join(struct.pack("<QIHH", BUFFERS, 4, 0, 0) for _ in range(size)), 0)
+    os.pwrite(
+        client.memory, b"".join(struct.pack("<QIHH", BUFFERS, 4, 0, 0) for _ in range(size)), 0
+    )
     os.pwrite(client.memory, struct.pack("<I", 20), BUFFERS)
     os.pwrite(client.memory, struct.pack(f"<HH{size}H", 1, size, *range(size)), PAGE)
     process = client.backend.process.pid
@@ -139,12 +171,22 @@ def test_the_device_s_configuration(client):
     client.start()
     client.backend.ask(f"target {0x01020304}")
     client.write(DEVICE + 4, 0x05060708)
-    for at, length, value in ((0, 1, 4), (1, 2, 0x0203), (3, 4, 0x06070801), (0, 8, 0x0506070801020304), (4, 4, 0x05060708), (8, 8, 0)):
+    for at, length, value in (
+        (0, 1, 4),
+        (1, 2, 0x0203),
+        (3, 4, 0x06070801),
+        (0, 8, 0x0506070801020304),
+        (4, 4, 0x05060708),
+        (8, 8, 0),
+    ):
         assert client.read(DEVICE + at, length) == value, (at, length)
     for at, length in ((0, 4), (4, 2), (3, 4), (8, 4), (12, 4)):
         client.write(DEVICE + at, 9, length)
         assert client.read(DEVICE, 8) == 0x0506070801020304, (at, length)
-    for at, value, actual in ((4, 9, 9), (0, 0x0708090a00000005, 0x0708090a)):  # covered whole, beside what isn't written
+    for at, value, actual in (
+        (4, 9, 9),
+        (0, 0x0708090A00000005, 0x0708090A),
+    ):  # covered whole, beside what isn't written
         client.write(DEVICE + at, value, 8)
         assert client.read(DEVICE, 8) == actual << 32 | 0x01020304, (at, value)
 
@@ -160,7 +202,10 @@ def test_interrupts(client):
     assert (client.read(GENERATION, 1), os.eventfd_read(client.interrupt)) == (1, 2)
     # A read clears it; a driver that looks by itself gets another one.
     eventually(lambda: client.read(ISR, 1) == 0, "a read doesn't clear the interrupts")
-    eventually(lambda: time.sleep(0.1) or client.read(ISR, 1) == 1, "a driver that looks by itself finds nothing")
+    eventually(
+        lambda: time.sleep(0.1) or client.read(ISR, 1) == 1,
+        "a driver that looks by itself finds nothing",
+    )
 
 
 def test_memory_in_two_regions(client):
@@ -173,7 +218,9 @@ def test_memory_in_two_regions(client):
     client.post(0, [20, 100 + 8, 100 + half - 1])
     counters = client.backend.counters()
     assert [counters[it] for it in ("end", "inflated", "discarded")] == [100 + half, 3, 3]
-    holes = [it for it in range(PAGES) if os.lseek(client.memory, it * PAGE, os.SEEK_HOLE) == it * PAGE]
+    holes = [
+        it for it in range(PAGES) if os.lseek(client.memory, it * PAGE, os.SEEK_HOLE) == it * PAGE
+    ]
     assert holes == [20, half + 8, PAGES - 1]
 
 
@@ -200,10 +247,16 @@ def test_memory_that_cannot_be_mapped(serve, regions):
     assert client.close() == (1, "refused: the guest's memory can't be mapped")
 
 
-@pytest.mark.parametrize("size, said", ((256, (0, "")), (257, (1, "refused: the client's bytes are no message"))))
+@pytest.mark.parametrize(
+    "size, said", ((256, (0, "")), (257, (1, "refused: the client's bytes are no message")))
+)
 def test_the_longest_message(serve, size, said):
     client = serve()
-    client.send(SYNC_MEMORY, struct.pack("<24Q", *[0] * 8, 32 * PAGE, *[0] * 15).ljust(size, b"\0"), [client.memory])
+    client.send(
+        SYNC_MEMORY,
+        struct.pack("<24Q", *[0] * 8, 32 * PAGE, *[0] * 15).ljust(size, b"\0"),
+        [client.memory],
+    )
     if size == 256:
         assert (client.read(STATUS), client.backend.counters()["end"]) == (0, 32)
     assert client.close() == said

@@ -56,7 +56,9 @@ SMALLEST = (
 
 @pytest.mark.parametrize(("budgets", "steps", "limit", "pages"), SMALLEST)
 def test_smallest_budget(shared, day, budgets, steps, limit, pages):
-    found = plan(shared, day, "--budgets", budgets, "--steps", str(steps), "--wait-seconds", str(limit))
+    found = plan(
+        shared, day, "--budgets", budgets, "--steps", str(steps), "--wait-seconds", str(limit)
+    )
     assert found["budget"] == (None if pages is None else pages * 4096)
     assert found["wait_seconds"] == limit
 
@@ -76,25 +78,63 @@ def test_the_smallest_has_none_above_it_that_fails():
 
 def test_an_object(shared, day):
     found = plan(shared, day, "--budgets", "600K")
-    assert found["replays"] == [{
-        "budget": 614400, "promised": 819200, "guests": 2, "present": 60.0, "waited": 10.0, "waited_share": 1 / 6, "waited_a_day": 14400.0,
-        "asks": 2, "asks_that_waited": 1, "median": 0.0, "p99": 10.0, "worst": 10.0, "worst_guest": "a", "worst_guest_waited": 10.0,
-        "shorts": 1, "short_seconds": 10.0, "short_by": 81920, "moved": 614400, "decisions": 7,
-    }]
+    assert found["replays"] == [
+        {
+            "budget": 614400,
+            "promised": 819200,
+            "guests": 2,
+            "present": 60.0,
+            "waited": 10.0,
+            "waited_share": 1 / 6,
+            "waited_a_day": 14400.0,
+            "asks": 2,
+            "asks_that_waited": 1,
+            "median": 0.0,
+            "p99": 10.0,
+            "worst": 10.0,
+            "worst_guest": "a",
+            "worst_guest_waited": 10.0,
+            "shorts": 1,
+            "short_seconds": 10.0,
+            "short_by": 81920,
+            "moved": 614400,
+            "decisions": 7,
+        }
+    ]
 
 
 def test_a_table(shared, day):
     lines = run(day, "--library", shared, "--floor", "0", "--budgets", "600K").splitlines()
     assert lines[0] == "2 guests, 0.8 MiB promised at once, 0.0 hours of guests"
-    assert lines[3].split() == ["0.6", "1.33", "16.667%", "14400.0", "0.0", "10.0", "10.0", "1", "10", "0.1", "0.6"]
+    assert lines[3].split() == [
+        "0.6",
+        "1.33",
+        "16.667%",
+        "14400.0",
+        "0.0",
+        "10.0",
+        "10.0",
+        "1",
+        "10",
+        "0.1",
+        "0.6",
+    ]
     assert lines[-1] == "none of these budgets keeps the waits to 60 s a guest and day"
-    lines = run(day, "--library", shared, "--floor", "0", "--budgets", "680K..800K", "--steps", "1").splitlines()
-    assert lines[-1] == "budget 1M: 0.0 s a guest and day are waited; 1.18 times as much is promised"
+    lines = run(
+        day, "--library", shared, "--floor", "0", "--budgets", "680K..800K", "--steps", "1"
+    ).splitlines()
+    assert (
+        lines[-1] == "budget 1M: 0.0 s a guest and day are waited; 1.18 times as much is promised"
+    )
 
 
 def test_a_day_that_is_made_is_the_same_for_a_seed(tmp_path, shared):
     made = run("--make", "5", "--seed", "3", "--hours", "2")
-    assert made == run("--make", "5", "--seed", "3", "--hours", "2") != run("--make", "5", "--seed", "4", "--hours", "2")
+    assert (
+        made
+        == run("--make", "5", "--seed", "3", "--hours", "2")
+        != run("--make", "5", "--seed", "4", "--hours", "2")
+    )
     path = tmp_path / "made.csv"
     path.write_text(made)
     assert plan(shared, str(path), "--steps", "4")["replays"][-1]["waited"] == 0.0
@@ -102,7 +142,9 @@ def test_a_day_that_is_made_is_the_same_for_a_seed(tmp_path, shared):
 
 @pytest.mark.parametrize("kind", ("svg", "png"))
 def test_a_picture(tmp_path, shared, day, kind):
-    if subprocess.run(["/usr/bin/python3", "-c", "import matplotlib"], capture_output=True, timeout=PATIENCE).returncode:
+    if subprocess.run(
+        ["/usr/bin/python3", "-c", "import matplotlib"], capture_output=True, timeout=PATIENCE
+    ).returncode:
         pytest.skip("matplotlib isn't there: apt-get install python3-matplotlib")
     path = tmp_path / f"plan.{kind}"
     run(day, "--library", shared, "--draw", str(path))
@@ -121,7 +163,10 @@ MISSING = {
 @pytest.mark.parametrize("module", MISSING)
 def test_a_package_that_is_missing(tmp_path, day, module):
     (tmp_path / f"{module}.py").write_text("raise ImportError\n")
-    assert run(day, "--draw", "plan.svg", status=2, path=f"{tmp_path}:{CLIENT}") == f"bigvasta: {MISSING[module]}\n"
+    assert (
+        run(day, "--draw", "plan.svg", status=2, path=f"{tmp_path}:{CLIENT}")
+        == f"bigvasta: {MISSING[module]}\n"
+    )
 
 
 # Words of a command line that is refused, and what it says.
@@ -137,8 +182,14 @@ REFUSED = (
     (("DAY", "--budgets", "2G..1G"), "--budgets: '2G..1G' ends before it begins"),
     (("DAY", "--budgets", "0K..1G"), "--budgets: '0K' isn't from 4K on and below 16T"),
     (("DAY", "--budgets", "1G..16T"), "--budgets: '16T' isn't from 4K on and below 16T"),
-    (("DAY", "--budgets", "many"), "--budgets: 'many' is no size: a number with K, M, G or T, in pages of 4K, such as 480M"),
-    (("DAY", "--floor", "3"), "--floor: '3' is no size: a number with K, M, G or T, in pages of 4K, such as 480M"),
+    (
+        ("DAY", "--budgets", "many"),
+        "--budgets: 'many' is no size: a number with K, M, G or T, in pages of 4K, such as 480M",
+    ),
+    (
+        ("DAY", "--floor", "3"),
+        "--floor: '3' is no size: a number with K, M, G or T, in pages of 4K, such as 480M",
+    ),
     (("none.csv",), "none.csv: No such file or directory"),
     (("\x1b[2J.csv",), "\\x1b[2J.csv: No such file or directory"),
 )
@@ -151,10 +202,30 @@ def test_refusals(day, words, said):
 
 def test_what_is_no_library(tmp_path, day, shared):
     (tmp_path / "libvb.so").write_text("no library")
-    assert run(day, "--library", f"{tmp_path}/libvb.so", status=2).startswith(f"bigvasta: plan: {tmp_path}/libvb.so is no library of vb.h: ")
+    assert run(day, "--library", f"{tmp_path}/libvb.so", status=2).startswith(
+        f"bigvasta: plan: {tmp_path}/libvb.so is no library of vb.h: "
+    )
     program = "import bigvasta.plan.library as it; it.VERSION += 256; it.load({!r})".format(shared)
-    ran = subprocess.run(["/usr/bin/python3", "-B", "-c", program], capture_output=True, text=True, timeout=PATIENCE, env={**os.environ, "PYTHONPATH": CLIENT})
-    assert f"Usage: plan: {shared} has version {VERSION:#08x}, and {VERSION + 256:#08x} is wanted\n" in ran.stderr
+    ran = subprocess.run(
+        ["/usr/bin/python3", "-B", "-c", program],
+        capture_output=True,
+        text=True,
+        timeout=PATIENCE,
+        env={**os.environ, "PYTHONPATH": CLIENT},
+    )
+    assert (
+        f"Usage: plan: {shared} has version {VERSION:#08x}, and {VERSION + 256:#08x} is wanted\n"
+        in ran.stderr
+    )
     program = "import bigvasta.plan.library as it; it.PLACES = (); it.load()"
-    ran = subprocess.run(["/usr/bin/python3", "-B", "-c", program], capture_output=True, text=True, timeout=PATIENCE, env={**os.environ, "PYTHONPATH": CLIENT})
-    assert "Usage: plan: the library isn't there: make -C monitor shared makes it, --library FILE names another\n" in ran.stderr
+    ran = subprocess.run(
+        ["/usr/bin/python3", "-B", "-c", program],
+        capture_output=True,
+        text=True,
+        timeout=PATIENCE,
+        env={**os.environ, "PYTHONPATH": CLIENT},
+    )
+    assert (
+        "Usage: plan: the library isn't there: make -C monitor shared makes it, --library FILE names another\n"
+        in ran.stderr
+    )

@@ -11,7 +11,9 @@ PAGE = 4096
 
 def test_what_is_read(tmp_path):
     path = tmp_path / "day.csv"
-    path.write_text("seconds,guest,available,size\n5,b,4096,8192\n0,a,8192,8192\n7.5,a,8192,8192\n8,a,1,8192\n9,b,0,8192\n10,a,0,8192\n")
+    path.write_text(
+        "seconds,guest,available,size\n5,b,4096,8192\n0,a,8192,8192\n7.5,a,8192,8192\n8,a,1,8192\n9,b,0,8192\n10,a,0,8192\n"
+    )
     assert read(str(path)).guests == (
         Recorded("a", 2, (Use(0.0, 0), Use(8.0, 2)), 10.0),
         Recorded("b", 2, (Use(5.0, 1), Use(9.0, 2)), 9.0),
@@ -30,11 +32,20 @@ HEAD = "guest,seconds,size,used\na,1,8192,4096\n"
 REFUSED = (
     ("", ": there are no rows"),
     ("guest,seconds,size,used\n", ": there are no rows"),
-    ("guest,seconds,size,used,load\n", ":1: the column 'load' is none of guest, seconds, size, used, available"),
+    (
+        "guest,seconds,size,used,load\n",
+        ":1: the column 'load' is none of guest, seconds, size, used, available",
+    ),
     ("guest,seconds,size,size,used\n", ":1: the column size is there twice"),
     ("guest,seconds,used\n", ":1: there is no column size"),
-    ("guest,seconds,size\n", ":1: there has to be a column used or a column available, and not neither"),
-    ("guest,seconds,size,used,available\n", ":1: there has to be a column used or a column available, and not both"),
+    (
+        "guest,seconds,size\n",
+        ":1: there has to be a column used or a column available, and not neither",
+    ),
+    (
+        "guest,seconds,size,used,available\n",
+        ":1: there has to be a column used or a column available, and not both",
+    ),
     (HEAD + "a,,8192,4096\n", ":3: seconds is empty"),
     (HEAD + ",2,8192,4096\n", ":3: guest is empty"),
     (HEAD + "a,2,,4096\n", ":3: size is empty"),
@@ -48,13 +59,22 @@ REFUSED = (
     (HEAD + "b,noon,8192,4096\n", ":3: seconds: 'noon' is no time in seconds from 0 on"),
     (HEAD + "b,2,0,0\n", ":3: size is 0"),
     (HEAD + "b,2,8191,0\n", ":3: size: 8191 isn't whole pages of 4096 bytes, below 2^32 of them"),
-    (HEAD + f"b,2,{PAGE << 32},0\n", f":3: size: {PAGE << 32} isn't whole pages of 4096 bytes, below 2^32 of them"),
+    (
+        HEAD + f"b,2,{PAGE << 32},0\n",
+        f":3: size: {PAGE << 32} isn't whole pages of 4096 bytes, below 2^32 of them",
+    ),
     (HEAD + "b,2,8K,0\n", ":3: size: '8K' is no number of bytes"),
     (HEAD + "b,2,8192,-1\n", ":3: used: '-1' is no number of bytes"),
     (HEAD + "b,2,8192,8193\n", ":3: used is 8193, above size, which is 8192"),
-    (HEAD.replace("used", "available") + "a,2,8192,8193\n", ":3: available is 8193, above size, which is 8192"),
+    (
+        HEAD.replace("used", "available") + "a,2,8192,8193\n",
+        ":3: available is 8193, above size, which is 8192",
+    ),
     (HEAD + "a,2,12288,4096\n", ":3: size: a had 8192 bytes before, and 12288 now"),
-    (HEAD + "a,2,8192,0\nb,2,8192,0\n", ":4: b has this row alone: a guest's last row says when it goes"),
+    (
+        HEAD + "a,2,8192,0\nb,2,8192,0\n",
+        ":4: b has this row alone: a guest's last row says when it goes",
+    ),
 )
 
 
@@ -68,7 +88,10 @@ def test_refusals(tmp_path, text, words):
     assert refused.value.status == 2
 
 
-@pytest.mark.parametrize(("content", "words"), ((b"guest,\xff\n", "this is no CSV in UTF-8: "), (b'guest,"a\n', "this is no CSV in UTF-8: ")))
+@pytest.mark.parametrize(
+    ("content", "words"),
+    ((b"guest,\xff\n", "this is no CSV in UTF-8: "), (b'guest,"a\n', "this is no CSV in UTF-8: ")),
+)
 def test_what_is_no_csv(tmp_path, content, words):
     path = tmp_path / "day.csv"
     path.write_bytes(content)

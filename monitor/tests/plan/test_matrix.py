@@ -7,13 +7,28 @@ from bigvasta.plan.days import Recorded, Use
 from bigvasta.plan.reading import read
 from bigvasta.statuses import Usage
 
-METRICS = {"size": "bigvasta_guest_memory_bytes", "available": "bigvasta_guest_available_bytes", "ballooned": "bigvasta_guest_ballooned_bytes"}
+METRICS = {
+    "size": "bigvasta_guest_memory_bytes",
+    "available": "bigvasta_guest_available_bytes",
+    "ballooned": "bigvasta_guest_ballooned_bytes",
+}
 
 
 def series(guest, cell, *values, **labels):
     """Returns a series, as an answer has it: of values from 100 on, 15 seconds apart, or of pairs."""
-    pairs = [it if isinstance(it, list) else [100 + 15 * number, str(it)] for number, it in enumerate(values)]
-    return {"metric": {"__name__": METRICS.get(cell, cell), "guest": guest, "job": "bigvasta", **labels}, "values": pairs}
+    pairs = [
+        it if isinstance(it, list) else [100 + 15 * number, str(it)]
+        for number, it in enumerate(values)
+    ]
+    return {
+        "metric": {
+            "__name__": METRICS.get(cell, cell),
+            "guest": guest,
+            "job": "bigvasta",
+            **labels,
+        },
+        "values": pairs,
+    }
 
 
 def guest(name, rows, **labels):
@@ -23,13 +38,18 @@ def guest(name, rows, **labels):
 
 def answer(result, **other):
     """Returns the text of an answer."""
-    return json.dumps({"status": "success", "data": {"resultType": "matrix", "result": result}, **other})
+    return json.dumps(
+        {"status": "success", "data": {"resultType": "matrix", "result": result}, **other}
+    )
 
 
 # Four pages, of which 1 is available and 1 ballooned; then 2 and 1; then more than there is, as the two were looked at apart: a page is used.
 ROWS = ((16384, 4096, 4096), (16384, 8192, 4096), (16384, 12288, 8192))
-LATER = [series("b", "size", [115, "8192"], [130.0, "8192"]), series("b", "available", [115, "4095"], [130, "4095"]),
-         series("b", "ballooned", [115, "0"], [130, "0"])]
+LATER = [
+    series("b", "size", [115, "8192"], [130.0, "8192"]),
+    series("b", "available", [115, "4095"], [130, "4095"]),
+    series("b", "ballooned", [115, "0"], [130, "0"]),
+]
 
 
 def test_what_is_read(tmp_path):
@@ -43,7 +63,9 @@ def test_what_is_read(tmp_path):
 
 def test_guests_of_several_hosts(tmp_path):
     path = tmp_path / "day.json"
-    path.write_text(answer(guest("a", ROWS, instance="one:9750") + guest("a", ROWS, instance="two:9750")))
+    path.write_text(
+        answer(guest("a", ROWS, instance="one:9750") + guest("a", ROWS, instance="two:9750"))
+    )
     assert [it.name for it in read(str(path)).guests] == ["one:9750/a", "two:9750/a"]
 
 
@@ -52,45 +74,108 @@ GOOD = guest("a", ROWS)
 
 def replaced(cell, *values):
     """Returns the series of a guest, one of which has other values."""
-    return [series("a", cell, *values) if it["metric"]["__name__"] == METRICS[cell] else it for it in GOOD]
+    return [
+        series("a", cell, *values) if it["metric"]["__name__"] == METRICS[cell] else it
+        for it in GOOD
+    ]
 
 
 # What a file has, and what it is refused by.
 REFUSED = (
-    ("{", ": this is no JSON: Expecting property name enclosed in double quotes: line 1 column 2 (char 1)"),
+    (
+        "{",
+        ": this is no JSON: Expecting property name enclosed in double quotes: line 1 column 2 (char 1)",
+    ),
     ("{}", ": this is no answer of success: it has no status"),
     ('{"status": "error", "error": "bad query"}', ": this is no answer of success: bad query"),
     ('{"status": "success"}', ": the result is None, and no matrix, which query_range answers"),
-    ('{"status": "success", "data": {"resultType": "vector", "result": []}}', ": the result is 'vector', and no matrix, which query_range answers"),
-    ('{"status": "success", "data": {"resultType": "matrix"}}', ": the result is 'matrix', and no matrix, which query_range answers"),
+    (
+        '{"status": "success", "data": {"resultType": "vector", "result": []}}',
+        ": the result is 'vector', and no matrix, which query_range answers",
+    ),
+    (
+        '{"status": "success", "data": {"resultType": "matrix"}}',
+        ": the result is 'matrix', and no matrix, which query_range answers",
+    ),
     (answer([]), ": there are no rows"),
     (answer([3]), ": series 1 has no labels, or no values"),
     (answer([{"metric": {}, "values": []}]), ": series 1 has no labels, or no values"),
-    (answer([*GOOD, series("a", "bigvasta_guest_free_bytes", 1)]), ": series 4: the metric 'bigvasta_guest_free_bytes' is none of "
-     "bigvasta_guest_memory_bytes, bigvasta_guest_available_bytes, bigvasta_guest_ballooned_bytes, bigvasta_guest_loan_bytes, "
-     "bigvasta_guest_asked_bytes, bigvasta_guest_granted_bytes_total, bigvasta_guest_waiting_seconds, bigvasta_budget_bytes"),
+    (
+        answer([*GOOD, series("a", "bigvasta_guest_free_bytes", 1)]),
+        ": series 4: the metric 'bigvasta_guest_free_bytes' is none of "
+        "bigvasta_guest_memory_bytes, bigvasta_guest_available_bytes, bigvasta_guest_ballooned_bytes, bigvasta_guest_loan_bytes, "
+        "bigvasta_guest_asked_bytes, bigvasta_guest_granted_bytes_total, bigvasta_guest_waiting_seconds, bigvasta_budget_bytes",
+    ),
     (answer([series(None, "size", 1)]), ": series 1 has no label guest"),
-    (answer(replaced("size", 1, [115, 4096])), ": bigvasta_guest_memory_bytes of a: [115, 4096] is no pair of a time and a value"),
-    (answer(replaced("size", 1, [115])), ": bigvasta_guest_memory_bytes of a: [115] is no pair of a time and a value"),
-    (answer(replaced("size", 1, [float("nan"), "1"])), ': bigvasta_guest_memory_bytes of a: [NaN, "1"] is no pair of a time and a value'),
-    (answer(replaced("available", 1, [99, "1"])), ": bigvasta_guest_available_bytes of a: 99 isn't after 100, the time before"),
-    (answer(replaced("available", 1, [100, "1"])), ": bigvasta_guest_available_bytes of a: 100 isn't after 100, the time before"),
+    (
+        answer(replaced("size", 1, [115, 4096])),
+        ": bigvasta_guest_memory_bytes of a: [115, 4096] is no pair of a time and a value",
+    ),
+    (
+        answer(replaced("size", 1, [115])),
+        ": bigvasta_guest_memory_bytes of a: [115] is no pair of a time and a value",
+    ),
+    (
+        answer(replaced("size", 1, [float("nan"), "1"])),
+        ': bigvasta_guest_memory_bytes of a: [NaN, "1"] is no pair of a time and a value',
+    ),
+    (
+        answer(replaced("available", 1, [99, "1"])),
+        ": bigvasta_guest_available_bytes of a: 99 isn't after 100, the time before",
+    ),
+    (
+        answer(replaced("available", 1, [100, "1"])),
+        ": bigvasta_guest_available_bytes of a: 100 isn't after 100, the time before",
+    ),
     (answer(GOOD + GOOD[:1]), ": a has size twice"),
     (answer(GOOD[:2]), ": a has no series bigvasta_guest_ballooned_bytes"),
     (answer(replaced("available", [100, "1"], [130, "1"])), ": a at 115: available has a hole"),
-    (answer(guest("a", ROWS) + guest("b", ROWS[:1] * 4) + [series("c", it, [100, "4096"], [130, "4096"]) for it in METRICS]),
-     ": c at 130: there is a hole of 30 s before it, where values are 15 s apart"),
+    (
+        answer(
+            guest("a", ROWS)
+            + guest("b", ROWS[:1] * 4)
+            + [series("c", it, [100, "4096"], [130, "4096"]) for it in METRICS]
+        ),
+        ": c at 130: there is a hole of 30 s before it, where values are 15 s apart",
+    ),
     (answer(replaced("size", 16384, 0, 16384)), ": a at 115: size is 0"),
-    (answer(replaced("size", 16384, 16385, 16384)), ": a at 115: size: 16385 isn't whole pages of 4096 bytes, below 2^32 of them"),
-    (answer(replaced("size", 16384, 20480, 16384)), ": a at 115: size: a had 16384 bytes before, and 20480 now"),
-    (answer(replaced("size", 16384, "NaN", 16384)), ": a at 115: size: 'NaN' is no number of bytes"),
-    (answer(replaced("available", 1, "NaN", 1)), ": a at 115: available: 'NaN' is no number of bytes"),
-    (answer(replaced("available", 1, "+Inf", 1)), ": a at 115: available: '+Inf' is no number of bytes"),
-    (answer(replaced("available", 1, 16385, 1)), ": a at 115: available is 16385, above size, which is 16384"),
-    (answer(replaced("ballooned", 0, 0, 16385)), ": a at 130: ballooned is 16385, above size, which is 16384"),
+    (
+        answer(replaced("size", 16384, 16385, 16384)),
+        ": a at 115: size: 16385 isn't whole pages of 4096 bytes, below 2^32 of them",
+    ),
+    (
+        answer(replaced("size", 16384, 20480, 16384)),
+        ": a at 115: size: a had 16384 bytes before, and 20480 now",
+    ),
+    (
+        answer(replaced("size", 16384, "NaN", 16384)),
+        ": a at 115: size: 'NaN' is no number of bytes",
+    ),
+    (
+        answer(replaced("available", 1, "NaN", 1)),
+        ": a at 115: available: 'NaN' is no number of bytes",
+    ),
+    (
+        answer(replaced("available", 1, "+Inf", 1)),
+        ": a at 115: available: '+Inf' is no number of bytes",
+    ),
+    (
+        answer(replaced("available", 1, 16385, 1)),
+        ": a at 115: available is 16385, above size, which is 16384",
+    ),
+    (
+        answer(replaced("ballooned", 0, 0, 16385)),
+        ": a at 130: ballooned is 16385, above size, which is 16384",
+    ),
     (answer(replaced("ballooned", 0, "", 0)), ": a at 115: ballooned is empty"),
-    (answer([series("a", it, [-15, "4096"], [0, "4096"]) for it in METRICS]), ": a at -15: seconds: '-15.0' is no time in seconds from 0 on"),
-    (answer(guest("a", ROWS[:1])), ": a at 100: a has this row alone: a guest's last row says when it goes"),
+    (
+        answer([series("a", it, [-15, "4096"], [0, "4096"]) for it in METRICS]),
+        ": a at -15: seconds: '-15.0' is no time in seconds from 0 on",
+    ),
+    (
+        answer(guest("a", ROWS[:1])),
+        ": a at 100: a has this row alone: a guest's last row says when it goes",
+    ),
 )
 
 

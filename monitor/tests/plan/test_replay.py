@@ -10,8 +10,13 @@ from hypothesis import HealthCheck, given, settings, strategies
 
 def day_of(**guests):
     """Returns a day: each guest's uses by the time, and its end; all have 100 pages."""
-    recorded = [Recorded(name, 100, tuple(Use(float(at), used) for at, used in uses), float(end)) for name, (*uses, end) in guests.items()]
-    return Day(tuple(recorded), min(it.uses[0].seconds for it in recorded), max(it.end for it in recorded))
+    recorded = [
+        Recorded(name, 100, tuple(Use(float(at), used) for at, used in uses), float(end))
+        for name, (*uses, end) in guests.items()
+    ]
+    return Day(
+        tuple(recorded), min(it.uses[0].seconds for it in recorded), max(it.end for it in recorded)
+    )
 
 
 # Of 200 pages 50 are missing. At the start a can spare 90 and b 10, so a gives 50. At 10 a has 20 to spare: all that both can spare
@@ -52,12 +57,42 @@ FULL = day_of(a=((0, 50), (10, 0), 20))
 WORKED_OUT = {
     "two guests": (TWO, Terms(150), (10.0, 0.0), 10.0, 60.0, 1, 10.0, 20, 150),
     "two guests on all that they need at once": (TWO, Terms(170), (0.0,), 0.0, 60.0, 0, 0.0, 0, 50),
-    "a deflate comes before a reset": (RESET, Terms(200), (0.0, 20.0, 0.0, 0.0), 20.0, 120.0, 1, 20.0, 50, 480),
+    "a deflate comes before a reset": (
+        RESET,
+        Terms(200),
+        (0.0, 20.0, 0.0, 0.0),
+        20.0,
+        120.0,
+        1,
+        20.0,
+        50,
+        480,
+    ),
     "a newcomer waits": (NEWCOMER, Terms(150), (20.0,), 20.0, 90.0, 1, 20.0, 30, 50),
-    "a deflate comes before a newcomer": (OVERTAKEN, Terms(150), (0.0, 20.0), 20.0, 80.0, 1, 20.0, 70, 180),
+    "a deflate comes before a newcomer": (
+        OVERTAKEN,
+        Terms(150),
+        (0.0, 20.0),
+        20.0,
+        80.0,
+        1,
+        20.0,
+        70,
+        180,
+    ),
     "a budget that is short": (REFUSED, Terms(150), (40.0,), 40.0, 90.0, 1, 40.0, 30, 20),
     "room by a guest that goes": (LEAVING, Terms(150), (10.0, 0.0), 10.0, 50.0, 1, 10.0, 5, 140),
-    "nothing is missing once a guest has gone": (ALONE, Terms(150), (0.0,), 0.0, 50.0, 0, 0.0, 0, 100),
+    "nothing is missing once a guest has gone": (
+        ALONE,
+        Terms(150),
+        (0.0,),
+        0.0,
+        50.0,
+        0,
+        0.0,
+        0,
+        100,
+    ),
     "a floor that lacks a little": (SLACK, Terms(150, 16), (0.0,), 0.0, 80.0, 0, 0.0, 0, 56),
     "a reset that has all": (FULL, Terms(100), (), 0.0, 20.0, 0, 0.0, 0, 0),
 }
@@ -72,14 +107,24 @@ def test_worked_out(library, name):
 
 def test_who_waits_longest_and_what_is_promised(library):
     it = replay(library, RESET, Terms(200))
-    assert (it.worst_guest, it.promised, it.guests, it.share(), it.wait_a_day()) == ("a", 300, 3, 1 / 6, 14400.0)
+    assert (it.worst_guest, it.promised, it.guests, it.share(), it.wait_a_day()) == (
+        "a",
+        300,
+        3,
+        1 / 6,
+        14400.0,
+    )
     assert promised_by(day_of(a=((0, 1), 10), b=((10, 1), 20), c=((15, 1), 20))) == 200
 
 
 def test_quantiles_by_nearest_rank(library):
     it = replay(library, FULL, Terms(100))
     assert [it.quantile(share) for share in (0.5, 1)] == [0.0, 0.0]
-    for waits, half, most, worst in (((4.0,), 4, 4, 4), ((1.0, 9.0), 1, 9, 9), (tuple(map(float, range(200, 0, -1))), 100, 198, 200)):
+    for waits, half, most, worst in (
+        ((4.0,), 4, 4, 4),
+        ((1.0, 9.0), 1, 9, 9),
+        (tuple(map(float, range(200, 0, -1))), 100, 198, 200),
+    ):
         it = it._replace(waits=waits)
         assert (it.quantile(0.5), it.quantile(0.99), it.quantile(1)) == (half, most, worst)
 
@@ -90,7 +135,9 @@ def random_day(numbers):
     for number in range(numbers.randint(1, 6)):
         pages = numbers.randint(1, 100)
         start, end = sorted(numbers.sample(range(61), 2)) if numbers.random() < 0.4 else (0, 60)
-        times = sorted({start, *(numbers.randint(start, end - 1) for _ in range(numbers.randint(0, 8)))})
+        times = sorted(
+            {start, *(numbers.randint(start, end - 1) for _ in range(numbers.randint(0, 8)))}
+        )
         uses = [Use(float(at), numbers.choice((0, numbers.randint(0, pages)))) for at in times]
         guests.append(Recorded(f"g{number}", pages, tuple(uses), float(end)))
     guests.sort(key=lambda it: it.uses[0].seconds)
@@ -114,12 +161,20 @@ class Watched(Lender):
 
 
 @pytest.mark.timeout(1200)  # a busy machine takes long for all
-@settings(max_examples=1000, deadline=None, derandomize=True, database=None, suppress_health_check=[HealthCheck.too_slow, HealthCheck.function_scoped_fixture])
+@settings(
+    max_examples=1000,
+    deadline=None,
+    derandomize=True,
+    database=None,
+    suppress_health_check=[HealthCheck.too_slow, HealthCheck.function_scoped_fixture],
+)
 @given(numbers=strategies.randoms(use_true_random=False))
 def test_event_by_event_as_moment_by_moment(library, monkeypatch, numbers):
     monkeypatch.setattr(replaying, "Lender", Watched)
     day = random_day(numbers)
-    terms = Terms(numbers.randint(1, promised_by(day) + 1), numbers.choice((0, numbers.randint(0, 20))))
+    terms = Terms(
+        numbers.randint(1, promised_by(day) + 1), numbers.choice((0, numbers.randint(0, 20)))
+    )
     events = replay(library, day, terms)
     moments = replay(library, day, terms, [it / 2 for it in range(121)])
     assert events._replace(decisions=0) == moments._replace(decisions=0), (day, terms)

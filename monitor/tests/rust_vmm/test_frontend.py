@@ -20,7 +20,15 @@ FEATURES = 1 << 32 | 1 << 30 | 0x27
 
 # The queues of inflates, deflates, statistics, hints and reports.
 QUEUES, TARGET = 5, 300
-QUEUE = ("set_vring_num", "set_vring_addr", "set_vring_base", "set_vring_call", "set_vring_err", "set_vring_kick", "set_vring_enable")
+QUEUE = (
+    "set_vring_num",
+    "set_vring_addr",
+    "set_vring_base",
+    "set_vring_call",
+    "set_vring_err",
+    "set_vring_kick",
+    "set_vring_enable",
+)
 
 
 class Offer(NamedTuple):
@@ -44,26 +52,61 @@ def config(target, actual):
 
 def lines_of(offer):
     """Returns what the program has to print of a backend."""
-    channel = ("set_backend_request_fd ()",) if 5 in offer.protocol else ("set_backend_request_fd fails",)
+    channel = (
+        ("set_backend_request_fd ()",) if 5 in offer.protocol else ("set_backend_request_fd fails",)
+    )
     change = ("waits", "handle_request 0", "changes 1") if 5 in offer.protocol else ()
     return [
-        f"get_features {FEATURES}", "set_owner ()", f"get_protocol_features {sum(1 << it for it in offer.protocol)}",
-        "set_protocol_features ()", f"get_queue_num {QUEUES}", *channel, f"get_max_mem_slots {offer.slots}", "set_features ()",
-        "set_mem_table ()", "add_mem_region ()", "remove_mem_region ()", *(f"{it} ()" for it in QUEUES * QUEUE), config(offer.target, 0),
+        f"get_features {FEATURES}",
+        "set_owner ()",
+        f"get_protocol_features {sum(1 << it for it in offer.protocol)}",
+        "set_protocol_features ()",
+        f"get_queue_num {QUEUES}",
+        *channel,
+        f"get_max_mem_slots {offer.slots}",
+        "set_features ()",
+        "set_mem_table ()",
+        "add_mem_region ()",
+        "remove_mem_region ()",
+        *(f"{it} ()" for it in QUEUES * QUEUE),
+        config(offer.target, 0),
         # The one chain is descriptor 0; the device writes nothing into it. Its four pages leave the file.
-        "used 1 (0, 0)", "pages given back 4", "set_config ()", *change, config(TARGET, 4),
+        "used 1 (0, 0)",
+        "pages given back 4",
+        "set_config ()",
+        *change,
+        config(TARGET, 4),
         # The crate itself refuses what the backend doesn't offer.
-        "get_inflight_fd fails", "set_inflight_fd fails",
-        "set_vring_enable ()", "get_vring_base 1", "reset_device ()", config(TARGET, 0), "reset_owner ()",
+        "get_inflight_fd fails",
+        "set_inflight_fd fails",
+        "set_vring_enable ()",
+        "get_vring_base 1",
+        "reset_device ()",
+        config(TARGET, 0),
+        "reset_owner ()",
     ]
 
 
 def built(folder, source, name, environment=None):
     """Builds a program offline, and returns its path."""
-    registry = ('source.crates-io.replace-with="debian"', f'source.debian.directory="{rust_vmm_crates()}"')
-    words = ["build", "--offline", "--quiet", "--target-dir", folder, *(word for it in registry for word in ("--config", it))]
+    registry = (
+        'source.crates-io.replace-with="debian"',
+        f'source.debian.directory="{rust_vmm_crates()}"',
+    )
+    words = [
+        "build",
+        "--offline",
+        "--quiet",
+        "--target-dir",
+        folder,
+        *(word for it in registry for word in ("--config", it)),
+    ]
     ran = subprocess.run(
-        [linux_kit.need("cargo", "cargo"), *words], cwd=source, capture_output=True, text=True, env={**os.environ, **(environment or {})},
+        [linux_kit.need("cargo", "cargo"), *words],
+        cwd=source,
+        capture_output=True,
+        text=True,
+        env={**os.environ, **(environment or {})},
     )
     assert ran.returncode == 0, ran.stderr
     return f"{folder}/debug/{name}"
@@ -86,14 +129,20 @@ def example(tmp_path_factory):
 @pytest.fixture
 def backend(tmp_path):
     """A backend that waits for the program."""
-    it = Backend(linux_kit.built("checked/vhost_user_balloon"), str(tmp_path), [str(tmp_path / "socket"), "--strict"])
+    it = Backend(
+        linux_kit.built("checked/vhost_user_balloon"),
+        str(tmp_path),
+        [str(tmp_path / "socket"), "--strict"],
+    )
     yield it
     it.close()
 
 
 def talk(frontend, socket, waits, *words):
     """Returns the lines that the program prints, of a failure that it failed; calls what it waits for."""
-    with subprocess.Popen([frontend, str(socket), *words], stdout=subprocess.PIPE, text=True) as process:
+    with subprocess.Popen(
+        [frontend, str(socket), *words], stdout=subprocess.PIPE, text=True
+    ) as process:
         lines = []
         for line in process.stdout:
             lines.append(line.split(":")[0].strip())
@@ -110,7 +159,10 @@ def test_each_call_is_answered(frontend, backend, tmp_path):
     assert (backend.close(), backend.why()) == (0, "")
 
 
-@pytest.mark.parametrize("name, why", (("log_base", "refused: message 6 is unknown"), ("log_fd", "refused: message 7 is unknown")))
+@pytest.mark.parametrize(
+    "name, why",
+    (("log_base", "refused: message 6 is unknown"), ("log_fd", "refused: message 7 is unknown")),
+)
 def test_a_call_that_is_none_of_the_backend_s(frontend, backend, tmp_path, name, why):
     lines = talk(frontend, tmp_path / "socket", None, name)
     assert lines[0] == "set_owner ()" and lines[-1] == "get_features fails"

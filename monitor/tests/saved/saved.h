@@ -3,8 +3,16 @@
 #define SAVED_H
 #include "../guest.h"
 
-enum { SUM_AT = VB_STATE_BYTES - 8, HOLD_AT = 183, POISON_AT = HOLD_AT - 4, RINGS_AT = 59, RING_BYTES = 30, HINT_AT = HOLD_AT + 9,
-       ROUND_AT = HINT_AT + RING_BYTES, OPENED_AT = ROUND_AT + 8 };
+enum {
+    SUM_AT = VB_STATE_BYTES - 8,
+    HOLD_AT = 183,
+    POISON_AT = HOLD_AT - 4,
+    RINGS_AT = 59,
+    RING_BYTES = 30,
+    HINT_AT = HOLD_AT + 9,
+    ROUND_AT = HINT_AT + RING_BYTES,
+    OPENED_AT = ROUND_AT + 8
+};
 
 uint8_t *put_number(uint8_t *at, uint64_t value, int bytes);
 void put_sum_at(uint8_t *bytes, size_t at);

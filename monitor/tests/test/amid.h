@@ -4,7 +4,7 @@
 #include "test.h"
 
 enum { FIRST = 900, COUNT = 3, BYTE = 0xaa };
-static const VbSettings WITH_HINTS = { .offered = 1ull << 32 | 0x2f, .discards_hints = 1 };
+static const VbSettings WITH_HINTS = {.offered = 1ull << 32 | 0x2f, .discards_hints = 1};
 
 extern struct guest amid;
 

@@ -1,13 +1,23 @@
-/* Calls on a balloon in a hook of a notice. A hook of the Rust crate can't make any, as the balloon is borrowed. */
+/* Calls on a balloon in a hook of a notice. A hook of the Rust crate can't make any, as the balloon
+ * is borrowed. */
 #include "amid.h"
 
 #ifdef RUST_SHIM
-void test_hooks(void) {}
+void test_hooks(void)
+{
+}
 #else
 /* What the nth hook calls that comes, in a notice of this kind's queue. */
-static struct { void (*call)(void); unsigned left; uint32_t kind; } hook;
+static struct {
+    void (*call)(void);
+    unsigned left;
+    uint32_t kind;
+} hook;
 
-static void end_round(void) { balloon_end_hints(&amid.balloon); }
+static void end_round(void)
+{
+    balloon_end_hints(&amid.balloon);
+}
 
 static void happen(void)
 {
@@ -33,7 +43,8 @@ static void on_hint_id(void *context, uint32_t id)
     happen();
 }
 
-static int on_discard(void *context, const struct balloon_region *region, uint64_t from, uint64_t length)
+static int on_discard(void *context, const struct balloon_region *region, uint64_t from,
+                      uint64_t length)
 {
     (void)context;
     int error = balloon_discard_bytes(region, from, length);
@@ -68,14 +79,19 @@ static void a_hook_may_reset(void)
 {
     for (uint32_t kind = 0; kind < VB_NO_KIND; kind++) {
         struct balloon_result result = call_in(kind, reset_here, 1, false);
-        EXPECT(result.code == VB_STALE && used_since(kind) == 0 && are_whole() && !result.interrupts && !result.configuration);
-        EXPECT(result.pages == (kind == VB_STATISTICS ? 0 : COUNT) && result.discarded == 0 && result.in_holes == 0);
-        EXPECT(result.chains == (kind == VB_STATISTICS) && result.kept == (kind == VB_STATISTICS || kind == VB_DEFLATE ? 0 : COUNT));
+        EXPECT(result.code == VB_STALE && used_since(kind) == 0 && are_whole() &&
+               !result.interrupts && !result.configuration);
+        EXPECT(result.pages == (kind == VB_STATISTICS ? 0 : COUNT) && result.discarded == 0 &&
+               result.in_holes == 0);
+        EXPECT(result.chains == (kind == VB_STATISTICS) &&
+               result.kept == (kind == VB_STATISTICS || kind == VB_DEFLATE ? 0 : COUNT));
         starts_again();
         free_memory(&amid);
     }
-    struct balloon_result result = call_in(VB_REPORT, reset_here, 2, false);      /* in the second chain's */
-    EXPECT(result.code == VB_STALE && result.chains == 1 && used_since(VB_REPORT) == 1 && result.discarded == COUNT);
+    struct balloon_result result =
+        call_in(VB_REPORT, reset_here, 2, false); /* in the second chain's */
+    EXPECT(result.code == VB_STALE && result.chains == 1 && used_since(VB_REPORT) == 1 &&
+           result.discarded == COUNT);
     EXPECT(result.kept == COUNT && result.pages == 2 * COUNT);
     starts_again();
     free_memory(&amid);
@@ -91,34 +107,42 @@ static void later_hooks_may_reset(void)
     hook.kind = VB_HINT;
     amid.balloon.on_hint_id = on_hint_id;
     struct balloon_result result = balloon_notify(&amid.balloon, VB_HINT);
-    EXPECT(result.code == VB_STALE && result.chains == 0 && used_since(VB_HINT) == 0 && are_whole());
+    EXPECT(result.code == VB_STALE && result.chains == 0 && used_since(VB_HINT) == 0 &&
+           are_whole());
     starts_again();
     free_memory(&amid);
     offer(VB_REPORT);
-    describe(&amid, VB_REPORT, 0, 2047 * 4096, 2050 * 4096, WRITE, 0);      /* two parts, over the hole */
+    describe(&amid, VB_REPORT, 0, 2047 * 4096, 2050 * 4096, WRITE,
+             0); /* two parts, over the hole */
     memset(at(&amid, HIGH_ADDRESS), BYTE, 4096);
     hook.left = 1;
     hook.kind = VB_REPORT;
     amid.balloon.discard = on_discard;
     result = balloon_notify(&amid.balloon, VB_REPORT);
-    EXPECT(result.code == VB_STALE && result.discarded == 1 && get(&amid, HIGH_ADDRESS, 1) == BYTE && used_since(VB_REPORT) == 0);
+    EXPECT(result.code == VB_STALE && result.discarded == 1 &&
+           get(&amid, HIGH_ADDRESS, 1) == BYTE && used_since(VB_REPORT) == 0);
     EXPECT(result.kept == 2049 && result.in_holes == 0);
     starts_again();
     free_memory(&amid);
 }
 
-/* The host ends the round in a hook: hints aren't discarded, their chain is given back, and the next ones are late. */
+/* The host ends the round in a hook: hints aren't discarded, their chain is given back, and the
+ * next ones are late. */
 static void a_hook_may_end_a_round(void)
 {
     struct balloon_result result = call_in(VB_HINT, end_round, 1, false);
     EXPECT(result.code == VB_OK && result.chains == 2 && used_since(VB_HINT) == 2 && are_whole());
-    EXPECT(result.pages == COUNT && result.kept == COUNT && result.late == COUNT && result.discarded == 0 && result.in_holes == 0);
+    EXPECT(result.pages == COUNT && result.kept == COUNT && result.late == COUNT &&
+           result.discarded == 0 && result.in_holes == 0);
     free_memory(&amid);
-    result = call_in(VB_REPORT, end_round, 1, false);       /* a report's pages are discarded all the same */
+    result =
+        call_in(VB_REPORT, end_round, 1, false); /* a report's pages are discarded all the same */
     EXPECT(result.code == VB_OK && result.discarded == 2 * COUNT && used_since(VB_REPORT) == 2);
     free_memory(&amid);
-    result = call_in(VB_HINT, end_round, 1, true);          /* the first chain's only part is discarded already */
-    EXPECT(result.code == VB_OK && result.discarded == COUNT && result.late == COUNT && used_since(VB_HINT) == 2);
+    result =
+        call_in(VB_HINT, end_round, 1, true); /* the first chain's only part is discarded already */
+    EXPECT(result.code == VB_OK && result.discarded == COUNT && result.late == COUNT &&
+           used_since(VB_HINT) == 2);
     free_memory(&amid);
 }
 
@@ -136,14 +160,17 @@ static void notify_here(void)
 static void nothing_begins_in_a_hook(void)
 {
     offer(VB_INFLATE);
-    name_pages(&amid, VB_DEFLATE, (const uint32_t[]){ 700 }, 1);
+    name_pages(&amid, VB_DEFLATE, (const uint32_t[]){700}, 1);
     hook.call = notify_here;
     hook.left = 1;
     amid.balloon.on_pages = on_pages;
     struct balloon_result result = balloon_notify(&amid.balloon, VB_INFLATE);
-    EXPECT(nested.code == VB_NOTHING && nested.more && nested.chains == 0 && refused == VB_BAD_ARGUMENT);
-    EXPECT(result.code == VB_OK && result.chains == 2 && result.discarded == 2 * COUNT && used_index(&amid, VB_INFLATE) == 2);
-    EXPECT(balloon_notify(&amid.balloon, VB_DEFLATE).chains == 1 && balloon_set_regions(&amid.balloon, amid.regions, 2) == VB_OK);
+    EXPECT(nested.code == VB_NOTHING && nested.more && nested.chains == 0 &&
+           refused == VB_BAD_ARGUMENT);
+    EXPECT(result.code == VB_OK && result.chains == 2 && result.discarded == 2 * COUNT &&
+           used_index(&amid, VB_INFLATE) == 2);
+    EXPECT(balloon_notify(&amid.balloon, VB_DEFLATE).chains == 1 &&
+           balloon_set_regions(&amid.balloon, amid.regions, 2) == VB_OK);
     free_memory(&amid);
 }
 

@@ -1,11 +1,12 @@
 /* A device that moves, and its target. */
 #include "test.h"
 
-/* The state goes to another balloon over a copy of the memory, and the driver goes on where it was. */
+/* The state goes to another balloon over a copy of the memory, and the driver goes on where it
+  * was. */
 static void a_device_moves(void)
 {
     static struct guest guest, other;
-    const uint32_t pages[] = { 700, 701 };
+    const uint32_t pages[] = {700, 701};
     start(&guest, 0, REFUSES, LINUX_FEATURES, 4);
     for (int i = 0; i < 3; i++) {
         name_pages(&guest, VB_DEFLATE, pages, 2);
@@ -33,35 +34,40 @@ static void the_target_is_told(void)
     EXPECT(!balloon_is_off_target(&guest.balloon));
     balloon_set_target(&guest.balloon, 513);
     balloon_read_config(&guest.balloon, 0, words, 8);
-    EXPECT(words[0] == 1 && words[1] == 2 && words[4] == 0 && balloon_is_off_target(&guest.balloon));
+    EXPECT(words[0] == 1 && words[1] == 2 && words[4] == 0 &&
+           balloon_is_off_target(&guest.balloon));
     memset(all, 0xa5, sizeof all);
     balloon_read_config(&guest.balloon, 0, all, sizeof all);
     for (size_t i = 0; i < sizeof all; i++)
         EXPECT(all[i] == (i == 0 ? 1 : i == 1 ? 2 : 0));
-    EXPECT(balloon_write_config(&guest.balloon, 4, words, 4) == VB_OK && !balloon_is_off_target(&guest.balloon));
+    EXPECT(balloon_write_config(&guest.balloon, 4, words, 4) == VB_OK &&
+           !balloon_is_off_target(&guest.balloon));
     balloon_set_target(&guest.balloon, 512);
     EXPECT(balloon_is_off_target(&guest.balloon));
     balloon_set_target(&guest.balloon, 514);
     EXPECT(balloon_is_off_target(&guest.balloon));
     balloon_set_target(&guest.balloon, 513);
     for (uint32_t offset = 256; offset < 1 << 20; offset *= 2)
-        EXPECT(balloon_write_config(&guest.balloon, offset + 4, all, 4) == VB_BAD_ARGUMENT && !balloon_is_off_target(&guest.balloon));
+        EXPECT(balloon_write_config(&guest.balloon, offset + 4, all, 4) == VB_BAD_ARGUMENT &&
+               !balloon_is_off_target(&guest.balloon));
     EXPECT(balloon_write_config(&guest.balloon, 0, words, 4) == VB_BAD_ARGUMENT);
     free_memory(&guest);
 }
 
-/* QEMU hands over all 16 bytes whenever the driver writes a field: num_pages isn't the driver's, and stays. */
+/* QEMU hands over all 16 bytes whenever the driver writes a field: num_pages isn't the driver's,
+ * and stays. */
 static void the_whole_configuration_is_written(void)
 {
     static struct guest guest;
-    const VbSettings settings = { .offered = LINUX_FEATURES | VB_F_PAGE_POISON };
-    uint8_t all[16] = { 9, 9, 9, 9, 1, 2, 0, 0, 9, 9, 9, 9, 0xaa, 0, 0, 0 }, seen[16];
+    const VbSettings settings = {.offered = LINUX_FEATURES | VB_F_PAGE_POISON};
+    uint8_t all[16] = {9, 9, 9, 9, 1, 2, 0, 0, 9, 9, 9, 9, 0xaa, 0, 0, 0}, seen[16];
     start(&guest, 0, settings, LINUX_FEATURES | VB_F_PAGE_POISON, 8);
     balloon_set_target(&guest.balloon, 513);
-    EXPECT(balloon_write_config(&guest.balloon, 0, all, 16) == VB_OK && !balloon_is_off_target(&guest.balloon));
+    EXPECT(balloon_write_config(&guest.balloon, 0, all, 16) == VB_OK &&
+           !balloon_is_off_target(&guest.balloon));
     balloon_read_config(&guest.balloon, 0, seen, 16);
     memset(all + 8, 0, 4);
-    memcpy(all, (const uint8_t[]){ 1, 2, 0, 0 }, 4);
+    memcpy(all, (const uint8_t[]){1, 2, 0, 0}, 4);
     EXPECT(memcmp(seen, all, 16) == 0);
     EXPECT(balloon_write_config(&guest.balloon, 1, all, 6) == VB_BAD_ARGUMENT);
     free_memory(&guest);

@@ -1,4 +1,5 @@
-/* Requests: pages go and come, as runs, from buffers split at arbitrary offsets, while indices wrap. */
+/* Requests: pages go and come, as runs, from buffers split at arbitrary offsets, while indices
+ * wrap. */
 #include "test.h"
 
 /* 256 pages go and come: those and no others are discarded, in memory of each sort. */
@@ -13,13 +14,16 @@ static void pages_go_and_come(int low)
         memset(at(&guest, page * 4096ull), (int)(page % 251) + 1, 4096);
     name_pages(&guest, VB_INFLATE, pages, 256);
     struct balloon_result result = balloon_notify(&guest.balloon, VB_INFLATE);
-    EXPECT(result.code == VB_OK && result.chains == 1 && result.pages == 256 && result.discarded == 256);
-    EXPECT(result.interrupts == 1 << VB_INFLATE && !result.more && !result.configuration && result.kept == 0);
+    EXPECT(result.code == VB_OK && result.chains == 1 && result.pages == 256 &&
+           result.discarded == 256);
+    EXPECT(result.interrupts == 1 << VB_INFLATE && !result.more && !result.configuration &&
+           result.kept == 0);
     EXPECT(used_index(&guest, VB_INFLATE) == 1 && last_used(&guest, VB_INFLATE) == 0);
     for (uint32_t page = 499; page < 500 + 3 * 256; page++)
         EXPECT(resident(&guest, page) == (page % 3 != 2));
     for (uint32_t page = 499; page < 500 + 3 * 256; page++) {
-        const uint8_t *bytes = at(&guest, page * 4096ull), byte = page % 3 != 2 ? page % 251 + 1 : 0;
+        const uint8_t *bytes = at(&guest, page * 4096ull),
+                      byte = page % 3 != 2 ? page % 251 + 1 : 0;
         for (int i = 0; i < 4096; i++)
             EXPECT(bytes[i] == byte);
     }
@@ -27,7 +31,8 @@ static void pages_go_and_come(int low)
     memset(at(&guest, 500 * 4096), 9, 4096);
     name_pages(&guest, VB_DEFLATE, pages, 256);
     result = balloon_notify(&guest.balloon, VB_DEFLATE);
-    EXPECT(result.code == VB_OK && result.pages == 256 && result.discarded == 0 && *at(&guest, 500 * 4096) == 9);
+    EXPECT(result.code == VB_OK && result.pages == 256 && result.discarded == 0 &&
+           *at(&guest, 500 * 4096) == 9);
     EXPECT(result.interrupts == 1 << VB_DEFLATE && used_index(&guest, VB_DEFLATE) == 1);
     free_memory(&guest);
 }
@@ -46,8 +51,8 @@ static void neighbours_are_joined(void)
 {
     static struct guest guest;
     static struct seen seen;
-    const uint32_t pages[] = { 505, 506, 507, 503, 502, 501, 509, 510, 508, 600 };
-    const VbRun runs[] = { { 505, 3 }, { 501, 3 }, { 508, 3 }, { 600, 1 } };
+    const uint32_t pages[] = {505, 506, 507, 503, 502, 501, 509, 510, 508, 600};
+    const VbRun runs[] = {{505, 3}, {501, 3}, {508, 3}, {600, 1}};
     uint32_t down[256];
     start(&guest, 0, REFUSES, LINUX_FEATURES, 256);
     guest.balloon.context = &seen;
@@ -59,7 +64,8 @@ static void neighbours_are_joined(void)
         down[i] = 1000 - i;
     name_pages(&guest, VB_DEFLATE, down, 256);
     EXPECT(balloon_notify(&guest.balloon, VB_DEFLATE).pages == 256);
-    EXPECT(seen.kind == VB_DEFLATE && seen.runs == 1 && seen.run[0].first == 745 && seen.run[0].count == 256);
+    EXPECT(seen.kind == VB_DEFLATE && seen.runs == 1 && seen.run[0].first == 745 &&
+           seen.run[0].count == 256);
     free_memory(&guest);
 }
 

@@ -5,8 +5,8 @@
 
 #define RUN(test) (test, puts("ok  " #test))
 
-static const VbSettings REFUSES = { .offered = 1ull << 32 | 0x27 };
-static const VbSettings SKIPS = { .offered = 1ull << 32 | 0x27, .skips_bad_pages = 1 };
+static const VbSettings REFUSES = {.offered = 1ull << 32 | 0x27};
+static const VbSettings SKIPS = {.offered = 1ull << 32 | 0x27, .skips_bad_pages = 1};
 
 static inline bool resident(const struct guest *guest, uint32_t page)
 {
@@ -16,7 +16,10 @@ static inline bool resident(const struct guest *guest, uint32_t page)
 }
 
 /* What a monitor was told last of pages, and how often it was. */
-struct seen { uint32_t kind, runs, calls; VbRun run[VB_MAX_RUNS]; };
+struct seen {
+    uint32_t kind, runs, calls;
+    VbRun run[VB_MAX_RUNS];
+};
 
 void see_pages(void *context, uint32_t kind, const VbRun *runs, uint32_t count);
 

@@ -7,7 +7,11 @@ import pytest
 from vhost_client import QEMU_PROTOCOL
 from vhost_served import Served
 
-PROGRAMS = ("checked/vhost_user_balloon", "wrong-backend/vhost_user_balloon", "loop-checked/vhost_user_balloon")
+PROGRAMS = (
+    "checked/vhost_user_balloon",
+    "wrong-backend/vhost_user_balloon",
+    "loop-checked/vhost_user_balloon",
+)
 
 pytest.register_assert_rewrite("vhost_demands")
 
@@ -42,6 +46,7 @@ def serve(program):
 @pytest.fixture
 def serve_ready(serve):
     """The same, once its driver is ready."""
+
     def make(*options):
         client = serve(*options)
         client.start()
@@ -67,6 +72,7 @@ def serve_well(serve):
 @pytest.fixture
 def start(serve_well):
     """The same, once its driver is ready; it kicks and is called by messages, as virtio_uml."""
+
     def make(*options):
         client = serve_well(*options)
         client.start()
@@ -78,6 +84,7 @@ def start(serve_well):
 @pytest.fixture
 def start_by_events(serve_well):
     """The same, once its driver is ready; it kicks and is called by events, as QEMU."""
+
     def make(*options, protocol=QEMU_PROTOCOL):
         client = serve_well(*options)
         client.start_by_events(protocol=protocol)

@@ -11,9 +11,29 @@ import time
 import linux_guest
 import vhost_client
 from vhost_client import (
-    BUFFERS, DEFLATE, FEATURES, GET_CONFIG, GET_MAX_MEM_SLOTS, GET_STATUS, INFLATE, KINDLESS, NO_FILE, PAGE, PAGES_OF_REGION,
-    QEMU_PROTOCOL, REGIONS, REM_MEM_REG, REPLY_ACK, SET_CONFIG, SET_FEATURES, SET_STATUS, SET_VRING_CALL, SET_VRING_ENABLE,
-    SET_VRING_KICK, STATISTICS, STATUS,
+    BUFFERS,
+    DEFLATE,
+    FEATURES,
+    GET_CONFIG,
+    GET_MAX_MEM_SLOTS,
+    GET_STATUS,
+    INFLATE,
+    KINDLESS,
+    NO_FILE,
+    PAGE,
+    PAGES_OF_REGION,
+    QEMU_PROTOCOL,
+    REGIONS,
+    REM_MEM_REG,
+    REPLY_ACK,
+    SET_CONFIG,
+    SET_FEATURES,
+    SET_STATUS,
+    SET_VRING_CALL,
+    SET_VRING_ENABLE,
+    SET_VRING_KICK,
+    STATISTICS,
+    STATUS,
 )
 from vhost_demands import FIRST, MOMENT, demand_served, demand_unserved, post_statistics, word
 
@@ -68,7 +88,11 @@ def test_a_ring_goes_on_at_an_index_of_two_bytes(serve_well):
     client.go_on([0x1FFF, 0, 0, 0])
     client.called(INFLATE)
     client.post_pages(INFLATE, [FIRST])
-    assert (client.called(INFLATE), client.stop_ring(INFLATE), client.holes()) == (1, 0x2000, [FIRST])
+    assert (client.called(INFLATE), client.stop_ring(INFLATE), client.holes()) == (
+        1,
+        0x2000,
+        [FIRST],
+    )
 
 
 def test_regions_of_one_file(serve_well):
@@ -134,9 +158,15 @@ def test_a_queue_without_a_kind_is_set_up_and_never_served(serve_well):
     assert (client.stop_ring(KINDLESS), client.stop_ring(KINDLESS)) == (5, 5)
     client.give_events(KINDLESS)
     demand_unserved(client, KINDLESS)
-    client.accepted(SET_VRING_KICK, word(KINDLESS | NO_FILE))  # one that is to be looked at without a kick
+    client.accepted(
+        SET_VRING_KICK, word(KINDLESS | NO_FILE)
+    )  # one that is to be looked at without a kick
     assert client.is_at_rest(), "the backend looks at a queue that it never serves"
-    assert (client.holes(), client.counter("chains"), client.counter("status")) == ([FIRST + 1], 1, 15)
+    assert (client.holes(), client.counter("chains"), client.counter("status")) == (
+        [FIRST + 1],
+        1,
+        15,
+    )
 
 
 def test_a_kick_before_the_ring_runs(serve_well):
@@ -274,7 +304,9 @@ def test_one_event_for_the_kicks_of_two_queues(start_by_events):
     os.set_blocking(event, True)
     client.describe(INFLATE, 0, BUFFERS, 4)
     client.publish(INFLATE, 0)
-    os.eventfd_write(event, 1)  # one of the two takes it; the other one finds nothing, and doesn't wait
+    os.eventfd_write(
+        event, 1
+    )  # one of the two takes it; the other one finds nothing, and doesn't wait
     assert (client.called(INFLATE), client.used(INFLATE)[0], client.counter("kicks")) == (1, 1, 1)
     os.close(event)
 

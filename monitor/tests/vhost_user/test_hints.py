@@ -4,8 +4,20 @@ import struct
 
 import pytest
 from vhost_client import (
-    BUFFERS, FEATURES, GET_CONFIG, HAS_PROTOCOL, NEXT, PAGE, POISON, QEMU_PROTOCOL, REPORT, RESET_DEVICE, SET_CONFIG, SET_FEATURES,
-    SET_STATUS, WRITE,
+    BUFFERS,
+    FEATURES,
+    GET_CONFIG,
+    HAS_PROTOCOL,
+    NEXT,
+    PAGE,
+    POISON,
+    QEMU_PROTOCOL,
+    REPORT,
+    RESET_DEVICE,
+    SET_CONFIG,
+    SET_FEATURES,
+    SET_STATUS,
+    WRITE,
 )
 from vhost_demands import FIRST, demand_refused, word
 
@@ -17,6 +29,7 @@ STOP, DONE = 0, 1
 @pytest.fixture
 def hinting(serve_well):
     """Returns a client with a backend of its own, whose driver has negotiated hints."""
+
     def make(*options):
         client = serve_well("--hints", *options)
         client.start_by_events(features=FEATURES | HINTS)
@@ -27,7 +40,9 @@ def hinting(serve_well):
 
 def shown(client):
     """Returns free_page_hint_cmd_id."""
-    return struct.unpack("<I", client.send(GET_CONFIG, struct.pack("<III", 8, 4, 0) + bytes(4))[12:])[0]
+    return struct.unpack(
+        "<I", client.send(GET_CONFIG, struct.pack("<III", 8, 4, 0) + bytes(4))[12:]
+    )[0]
 
 
 def post(client, address, length, flags=0):
@@ -51,10 +66,20 @@ def hint(client, told, kept=False):
     client.write(FIRST * PAGE, b"\xff" * 2 * PAGE)
     post(client, FIRST * PAGE, 2 * PAGE, WRITE)
     after = client.backend.counters()
-    wanted = {"hints_pages": 2 * told, "hints_late": 2 * (not told), "pages": 2 * told, "kept": 2 * (told and kept),
-              "discarded": 2 * (told and not kept), "skipped": 0, "in_holes": 0, "chains": 1}
+    wanted = {
+        "hints_pages": 2 * told,
+        "hints_late": 2 * (not told),
+        "pages": 2 * told,
+        "kept": 2 * (told and kept),
+        "discarded": 2 * (told and not kept),
+        "skipped": 0,
+        "in_holes": 0,
+        "chains": 1,
+    }
     assert {it: after[it] - before[it] for it in wanted} == wanted
-    assert client.read(FIRST * PAGE, 2 * PAGE) == (b"\0" if told and not kept else b"\xff") * 2 * PAGE
+    assert (
+        client.read(FIRST * PAGE, 2 * PAGE) == (b"\0" if told and not kept else b"\xff") * 2 * PAGE
+    )
 
 
 def order(client, line):
@@ -86,9 +111,15 @@ STORIES = {
     "the driver has stopped": ("start 2, id 2, told, id 0, late", (1, 2, 2)),
     "the host has stopped": ("start 2, id 2, told, stop, late, id 2, late, id 0, late", (1, 2, 6)),
     "after DONE": ("start 2, id 2, told, done, late, id 2, late, id 1, late", (1, 2, 6)),
-    "the id of the round before": ("start 2, id 2, told, start 3, late, id 2, late, id 3, told, id 2, late", (2, 4, 6)),
+    "the id of the round before": (
+        "start 2, id 2, told, start 3, late, id 2, late, id 3, told, id 2, late",
+        (2, 4, 6),
+    ),
     "a repeated id": ("start 2, id 2, id 2, told, id 2, told", (1, 4, 0)),
-    "no id of a round": ("start 2, id 0, late, id 1, late, id 3, late, id 4294967295, late", (1, 0, 8)),
+    "no id of a round": (
+        "start 2, id 0, late, id 1, late, id 3, late, id 4294967295, late",
+        (1, 0, 8),
+    ),
     "a second round": ("start 2, id 2, told, done, start 3, id 3, told, done, late", (2, 4, 2)),
 }
 
@@ -110,7 +141,10 @@ def test_hints_of_many_pieces(hinting):
     client.publish(HINT, 2)
     client.kick(HINT)
     assert client.called(HINT) == 1
-    assert (client.holes(), client.counter("hints_pages")) == ([FIRST + it for it in (0, 1, 2, 8)], 4)
+    assert (client.holes(), client.counter("hints_pages")) == (
+        [FIRST + it for it in (0, 1, 2, 8)],
+        4,
+    )
 
 
 def test_hints_are_kept(hinting):
@@ -186,14 +220,22 @@ def test_a_state_of_hints_that_are_not_offered_any_longer(hinting):
     client.restart(*words)
     client.connect()
     client.start_by_events()
-    assert (shown(client), client.backend.ask("hint start")) == (STOP, "error: a round is answered 5")
+    assert (shown(client), client.backend.ask("hint start")) == (
+        STOP,
+        "error: a round is answered 5",
+    )
 
 
 # Chains that are none of the queue of hints: pieces of an address, a length and flags, and what they are refused for.
 WRONG = (
-    ([(BUFFERS, 3, 0)], "rule 8"), ([(BUFFERS, 5, 0)], "rule 8"), ([(BUFFERS, 0, 0)], "rule 8"), ([(BUFFERS, 2, 0), (BUFFERS, 3, 0)], "rule 8"),
-    ([(BUFFERS, 4, 0), (FIRST * PAGE, PAGE, WRITE)], "rule 5"), ([(FIRST * PAGE, PAGE, WRITE), (BUFFERS, 4, 0)], "rule 5"),
-    ([(FIRST * PAGE, PAGE + 1, WRITE)], "rule 8"), ([(FIRST * PAGE + 512, PAGE, WRITE)], "rule 9"),
+    ([(BUFFERS, 3, 0)], "rule 8"),
+    ([(BUFFERS, 5, 0)], "rule 8"),
+    ([(BUFFERS, 0, 0)], "rule 8"),
+    ([(BUFFERS, 2, 0), (BUFFERS, 3, 0)], "rule 8"),
+    ([(BUFFERS, 4, 0), (FIRST * PAGE, PAGE, WRITE)], "rule 5"),
+    ([(FIRST * PAGE, PAGE, WRITE), (BUFFERS, 4, 0)], "rule 5"),
+    ([(FIRST * PAGE, PAGE + 1, WRITE)], "rule 8"),
+    ([(FIRST * PAGE + 512, PAGE, WRITE)], "rule 9"),
 )
 
 

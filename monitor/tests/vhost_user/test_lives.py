@@ -6,8 +6,26 @@ import struct
 import pytest
 import vhost_client
 from vhost_client import (
-    DEFLATE, FEATURES, GET_CONFIG, GET_STATUS, INFLATE, PAGE, POISON, QEMU_PROTOCOL, REGIONS, REPORT, RESET_DEVICE, SET_CONFIG,
-    SET_FEATURES, SET_STATUS, SET_VRING_ADDR, SET_VRING_ENABLE, SET_VRING_KICK, SET_VRING_NUM, SIZE, WRITE,
+    DEFLATE,
+    FEATURES,
+    GET_CONFIG,
+    GET_STATUS,
+    INFLATE,
+    PAGE,
+    POISON,
+    QEMU_PROTOCOL,
+    REGIONS,
+    REPORT,
+    RESET_DEVICE,
+    SET_CONFIG,
+    SET_FEATURES,
+    SET_STATUS,
+    SET_VRING_ADDR,
+    SET_VRING_ENABLE,
+    SET_VRING_KICK,
+    SET_VRING_NUM,
+    SIZE,
+    WRITE,
 )
 from vhost_demands import FIRST, demand_served, demand_unserved, word
 
@@ -18,12 +36,25 @@ def test_status(serve_well):
     client.add_memory()
     answers = []
     for status in (8, 9, 1, 12, 11, 15, 0x100, 0):
-        answers.append((client.send(SET_STATUS, word(status)) == bytes(8), client.send(GET_STATUS)[0]))
-    accepted = [(True, 8), (True, 9), (False, 9), (False, 9), (True, 11), (True, 15), (False, 15), (True, 0)]
+        answers.append(
+            (client.send(SET_STATUS, word(status)) == bytes(8), client.send(GET_STATUS)[0])
+        )
+    accepted = [
+        (True, 8),
+        (True, 9),
+        (False, 9),
+        (False, 9),
+        (True, 11),
+        (True, 15),
+        (False, 15),
+        (True, 0),
+    ]
     assert answers == accepted
 
 
-@pytest.mark.parametrize("message, body", ((vhost_client.RESET_OWNER, b""), (SET_STATUS, word(0)), (RESET_DEVICE, b"")))
+@pytest.mark.parametrize(
+    "message, body", ((vhost_client.RESET_OWNER, b""), (SET_STATUS, word(0)), (RESET_DEVICE, b""))
+)
 def test_what_stops_all_rings(start_by_events, message, body):
     client = start_by_events()
     demand_served(client, INFLATE, [FIRST])
@@ -85,7 +116,9 @@ def test_a_ring_runs_once_all_is_told(serve_well):
     place = struct.pack("<IIQQQQ", INFLATE, 0, *(REGIONS[0][1] + it * PAGE for it in (0, 2, 1)), 0)
     kick = os.eventfd(0, os.EFD_NONBLOCK)
     messages = (
-        (SET_VRING_NUM, struct.pack("<II", INFLATE, SIZE)), (SET_VRING_ADDR, place), (SET_VRING_KICK, word(INFLATE), [kick]),
+        (SET_VRING_NUM, struct.pack("<II", INFLATE, SIZE)),
+        (SET_VRING_ADDR, place),
+        (SET_VRING_KICK, word(INFLATE), [kick]),
         (SET_VRING_ENABLE, struct.pack("<II", INFLATE, 1)),
     )
     for late in messages:
@@ -141,7 +174,11 @@ def test_a_device_that_is_plugged_again(serve_well):
             client.accepted(SET_VRING_ENABLE, struct.pack("<II", number, 0))
             client.stop_ring(number)
         client.begin(QEMU_PROTOCOL)
-        assert (client.send(GET_STATUS), client.counter("status"), client.counter("actual")) == (bytes(8), 0, 0)
+        assert (client.send(GET_STATUS), client.counter("status"), client.counter("actual")) == (
+            bytes(8),
+            0,
+            0,
+        )
         assert (client.open_files(), client.mappings()) == (files, 0)
         assert client.send(SET_STATUS, word(11)) != bytes(8)  # as no features are taken
     client.start_by_events()
@@ -166,7 +203,11 @@ def demand_reported(client, page, kept):
     client.kick(REPORT)
     assert client.called(REPORT) == 1
     counters = client.backend.counters()
-    assert [counters[it] - before[it] for it in ("reported", "kept", "discarded")] == [1, kept, 1 - kept]
+    assert [counters[it] - before[it] for it in ("reported", "kept", "discarded")] == [
+        1,
+        kept,
+        1 - kept,
+    ]
     assert client.read(page * PAGE, PAGE) == (b"\xff" if kept else b"\0") * PAGE
 
 
@@ -186,7 +227,9 @@ def write_whole(client, *words):
 
 def configuration(client):
     """Returns the words of the configuration."""
-    return struct.unpack("<IIIIIII", client.send(GET_CONFIG, struct.pack("<III", 0, 16, 0) + bytes(16)))[3:]
+    return struct.unpack(
+        "<IIIIIII", client.send(GET_CONFIG, struct.pack("<III", 0, 16, 0) + bytes(16))
+    )[3:]
 
 
 def test_the_whole_configuration_at_once(start_by_events, serve_well):
@@ -208,9 +251,25 @@ def test_the_whole_configuration_at_once(start_by_events, serve_well):
 ACTUAL, POISON_VAL, NEITHER = (0x07060504, 0xFFFFFFFF), (0, 0x0F0E0D0C), (0, 0xFFFFFFFF)
 BOTH = (ACTUAL[0], POISON_VAL[1])
 WRITES = (
-    (4, 4, ACTUAL), (0, 8, ACTUAL), (4, 8, ACTUAL), (0, 15, ACTUAL), (3, 12, ACTUAL), (12, 4, POISON_VAL), (8, 8, POISON_VAL),
-    (5, 11, POISON_VAL), (0, 16, BOTH), (4, 12, BOTH), (0, 4, NEITHER), (8, 4, NEITHER), (0, 0, NEITHER), (4, 3, NEITHER),
-    (0, 7, NEITHER), (5, 7, NEITHER), (5, 10, NEITHER), (13, 3, NEITHER), (6, 6, NEITHER),
+    (4, 4, ACTUAL),
+    (0, 8, ACTUAL),
+    (4, 8, ACTUAL),
+    (0, 15, ACTUAL),
+    (3, 12, ACTUAL),
+    (12, 4, POISON_VAL),
+    (8, 8, POISON_VAL),
+    (5, 11, POISON_VAL),
+    (0, 16, BOTH),
+    (4, 12, BOTH),
+    (0, 4, NEITHER),
+    (8, 4, NEITHER),
+    (0, 0, NEITHER),
+    (4, 3, NEITHER),
+    (0, 7, NEITHER),
+    (5, 7, NEITHER),
+    (5, 10, NEITHER),
+    (13, 3, NEITHER),
+    (6, 6, NEITHER),
 )
 
 
@@ -267,7 +326,10 @@ def test_a_state_s_file_is_whole_at_each_moment(serve_well):
         saved = before.read()
         assert (client.backend.ask("target 8"), client.counter("target")) == ("ok", 8)
         before.seek(0)
-        assert (len(saved), before.read()) == (vhost_client.STATE_BYTES, saved)  # an open file is the old one, whole
+        assert (len(saved), before.read()) == (
+            vhost_client.STATE_BYTES,
+            saved,
+        )  # an open file is the old one, whole
     with open(state, "rb") as after:
         assert after.read() != saved
     client.connect()

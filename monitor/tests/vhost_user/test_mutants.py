@@ -50,11 +50,17 @@ def each(names):
 
 @pytest.mark.parametrize("name", each(WRONG))
 def test_a_wrong_backend_is_refused(wrong_program, name):
-    fault = demand_refused(f"{HERE}/{WRONG[name]}", BACKEND_WRONG=name, BACKEND_PROGRAM=wrong_program)
+    fault = demand_refused(
+        f"{HERE}/{WRONG[name]}", BACKEND_WRONG=name, BACKEND_PROGRAM=wrong_program
+    )
     print(f"{name} is refused by {WRONG[name]}: {fault}")
 
 
 @pytest.mark.parametrize("name", each(LOOPS))
 def test_a_wrong_loop_is_refused(name):
-    fault = demand_refused(f"{HERE}/{LOOPS[name]}", LOOP_WRONG=name, BACKEND_PROGRAM=linux_kit.built("loop-checked/vhost_user_balloon"))
+    fault = demand_refused(
+        f"{HERE}/{LOOPS[name]}",
+        LOOP_WRONG=name,
+        BACKEND_PROGRAM=linux_kit.built("loop-checked/vhost_user_balloon"),
+    )
     print(f"{name} is refused by {LOOPS[name]}: {fault}")

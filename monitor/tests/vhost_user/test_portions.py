@@ -45,7 +45,9 @@ def test_a_page_of_numbers(start):
     client.post_pages(DEFLATE, [FIRST + it % 60 for it in range(PAGE // 4)], 5)
     assert (client.told(), client.used(DEFLATE)) == (DEFLATE, (1, [(5, 0)]))
     counters = client.backend.counters()
-    assert [counters[it] for it in ("chains", "inflated", "deflated", "discarded", "interrupts")] == [2, 1024, 1024, 1024, 2]
+    assert [
+        counters[it] for it in ("chains", "inflated", "deflated", "discarded", "interrupts")
+    ] == [2, 1024, 1024, 1024, 2]
 
 
 @pytest.mark.parametrize("lengths", ((), (1024,), (1023,), (1025,), (2, 1024), (1, 1, 0, 1021, 1)))

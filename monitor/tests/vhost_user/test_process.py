@@ -31,7 +31,9 @@ def started_by(program, tmp_path):
     def make(closed):
         path = str(tmp_path / "socket")
         words = ["sh", "-c", f'exec "$0" "$@" {closed}', program, path]
-        backend = subprocess.Popen(words, stdin=subprocess.PIPE, stdout=subprocess.PIPE, stderr=subprocess.PIPE)
+        backend = subprocess.Popen(
+            words, stdin=subprocess.PIPE, stdout=subprocess.PIPE, stderr=subprocess.PIPE
+        )
         running.append(backend)
         end = patience_from_now()
         while True:  # the socket's name is there before the socket listens
@@ -65,7 +67,10 @@ def test_a_standard_input_that_is_closed(program):
     with tempfile.TemporaryDirectory() as folder:
         words = ["sh", "-c", 'exec "$0" "$@" <&-', program, f"{folder}/socket"]
         ran = subprocess.run(words, capture_output=True, text=True, timeout=PATIENCE)
-        assert (ran.returncode, ran.stderr) == (2, f"vhost_user_balloon: {folder}/socket: Operation canceled\n")
+        assert (ran.returncode, ran.stderr) == (
+            2,
+            f"vhost_user_balloon: {folder}/socket: Operation canceled\n",
+        )
 
 
 @pytest.mark.parametrize("number", (signal.SIGTERM, signal.SIGINT, signal.SIGHUP))
@@ -73,7 +78,11 @@ def test_signals_end_it_and_remove_the_socket(serve, program, number):
     with tempfile.TemporaryDirectory() as folder:
         backend = linux_guest.Backend(program, folder, [f"{folder}/socket"])
         backend.process.send_signal(number)
-        assert (backend.process.wait(PATIENCE), os.listdir(folder), backend.why()) == (0, ["backend.log"], "")
+        assert (backend.process.wait(PATIENCE), os.listdir(folder), backend.why()) == (
+            0,
+            ["backend.log"],
+            "",
+        )
         backend.process.stdout.close(), backend.process.stdin.close()
     client = serve()
     client.start_by_events()
@@ -82,13 +91,24 @@ def test_signals_end_it_and_remove_the_socket(serve, program, number):
     assert (sorted(os.listdir(client.folder.name)), client.close()) == (["backend.log"], (0, ""))
 
 
-@pytest.mark.parametrize("words, said", (
-    (["--help"], "vhost_user_balloon SOCKET |"), (["--version"], "vhost_user_balloon VERSION\n"), (["socket", "--help"], "vhost_user_balloon SOCKET |"),
-))
+@pytest.mark.parametrize(
+    "words, said",
+    (
+        (["--help"], "vhost_user_balloon SOCKET |"),
+        (["--version"], "vhost_user_balloon VERSION\n"),
+        (["socket", "--help"], "vhost_user_balloon SOCKET |"),
+    ),
+)
 def test_help_and_version(program, words, said):
     with open(os.path.join(linux_kit.ROOT, "VERSION"), encoding="ascii") as file:
         said = said.replace("VERSION", file.read().strip())
-    ran = subprocess.run([program, *words], stdin=subprocess.DEVNULL, capture_output=True, text=True, timeout=PATIENCE)
+    ran = subprocess.run(
+        [program, *words],
+        stdin=subprocess.DEVNULL,
+        capture_output=True,
+        text=True,
+        timeout=PATIENCE,
+    )
     assert (ran.returncode, ran.stderr, ran.stdout[: len(said)]) == (0, "", said)
 
 
@@ -110,14 +130,18 @@ def test_no_file_is_left_for_a_client(serve_well):
 
 def test_few_files_are_allowed(program):
     words = ["sh", "-c", 'ulimit -n 20; exec "$0" "$@"', program, "/nowhere/socket"]
-    ran = subprocess.run(words, stdin=subprocess.DEVNULL, capture_output=True, text=True, timeout=PATIENCE)
+    ran = subprocess.run(
+        words, stdin=subprocess.DEVNULL, capture_output=True, text=True, timeout=PATIENCE
+    )
     assert " files may be wanted, and 20 may be open (RLIMIT_NOFILE)\n" in ran.stderr
 
 
 def test_no_file_is_left_for_memory(serve):
     client = serve()
     client.negotiate()
-    resource.prlimit(client.backend.process.pid, resource.RLIMIT_NOFILE, (client.open_files() + 1,) * 2)
+    resource.prlimit(
+        client.backend.process.pid, resource.RLIMIT_NOFILE, (client.open_files() + 1,) * 2
+    )
     with pytest.raises((AssertionError, ConnectionResetError)):
         client.hand_over_memory()
     assert client.close() == (1, "refused: SET_MEM_TABLE has 1 files and more")
@@ -125,7 +149,11 @@ def test_no_file_is_left_for_memory(serve):
 
 def target(client, pages):
     """Sets a target, and waits until what follows is served."""
-    assert (client.backend.ask(f"target {pages}"), client.counter("target"), client.counter("target")) == ("ok", pages, pages)
+    assert (
+        client.backend.ask(f"target {pages}"),
+        client.counter("target"),
+        client.counter("target"),
+    ) == ("ok", pages, pages)
 
 
 def test_a_link_in_the_place_of_a_state(serve_well):
@@ -139,7 +167,11 @@ def test_a_link_in_the_place_of_a_state(serve_well):
             os.remove(name)
         os.symlink(other, name)
         target(client, 5 + len(name))
-        assert (state_of(other), len(state_of(state)), os.path.islink(state)) == (b"here", STATE_BYTES, False)
+        assert (state_of(other), len(state_of(state)), os.path.islink(state)) == (
+            b"here",
+            STATE_BYTES,
+            False,
+        )
         assert stat.S_IMODE(os.stat(state).st_mode) == 0o600
     client.connect()
 
@@ -153,7 +185,10 @@ def test_a_state_that_cannot_be_written(serve):
     os.mkdir(f"{state}.part")
     for pages in (6, 7, 8):
         target(client, pages)
-    assert (client.backend.why(), state_of(state)) == (f"{state} isn't written: Is a directory", before)
+    assert (client.backend.why(), state_of(state)) == (
+        f"{state} isn't written: Is a directory",
+        before,
+    )
     client.connect()
     client.start_by_events()
     demand_served(client, INFLATE, [FIRST])
@@ -164,11 +199,21 @@ def test_a_state_that_cannot_be_written(serve):
         assert time.monotonic() < end, "a state isn't written once it can be"
     client.counter("target")
     status, _ = client.close()
-    assert (status, client.lines) == (0, [f"{state} isn't written: Is a directory", f"{state} is written again"])
+    assert (status, client.lines) == (
+        0,
+        [f"{state} isn't written: Is a directory", f"{state} is written again"],
+    )
 
 
 def test_a_state_that_the_disk_does_not_keep(serve, wrong_program, tmp_path):
-    client = serve("--state", f"{tmp_path}/state", built=wrong_program, environment={"BACKEND_WRONG": "bad-disk"})
+    client = serve(
+        "--state",
+        f"{tmp_path}/state",
+        built=wrong_program,
+        environment={"BACKEND_WRONG": "bad-disk"},
+    )
     target(client, 5)
-    assert not os.path.exists(f"{tmp_path}/state"), "what the disk may not keep is in the place of what it keeps"
+    assert not os.path.exists(
+        f"{tmp_path}/state"
+    ), "what the disk may not keep is in the place of what it keeps"
     assert client.close() == (0, f"{tmp_path}/state isn't written: Input/output error")

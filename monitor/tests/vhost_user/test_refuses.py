@@ -8,10 +8,40 @@ import tempfile
 import pytest
 import linux_guest
 from vhost_client import (
-    ADD_MEM_REG, BUFFERS, FEATURES, GET_CONFIG, GET_FEATURES, GET_STATUS, GET_VRING_BASE, HAS_PROTOCOL, INDIRECT, INFLATE,
-    NEXT, NO_FILE, PAGE, PAGES_OF_REGION, QEMU_PROTOCOL, REGIONS, REM_MEM_REG, SET_BACKEND_REQ_FD, SET_CONFIG,
-    SET_FEATURES, SET_MEM_TABLE, SET_PROTOCOL_FEATURES, SET_STATUS, SET_VRING_ADDR, SET_VRING_BASE, SET_VRING_CALL,
-    SET_VRING_ENABLE, SET_VRING_ERR, SET_VRING_KICK, SET_VRING_NUM, SIZE, STATISTICS, VRING_KICK, WRITE,
+    ADD_MEM_REG,
+    BUFFERS,
+    FEATURES,
+    GET_CONFIG,
+    GET_FEATURES,
+    GET_STATUS,
+    GET_VRING_BASE,
+    HAS_PROTOCOL,
+    INDIRECT,
+    INFLATE,
+    NEXT,
+    NO_FILE,
+    PAGE,
+    PAGES_OF_REGION,
+    QEMU_PROTOCOL,
+    REGIONS,
+    REM_MEM_REG,
+    SET_BACKEND_REQ_FD,
+    SET_CONFIG,
+    SET_FEATURES,
+    SET_MEM_TABLE,
+    SET_PROTOCOL_FEATURES,
+    SET_STATUS,
+    SET_VRING_ADDR,
+    SET_VRING_BASE,
+    SET_VRING_CALL,
+    SET_VRING_ENABLE,
+    SET_VRING_ERR,
+    SET_VRING_KICK,
+    SET_VRING_NUM,
+    SIZE,
+    STATISTICS,
+    VRING_KICK,
+    WRITE,
 )
 from vhost_demands import demand_refused
 
@@ -23,7 +53,12 @@ FAR = REGIONS[1][0] + PAGES_OF_REGION * PAGE
 RULES = (
     (1, "the head is no descriptor of the queue", SIZE, []),
     (2, "a next field names no descriptor of the queue", 0, [(0, BUFFERS, 4, NEXT, SIZE)]),
-    (3, "the chain is longer than the queue", 0, [(0, BUFFERS, 4, NEXT, 1), (1, BUFFERS, 4, NEXT, 0)]),
+    (
+        3,
+        "the chain is longer than the queue",
+        0,
+        [(0, BUFFERS, 4, NEXT, 1), (1, BUFFERS, 4, NEXT, 0)],
+    ),
     (4, "an indirect descriptor", 0, [(0, BUFFERS, 16, INDIRECT, 0)]),
     (5, "a piece has the wrong direction", 0, [(0, BUFFERS, 4, WRITE, 0)]),
     (6, "a buffer is out of guest memory", 0, [(0, FAR, 4, 0, 0)]),
@@ -91,16 +126,19 @@ def test_features(serve):
     assert client.close()[0] == 0
 
 
-@pytest.mark.parametrize("words, how", (
-    ("answered 6", {"size": 257}),
-    ("answered 6", {"size": 6}),
-    ("answered 6", {"shift": 8}),
-    ("goes on at 9, and its used index is 0", {"base": 9}),
-    ("goes on at 65535, and its used index is 0", {"base": 65535}),
-    ("goes on at 65536", {"base": 65536}),
-    ("isn't in the guest's memory", {"shift": 1 << 45}),
-    ("answered 6", {"shift": (PAGES_OF_REGION - 2) * PAGE - 64}),
-))
+@pytest.mark.parametrize(
+    "words, how",
+    (
+        ("answered 6", {"size": 257}),
+        ("answered 6", {"size": 6}),
+        ("answered 6", {"shift": 8}),
+        ("goes on at 9, and its used index is 0", {"base": 9}),
+        ("goes on at 65535, and its used index is 0", {"base": 65535}),
+        ("goes on at 65536", {"base": 65536}),
+        ("isn't in the guest's memory", {"shift": 1 << 45}),
+        ("answered 6", {"shift": (PAGES_OF_REGION - 2) * PAGE - 64}),
+    ),
+)
 def test_places(serve, words, how):
     client = serve()
     client.negotiate()
@@ -129,7 +167,10 @@ MESSAGES = (
     ("no queue 5", VRING_KICK, NO_QUEUE, 0),
     ("queue 1 runs", SET_VRING_NUM, struct.pack("<II", 1, 8), 0),
     ("queue 1 runs", SET_VRING_BASE, struct.pack("<II", 1, 0), 0),
-    *(("queue 1 runs, and can't move", SET_VRING_ADDR, struct.pack("<IIQQQQ", 1, 0, *it, 0), 0) for it in MOVED),
+    *(
+        ("queue 1 runs, and can't move", SET_VRING_ADDR, struct.pack("<IIQQQQ", 1, 0, *it, 0), 0)
+        for it in MOVED
+    ),
     ("0 files for an event of queue 1", SET_VRING_CALL, struct.pack("<Q", 1), 0),
     ("1 files for an event of queue 1", SET_VRING_CALL, struct.pack("<Q", 1 | NO_FILE), 1),
     ("by the word 0x401", SET_VRING_CALL, struct.pack("<Q", 0x401), 1),
@@ -140,30 +181,95 @@ MESSAGES = (
     ("SET_MEM_TABLE has 0 files", SET_MEM_TABLE, struct.pack("<II", 2, 0) + bytes(64), 0),
     ("SET_MEM_TABLE has 39 bytes", SET_MEM_TABLE, struct.pack("<II", 1, 0) + bytes(31), 1),
     ("SET_MEM_TABLE has 296 bytes", SET_MEM_TABLE, struct.pack("<II", 9, 0) + bytes(288), 8),
-    ("a memory table of 2 regions with 1 files", SET_MEM_TABLE, struct.pack("<II", 2, 0) + bytes(64), 1),
-    ("a memory table of 2 regions with 2 files", SET_MEM_TABLE, struct.pack("<II", 2, 0) + bytes(32), 2),
+    (
+        "a memory table of 2 regions with 1 files",
+        SET_MEM_TABLE,
+        struct.pack("<II", 2, 0) + bytes(64),
+        1,
+    ),
+    (
+        "a memory table of 2 regions with 2 files",
+        SET_MEM_TABLE,
+        struct.pack("<II", 2, 0) + bytes(32),
+        2,
+    ),
     ("SET_MEM_TABLE has 8 files and more", SET_MEM_TABLE, struct.pack("<II", 8, 0) + bytes(256), 9),
     ("can't be mapped", SET_MEM_TABLE, struct.pack("<IIQQQQ", 1, 0, 0, 0, 0, 0), 1),
-    ("can't be mapped", SET_MEM_TABLE, struct.pack("<IIQQQQ", 1, 0, 2**64 - PAGE, 2 * PAGE, 0, 0), 1),
+    (
+        "can't be mapped",
+        SET_MEM_TABLE,
+        struct.pack("<IIQQQQ", 1, 0, 2**64 - PAGE, 2 * PAGE, 0, 0),
+        1,
+    ),
     ("can't be mapped", SET_MEM_TABLE, struct.pack("<IIQQQQ", 1, 0, 0, PAGE, 0, 1), 1),
-    ("can't be mapped", SET_MEM_TABLE, struct.pack("<IIQQQQ", 1, 0, 0, 2 * PAGE, 2**64 - PAGE, 0), 1),
-    ("can't be mapped", SET_MEM_TABLE, struct.pack("<IIQQQQ", 1, 0, 0, 2 * PAGE, 0, 2**64 - PAGE), 1),
+    (
+        "can't be mapped",
+        SET_MEM_TABLE,
+        struct.pack("<IIQQQQ", 1, 0, 0, 2 * PAGE, 2**64 - PAGE, 0),
+        1,
+    ),
+    (
+        "can't be mapped",
+        SET_MEM_TABLE,
+        struct.pack("<IIQQQQ", 1, 0, 0, 2 * PAGE, 0, 2**64 - PAGE),
+        1,
+    ),
     ("can't be mapped", SET_MEM_TABLE, struct.pack("<IIQQQQ", 1, 0, 0, PAGE, 0, 2**63), 1),
-    ("can't be mapped", SET_MEM_TABLE, struct.pack("<IIQQQQ", 1, 0, 0, PAGE, 0, PAGES_OF_REGION * PAGE), 1),
+    (
+        "can't be mapped",
+        SET_MEM_TABLE,
+        struct.pack("<IIQQQQ", 1, 0, 0, PAGE, 0, PAGES_OF_REGION * PAGE),
+        1,
+    ),
     ("can't be mapped", SET_MEM_TABLE, struct.pack("<IIQQQQ", 1, 0, 0, PAGE + 1, 0, 0), 1),
     ("can't be mapped", SET_MEM_TABLE, struct.pack("<IIQQQQ", 1, 0, 1, PAGE, 0, 0), 1),
     ("can't be mapped", SET_MEM_TABLE, struct.pack("<IIQQQQ", 1, 0, 0, PAGE * 65, 0, 0), 1),
-    ("can't be mapped", SET_MEM_TABLE, struct.pack("<II8Q", 2, 0, 0, PAGE * 2, 0, 0, PAGE, PAGE, 1 << 40, 0), 2),
-    ("can't be mapped", SET_MEM_TABLE, struct.pack("<II8Q", 2, 0, 0, PAGE, 0, 0, PAGE, PAGE, PAGE - 1, 0), 2),
-    ("can't be mapped", SET_MEM_TABLE, struct.pack("<II8Q", 2, 0, PAGE, PAGE, 0, 0, 0, PAGE * 2, 1 << 40, 0), 2),
-    ("can't be mapped", SET_MEM_TABLE, struct.pack("<II8Q", 2, 0, 0, PAGE, PAGE, 0, PAGE, PAGE * 2, 0, 0), 2),
-    ("isn't in the guest's memory any longer", SET_MEM_TABLE, struct.pack("<IIQQQQ", 1, 0, 0, 2 * PAGE, 0, 0), 1),
+    (
+        "can't be mapped",
+        SET_MEM_TABLE,
+        struct.pack("<II8Q", 2, 0, 0, PAGE * 2, 0, 0, PAGE, PAGE, 1 << 40, 0),
+        2,
+    ),
+    (
+        "can't be mapped",
+        SET_MEM_TABLE,
+        struct.pack("<II8Q", 2, 0, 0, PAGE, 0, 0, PAGE, PAGE, PAGE - 1, 0),
+        2,
+    ),
+    (
+        "can't be mapped",
+        SET_MEM_TABLE,
+        struct.pack("<II8Q", 2, 0, PAGE, PAGE, 0, 0, 0, PAGE * 2, 1 << 40, 0),
+        2,
+    ),
+    (
+        "can't be mapped",
+        SET_MEM_TABLE,
+        struct.pack("<II8Q", 2, 0, 0, PAGE, PAGE, 0, PAGE, PAGE * 2, 0, 0),
+        2,
+    ),
+    (
+        "isn't in the guest's memory any longer",
+        SET_MEM_TABLE,
+        struct.pack("<IIQQQQ", 1, 0, 0, 2 * PAGE, 0, 0),
+        1,
+    ),
     ("too far up", SET_MEM_TABLE, struct.pack("<IIQQQQ", 1, 0, (1 << 44) - PAGE, PAGE, 0, 0), 1),
     ("ADD_MEM_REG isn't negotiated", ADD_MEM_REG, bytes(40), 1),
     ("GET_STATUS isn't negotiated", GET_STATUS, b"", 0),
     ("GET_CONFIG has 0 bytes", GET_CONFIG, b"", 0),
-    ("4000 bytes of the configuration, in a message with 0", GET_CONFIG, struct.pack("<III", 0, 4000, 0), 0),
-    ("5 bytes of the configuration, in a message with 4", SET_CONFIG, struct.pack("<IIII", 4, 5, 0, 0), 0),
+    (
+        "4000 bytes of the configuration, in a message with 0",
+        GET_CONFIG,
+        struct.pack("<III", 0, 4000, 0),
+        0,
+    ),
+    (
+        "5 bytes of the configuration, in a message with 4",
+        SET_CONFIG,
+        struct.pack("<IIII", 4, 5, 0, 0),
+        0,
+    ),
 )
 
 
@@ -177,8 +283,13 @@ def test_messages(serve_ready, words, number, body, files):
 def test_more_regions_than_slots(serve):
     client = serve()
     client.negotiate(protocol=QEMU_PROTOCOL)
-    region = lambda it: struct.pack("<QQQQQ", 0, (1 + it) * PAGE, PAGE, REGIONS[0][1] + it * PAGE, it * PAGE)
-    for it in (*range(16, 32), *range(15, -1, -1)):  # each touches one that is there, from above or from below
+    region = lambda it: struct.pack(
+        "<QQQQQ", 0, (1 + it) * PAGE, PAGE, REGIONS[0][1] + it * PAGE, it * PAGE
+    )
+    for it in (
+        *range(16, 32),
+        *range(15, -1, -1),
+    ):  # each touches one that is there, from above or from below
         client.accepted(ADD_MEM_REG, region(it), [client.files[0]])
     assert client.counter("end") == 33
     client.send(ADD_MEM_REG, region(32), [client.files[0]], flags=1)
@@ -205,11 +316,16 @@ def test_flags(serve_ready, flags):
 GUEST, USER, BYTES = *REGIONS[1], PAGES_OF_REGION * PAGE
 
 
-@pytest.mark.parametrize("words, gone, body", (
-    ("no such region", True, (GUEST, BYTES, USER)), ("no such region", False, (GUEST + PAGE, BYTES, USER)),
-    ("no such region", False, (GUEST, BYTES - PAGE, USER)), ("no such region", False, (GUEST, BYTES, USER + PAGE)),
-    ("isn't in the guest's memory any longer", True, (REGIONS[0][0], BYTES, REGIONS[0][1])),
-))
+@pytest.mark.parametrize(
+    "words, gone, body",
+    (
+        ("no such region", True, (GUEST, BYTES, USER)),
+        ("no such region", False, (GUEST + PAGE, BYTES, USER)),
+        ("no such region", False, (GUEST, BYTES - PAGE, USER)),
+        ("no such region", False, (GUEST, BYTES, USER + PAGE)),
+        ("isn't in the guest's memory any longer", True, (REGIONS[0][0], BYTES, REGIONS[0][1])),
+    ),
+)
 def test_regions_that_are_taken_away(serve, words, gone, body):
     client = serve()
     client.start_by_events()
@@ -245,35 +361,59 @@ def test_memory_that_is_cut_off(serve_ready):
 
 def test_saved_states_that_are_none(program):
     with tempfile.TemporaryDirectory() as folder:
-        path, words = os.path.join(folder, "state"), [f"{folder}/socket", "--state", os.path.join(folder, "state")]
+        path, words = os.path.join(folder, "state"), [
+            f"{folder}/socket",
+            "--state",
+            os.path.join(folder, "state"),
+        ]
         backend = linux_guest.Backend(program, folder, words)
-        assert (backend.ask("target 5"), backend.counters()["target"], backend.close()) == ("ok", 5, 2)
+        assert (backend.ask("target 5"), backend.counters()["target"], backend.close()) == (
+            "ok",
+            5,
+            2,
+        )
         backend.process.stdout.close()
         with open(path, "rb") as file:
             saved = file.read()
         # The codes of vb.h, in the order in which vb_restore tests for them.
         for data, code in (
-            (b"", 9), (saved[:15], 9), (bytes(187), 10), (bytes(1000), 10), (saved[:-1], 9), (saved + b"\0", 9),
+            (b"", 9),
+            (saved[:15], 9),
+            (bytes(187), 10),
+            (bytes(1000), 10),
+            (saved[:-1], 9),
+            (saved + b"\0", 9),
             (saved[:-1] + bytes([saved[-1] ^ 1]), 12),
         ):
             with open(path, "wb") as file:
                 file.write(data)
-            ran = subprocess.run([program, *words], stdin=subprocess.DEVNULL, capture_output=True, text=True, timeout=PATIENCE)
+            ran = subprocess.run(
+                [program, *words],
+                stdin=subprocess.DEVNULL,
+                capture_output=True,
+                text=True,
+                timeout=PATIENCE,
+            )
             said = f"refused: {path} is no saved state: it is answered {code}\n"
             assert (ran.returncode, ran.stdout, ran.stderr) == (2, "", said)
 
 
-@pytest.mark.parametrize("words, make", (
-    ("Too many levels of symbolic links", lambda path: os.symlink("state", path)),
-    ("Too many levels of symbolic links", lambda path: os.symlink("/dev/null", path)),
-    ("Invalid argument", os.mkfifo),
-    ("Invalid argument", os.mkdir),
-))
+@pytest.mark.parametrize(
+    "words, make",
+    (
+        ("Too many levels of symbolic links", lambda path: os.symlink("state", path)),
+        ("Too many levels of symbolic links", lambda path: os.symlink("/dev/null", path)),
+        ("Invalid argument", os.mkfifo),
+        ("Invalid argument", os.mkdir),
+    ),
+)
 def test_states_that_cannot_be_read(program, tmp_path, words, make):
     path = str(tmp_path / "state")
     make(path)
     options = [program, f"{tmp_path}/socket", "--state", path]
-    ran = subprocess.run(options, stdin=subprocess.DEVNULL, capture_output=True, text=True, timeout=PATIENCE)
+    ran = subprocess.run(
+        options, stdin=subprocess.DEVNULL, capture_output=True, text=True, timeout=PATIENCE
+    )
     assert (ran.returncode, ran.stdout, ran.stderr) == (2, "", f"refused: {path}: {words}\n")
 
 
@@ -286,8 +426,17 @@ def test_bytes_that_are_no_message(serve_ready):
 def test_a_file_in_the_socket_s_place_stays(program):
     with tempfile.NamedTemporaryFile() as file:
         file.write(b"here"), file.flush()
-        ran = subprocess.run([program, file.name], stdin=subprocess.DEVNULL, capture_output=True, text=True, timeout=PATIENCE)
-        assert (ran.returncode, ran.stderr) == (2, f"vhost_user_balloon: {file.name}: Address already in use\n")
+        ran = subprocess.run(
+            [program, file.name],
+            stdin=subprocess.DEVNULL,
+            capture_output=True,
+            text=True,
+            timeout=PATIENCE,
+        )
+        assert (ran.returncode, ran.stderr) == (
+            2,
+            f"vhost_user_balloon: {file.name}: Address already in use\n",
+        )
         file.seek(0)
         assert file.read() == b"here"
 
@@ -296,12 +445,30 @@ def test_nobody_comes(program):
     with tempfile.TemporaryDirectory() as folder:
         words = [program, f"{folder}/socket"]
         ran = subprocess.run(words, input="", capture_output=True, text=True, timeout=PATIENCE)
-        assert (ran.returncode, ran.stderr) == (2, f"vhost_user_balloon: {words[1]}: Operation canceled\n")
+        assert (ran.returncode, ran.stderr) == (
+            2,
+            f"vhost_user_balloon: {words[1]}: Operation canceled\n",
+        )
         assert os.listdir(folder) == []
 
 
-@pytest.mark.parametrize("words", ([], ["--features"], ["a", "b"], ["a", "--features", "x"], ["--wrong", "a"], ["x" * 200],
-    *(["a", "--features", it] for it in ("8", "", " 100000027", "+100000027", "100000027 ", "10000000000000000"))))
+@pytest.mark.parametrize(
+    "words",
+    (
+        [],
+        ["--features"],
+        ["a", "b"],
+        ["a", "--features", "x"],
+        ["--wrong", "a"],
+        ["x" * 200],
+        *(
+            ["a", "--features", it]
+            for it in ("8", "", " 100000027", "+100000027", "100000027 ", "10000000000000000")
+        ),
+    ),
+)
 def test_command_lines(program, words):
-    ran = subprocess.run([program, *words], stdin=subprocess.DEVNULL, capture_output=True, timeout=PATIENCE)
+    ran = subprocess.run(
+        [program, *words], stdin=subprocess.DEVNULL, capture_output=True, timeout=PATIENCE
+    )
     assert (ran.returncode, ran.stdout) == (2, b""), words

@@ -5,7 +5,17 @@ import time
 
 import pytest
 import vhost_client
-from vhost_client import BUFFERS, DEFLATE, GET_VRING_BASE, INFLATE, PAGE, PAGES_OF_REGION, REGIONS, SET_MEM_TABLE, VRING_KICK
+from vhost_client import (
+    BUFFERS,
+    DEFLATE,
+    GET_VRING_BASE,
+    INFLATE,
+    PAGE,
+    PAGES_OF_REGION,
+    REGIONS,
+    SET_MEM_TABLE,
+    VRING_KICK,
+)
 from vhost_demands import MOST_CHAINS
 from waiting import patience_from_now
 
@@ -20,6 +30,7 @@ def places(first):
     """Returns where the parts begin, from here on."""
     return (first + page * PAGE + it for page, it in zip(PARTS, BEGINS))
 
+
 # Elsewhere in the guest or in the client, in pages.
 AWAY = 1000
 
@@ -28,8 +39,12 @@ def hand_over(client, regions, answered=True):
     """Hands over regions of one file: their first pages, how many, and where they are in the guest and in the client."""
     table = struct.pack("<II", len(regions), 0)
     for first, count, guest, user in regions:
-        table += struct.pack("<QQQQ", GUEST + guest * PAGE, count * PAGE, USER + user * PAGE, first * PAGE)
-    return client.send(SET_MEM_TABLE, table, len(regions) * client.files[:1], flags=9 if answered else 1)
+        table += struct.pack(
+            "<QQQQ", GUEST + guest * PAGE, count * PAGE, USER + user * PAGE, first * PAGE
+        )
+    return client.send(
+        SET_MEM_TABLE, table, len(regions) * client.files[:1], flags=9 if answered else 1
+    )
 
 
 def around(page, *instead):
@@ -43,7 +58,9 @@ def place(client, number, size):
     table, available, used = places(USER)
     client.accepted(vhost_client.SET_VRING_NUM, struct.pack("<II", number, size))
     client.accepted(vhost_client.SET_VRING_BASE, struct.pack("<II", number, 0))
-    client.accepted(vhost_client.SET_VRING_ADDR, struct.pack("<IIQQQQ", number, 0, table, used, available, 0))
+    client.accepted(
+        vhost_client.SET_VRING_ADDR, struct.pack("<IIQQQQ", number, 0, table, used, available, 0)
+    )
 
 
 @pytest.fixture
@@ -61,14 +78,19 @@ def demand_all_used(client, turn):
     pages, heads = [20 + it % 40 for it in range(MOST_CHAINS)], range(MOST_CHAINS - 1, -1, -1)
     client.write(BUFFERS, struct.pack(f"<{MOST_CHAINS}I", *(GUEST // PAGE + it for it in pages)))
     client.write(GUEST + 20 * PAGE, b"\xff" * 44 * PAGE)
-    client.write(table, b"".join(struct.pack("<QIHH", BUFFERS + 4 * it, 4, 0, 0) for it in range(MOST_CHAINS)))
+    client.write(
+        table,
+        b"".join(struct.pack("<QIHH", BUFFERS + 4 * it, 4, 0, 0) for it in range(MOST_CHAINS)),
+    )
     client.write(used, bytes(4) if turn == 0 else struct.pack("<HH", 0, turn * MOST_CHAINS))
     client.write(available, struct.pack(f"<HH{MOST_CHAINS}H", 1, (turn + 1) * MOST_CHAINS, *heads))
     client.send(VRING_KICK, struct.pack("<II", INFLATE, 0))
     end = patience_from_now()
     while client.counter("chains") < (turn + 1) * MOST_CHAINS:
         assert time.monotonic() < end, "a chain isn't served"
-    wanted = struct.pack("<HH", 0, (turn + 1) * MOST_CHAINS) + b"".join(struct.pack("<II", it, 0) for it in heads)
+    wanted = struct.pack("<HH", 0, (turn + 1) * MOST_CHAINS) + b"".join(
+        struct.pack("<II", it, 0) for it in heads
+    )
     assert client.read(used, len(wanted)) == wanted
     held = [it for it in range(20, 64) if client.read(GUEST + it * PAGE, 1) != b"\0"]
     assert held == [60, 61, 62, 63]
@@ -106,7 +128,9 @@ def test_memory_without_a_part_of_a_ring_that_runs(serve, size, regions):
 
 
 def test_a_ring_where_a_region_ends_and_another_one_begins(mapped):
-    hand_over(mapped, [(0, 32, 0, 0), (32, 32, AWAY, 32)])  # in the client they touch, in the guest they don't
+    hand_over(
+        mapped, [(0, 32, 0, 0), (32, 32, AWAY, 32)]
+    )  # in the client they touch, in the guest they don't
     mapped.tell_place(INFLATE, shift=32 * PAGE)
     assert (mapped.enable(INFLATE), mapped.counter("status")) == (bytes(8), 15)
 
@@ -115,7 +139,10 @@ def test_what_is_left_of_a_queue_that_stops(serve_well):
     client = serve_well()
     client.start(size=MOST_CHAINS)
     client.describe_all(DEFLATE, MOST_CHAINS)
-    client.socket.sendall(struct.pack("<IIIII", VRING_KICK, 1, 8, DEFLATE, 0) + struct.pack("<IIIII", GET_VRING_BASE, 1, 8, DEFLATE, 0))
+    client.socket.sendall(
+        struct.pack("<IIIII", VRING_KICK, 1, 8, DEFLATE, 0)
+        + struct.pack("<IIIII", GET_VRING_BASE, 1, 8, DEFLATE, 0)
+    )
     base = struct.unpack("<II", client.receive()[1])[1]
     assert 0 < base < MOST_CHAINS, base
     assert (client.counter("chains"), client.counter("status")) == (base, 15)

@@ -10,8 +10,27 @@ import time
 import pytest
 import linux_kit
 from vhost_client import (
-    DEFLATE, FEATURES, GET_CONFIG, GET_FEATURES, GET_PROTOCOL_FEATURES, GET_QUEUE_NUM, HAS_PROTOCOL, INFLATE, NEXT,
-    NO_LINES, NO_NUMBERS, OFFERED, PAGE, PAGES_OF_REGION, REGIONS, REPORT, SET_CONFIG, SET_FEATURES, SIZE, STATISTICS, WRITE,
+    DEFLATE,
+    FEATURES,
+    GET_CONFIG,
+    GET_FEATURES,
+    GET_PROTOCOL_FEATURES,
+    GET_QUEUE_NUM,
+    HAS_PROTOCOL,
+    INFLATE,
+    NEXT,
+    NO_LINES,
+    NO_NUMBERS,
+    OFFERED,
+    PAGE,
+    PAGES_OF_REGION,
+    REGIONS,
+    REPORT,
+    SET_CONFIG,
+    SET_FEATURES,
+    SIZE,
+    STATISTICS,
+    WRITE,
 )
 from vhost_demands import MOST_CHAINS, post_statistics
 from waiting import PATIENCE
@@ -34,7 +53,9 @@ def test_start(serve_well):
 def test_inflate_and_deflate(start):
     client = start("--strict")
     first = REGIONS[1][0] // PAGE
-    assert client.post_pages(INFLATE, [first + 9, first + 8, first + 7, first + 20, first + 21], 3) == bytes(8)
+    assert client.post_pages(
+        INFLATE, [first + 9, first + 8, first + 7, first + 20, first + 21], 3
+    ) == bytes(8)
     assert client.told() == INFLATE
     assert client.used(INFLATE) == (1, [(3, 0)])
     assert client.holes() == [first + it for it in (7, 8, 9, 20, 21)]
@@ -78,12 +99,17 @@ def test_pages_that_the_machine_keeps(serve_well):
     client.files[1] = os.memfd_create("sealed", os.MFD_CLOEXEC | os.MFD_ALLOW_SEALING)
     os.write(client.files[1], b"\xff" * PAGES_OF_REGION * PAGE)
     client.start()
-    fcntl.fcntl(client.files[1], fcntl.F_ADD_SEALS, FUTURE_WRITE)  # mapped as it is, and no hole is made in it any more
+    fcntl.fcntl(
+        client.files[1], fcntl.F_ADD_SEALS, FUTURE_WRITE
+    )  # mapped as it is, and no hole is made in it any more
     client.post_pages(INFLATE, [REGIONS[1][0] // PAGE + it for it in (0, 1)])
     assert (client.told(), client.used(INFLATE)) == (INFLATE, (1, [(0, 0)]))
     counters = client.backend.counters()
     assert [counters[it] for it in ("inflated", "discarded", "kept", "in_holes")] == [2, 0, 2, 0]
-    assert (client.holes(), client.backend.why()) == ([], "2 pages can't be discarded: Operation not permitted")
+    assert (client.holes(), client.backend.why()) == (
+        [],
+        "2 pages can't be discarded: Operation not permitted",
+    )
     os.truncate(client.backend.log, 0)
 
 
@@ -101,10 +127,16 @@ def test_report(start):
 
 def test_what_each_counter_counts(start):
     client = start()
-    first, hole, end = (REGIONS[region][0] // PAGE + more for region, more in ((1, 0), (0, PAGES_OF_REGION), (1, PAGES_OF_REGION)))
+    first, hole, end = (
+        REGIONS[region][0] // PAGE + more
+        for region, more in ((1, 0), (0, PAGES_OF_REGION), (1, PAGES_OF_REGION))
+    )
     post_statistics(client, 11)
     assert client.backend.statistics() == (1, {"free_memory": 11})
-    for number, pages in ((INFLATE, [first, first + 1, first + 2, hole, end]), (DEFLATE, [first, first + 1])):
+    for number, pages in (
+        (INFLATE, [first, first + 1, first + 2, hole, end]),
+        (DEFLATE, [first, first + 1]),
+    ):
         client.post_pages(number, pages)
         assert client.told() == number
     for page, count in ((first + 8, 4), (first + 20, 3)):
@@ -116,10 +148,33 @@ def test_what_each_counter_counts(start):
     assert (client.backend.ask("target 6"), client.backend.ask("ask")) == ("ok", "asked")
     # 128 pages less 3 and 7; 24 messages until the queues run, 5 kicks and a write; a question gives one more buffer back.
     assert client.backend.counters() == {
-        "target": 6, "actual": 6, "status": 15, "held_kib": 472, "end": end, "messages": 30, "kicks": 5, "interrupts": 5,
-        "told": 1, "chains": 6, "pages": 13, "discarded": 10, "waiting": 0, "skipped": 1, "in_holes": 1, "kept": 0, "marked": 0,
-        "unmarked": 0, "inflated": 4, "deflated": 2, "reported": 7, "reports": 2, "statistics": 1, "taken": 0,
-        "hints_rounds": 0, "hints_pages": 0, "hints_late": 0,
+        "target": 6,
+        "actual": 6,
+        "status": 15,
+        "held_kib": 472,
+        "end": end,
+        "messages": 30,
+        "kicks": 5,
+        "interrupts": 5,
+        "told": 1,
+        "chains": 6,
+        "pages": 13,
+        "discarded": 10,
+        "waiting": 0,
+        "skipped": 1,
+        "in_holes": 1,
+        "kept": 0,
+        "marked": 0,
+        "unmarked": 0,
+        "inflated": 4,
+        "deflated": 2,
+        "reported": 7,
+        "reports": 2,
+        "statistics": 1,
+        "taken": 0,
+        "hints_rounds": 0,
+        "hints_pages": 0,
+        "hints_late": 0,
     }
 
 
@@ -139,8 +194,10 @@ def test_statistics(start):
 def test_the_names_of_statistics(start):
     client = start()
     # The tags of VIRTIO 1.1, 5.5.6.4, from 0 on.
-    names = ("swap_in swap_out major_faults minor_faults free_memory total_memory available_memory disk_caches"
-             " hugetlb_allocations hugetlb_failures other").split()
+    names = (
+        "swap_in swap_out major_faults minor_faults free_memory total_memory available_memory disk_caches"
+        " hugetlb_allocations hugetlb_failures other"
+    ).split()
     post_statistics(client, *range(100, 111), first=0)
     assert client.backend.statistics() == (1, dict(zip(names, range(100, 111))))
 
@@ -208,13 +265,17 @@ def test_what_is_left_as_the_driver_gets_ready_is_served(serve_well):
     client.place(DEFLATE, MOST_CHAINS)
     client.describe_all(DEFLATE, MOST_CHAINS)
     client.enable(DEFLATE)
-    assert client.are_used([DEFLATE], MOST_CHAINS), "the first look left chains, and no other one came"
+    assert client.are_used(
+        [DEFLATE], MOST_CHAINS
+    ), "the first look left chains, and no other one came"
 
 
 def test_what_is_left_of_two_queues_is_served(serve_well):
     client = serve_well()
     client.start(size=MOST_CHAINS)
-    assert client.are_served([INFLATE, DEFLATE], MOST_CHAINS), "one queue's chains are left after another's"
+    assert client.are_served(
+        [INFLATE, DEFLATE], MOST_CHAINS
+    ), "one queue's chains are left after another's"
     assert client.is_at_rest(), "nothing is left, and the backend looks again and again"
 
 
@@ -246,7 +307,10 @@ def test_queues_without_gaps(serve_well):
     assert (client.told(), client.counter("reported")) == (2, 1)
 
 
-@pytest.mark.parametrize("features, numbers", ((FEATURES, [4]), (0x100000007, [3, 4]), (0x100000021, [3, 4]), (0x100000001, [2, 3, 4])))
+@pytest.mark.parametrize(
+    "features, numbers",
+    ((FEATURES, [4]), (0x100000007, [3, 4]), (0x100000021, [3, 4]), (0x100000001, [2, 3, 4])),
+)
 def test_a_queue_without_a_kind_is_never_served(serve_well, features, numbers):
     client = serve_well()
     client.start(features, queues=5)
@@ -265,11 +329,15 @@ def test_configuration(start):
     assert client.backend.ask("target 258") == "ok"
     assert client.told() is None
     body = struct.pack("<III", 0, 4, 0) + bytes(4)
-    assert (client.send(GET_CONFIG, body, flags=1) or client.receive()[1]) == body[:12] + struct.pack("<I", 258)
+    assert (client.send(GET_CONFIG, body, flags=1) or client.receive()[1]) == body[
+        :12
+    ] + struct.pack("<I", 258)
     client.accepted(SET_CONFIG, struct.pack("<IIII", 4, 4, 0, 258))
     assert client.counter("actual") == 258
     assert client.send(SET_CONFIG, struct.pack("<IIII", 0, 4, 0, 9)) != bytes(8)
-    client.accepted(SET_CONFIG, struct.pack("<7I", 0, 16, 0, 9, 77, 9, 9))  # all of it, as QEMU 11.1.3 does for each field
+    client.accepted(
+        SET_CONFIG, struct.pack("<7I", 0, 16, 0, 9, 77, 9, 9)
+    )  # all of it, as QEMU 11.1.3 does for each field
     assert (client.counter("target"), client.counter("actual")) == (258, 77)
 
 

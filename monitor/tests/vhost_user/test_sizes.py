@@ -4,7 +4,17 @@ import struct
 import time
 
 import pytest
-from vhost_client import BUFFERS, INFLATE, NEXT, PAGE, REGIONS, SET_VRING_ADDR, SET_VRING_BASE, SET_VRING_NUM, VRING_KICK
+from vhost_client import (
+    BUFFERS,
+    INFLATE,
+    NEXT,
+    PAGE,
+    REGIONS,
+    SET_VRING_ADDR,
+    SET_VRING_BASE,
+    SET_VRING_NUM,
+    VRING_KICK,
+)
 from vhost_demands import demand_refused
 from waiting import patience_from_now
 
@@ -23,15 +33,23 @@ MOST_PIECES = 256
 @pytest.fixture
 def with_ring(serve):
     """Returns a client whose queue of inflates has a ring of this size, of which all that was taken was used."""
+
     def make(size):
         client = serve()
         client.negotiate()
         client.hand_over_memory()
         client.write(GUEST, bytes(RINGS))
-        client.write(AVAILABLE, struct.pack("<HH", 1, BEGIN)), client.write(USED, struct.pack("<HH", 0, BEGIN))
+        client.write(AVAILABLE, struct.pack("<HH", 1, BEGIN)), client.write(
+            USED, struct.pack("<HH", 0, BEGIN)
+        )
         client.accepted(SET_VRING_NUM, struct.pack("<II", INFLATE, size))
         client.accepted(SET_VRING_BASE, struct.pack("<II", INFLATE, BEGIN))
-        client.accepted(SET_VRING_ADDR, struct.pack("<IIQQQQ", INFLATE, 0, *(USER + it - GUEST for it in (TABLE, USED, AVAILABLE)), 0))
+        client.accepted(
+            SET_VRING_ADDR,
+            struct.pack(
+                "<IIQQQQ", INFLATE, 0, *(USER + it - GUEST for it in (TABLE, USED, AVAILABLE)), 0
+            ),
+        )
         assert client.enable(INFLATE) == bytes(8), client.why()
         return client
 
@@ -63,7 +81,10 @@ def used_since(client, size, count, first):
     end, wanted = patience_from_now(), struct.pack("<H", first + count & 0xFFFF)
     while client.read(USED + 2, 2) != wanted:
         assert time.monotonic() < end, f"not all chains are used: {client.why()}"
-    return [struct.unpack("<II", client.read(USED + 4 + 8 * (it % size), 8)) for it in range(first, first + count)]
+    return [
+        struct.unpack("<II", client.read(USED + 4 + 8 * (it % size), 8))
+        for it in range(first, first + count)
+    ]
 
 
 @pytest.mark.parametrize("size", (1, 2, 512, 1024))
@@ -73,7 +94,9 @@ def test_a_ring_is_served_whole(with_ring, size):
         client.write(TABLE + 16 * number, struct.pack("<QIHH", BUFFERS + 4 * number, 4, 0, 0))
     for turn in range(2):
         client.write(GUEST + 20 * PAGE, b"\xff" * 44 * PAGE)
-        client.write(BUFFERS, struct.pack(f"<{size}I", *(GUEST // PAGE + 20 + it % 40 for it in range(size))))
+        client.write(
+            BUFFERS, struct.pack(f"<{size}I", *(GUEST // PAGE + 20 + it % 40 for it in range(size)))
+        )
         publish(client, size, heads, BEGIN + turn * size)
         assert used_since(client, size, size, BEGIN + turn * size) == [(it, 0) for it in heads]
         held = [it for it in range(20, 64) if client.read(GUEST + it * PAGE, 1) != b"\0"]
@@ -111,7 +134,15 @@ def test_rules_of_a_size(with_ring, rule, words, size, heads, descriptors):
     demand_refused(client, f"the guest's bytes break a rule: {words} (rule {rule})")
 
 
-@pytest.mark.parametrize("words, size", (("answered 6", 3), ("answered 6", 768), ("has 1025 entries", 1025), ("has 2048 entries", 2048)))
+@pytest.mark.parametrize(
+    "words, size",
+    (
+        ("answered 6", 3),
+        ("answered 6", 768),
+        ("has 1025 entries", 1025),
+        ("has 2048 entries", 2048),
+    ),
+)
 def test_no_size_of_a_ring(serve, words, size):
     client = serve()
     client.negotiate()

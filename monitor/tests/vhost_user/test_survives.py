@@ -13,19 +13,46 @@ LIVES = 200
 
 def send_message(chance, client):
     """Sends a random message."""
-    words = [chance.choice((0, 1, 2, 3, 4, 8, 9, 256, 1 << 31, chance.getrandbits(32))) for _ in range(chance.randint(0, 18))]
+    words = [
+        chance.choice((0, 1, 2, 3, 4, 8, 9, 256, 1 << 31, chance.getrandbits(32)))
+        for _ in range(chance.randint(0, 18))
+    ]
     body = struct.pack(f"<{len(words)}I", *words)
-    client.send(chance.choice(REQUESTS), body, client.files[: chance.randint(0, 2)], flags=chance.choice((1, 1, 9)))
+    client.send(
+        chance.choice(REQUESTS),
+        body,
+        client.files[: chance.randint(0, 2)],
+        flags=chance.choice((1, 1, 9)),
+    )
 
 
 def scribble(chance, client):
     """Writes into a ring, usually nearly what would be right, and kicks."""
     number = chance.randrange(4)
     for head in range(chance.randint(1, SIZE)):
-        address = chance.choice((BUFFERS, REGIONS[1][0], REGIONS[1][0] + PAGES_OF_REGION * PAGE - 64, chance.getrandbits(64)))
+        address = chance.choice(
+            (
+                BUFFERS,
+                REGIONS[1][0],
+                REGIONS[1][0] + PAGES_OF_REGION * PAGE - 64,
+                chance.getrandbits(64),
+            )
+        )
         length = chance.choice((4, 80, 1024, PAGE, 2 * PAGE, chance.getrandbits(32)))
-        client.describe(number, head, address, length, chance.choice((0, 0, 1, 2, 3, chance.randrange(8))), chance.randrange(SIZE + 1))
-    client.write(BUFFERS, chance.choice((chance.randbytes(64), struct.pack("<I", REGIONS[1][0] // PAGE + 7) * (PAGE // 2))))
+        client.describe(
+            number,
+            head,
+            address,
+            length,
+            chance.choice((0, 0, 1, 2, 3, chance.randrange(8))),
+            chance.randrange(SIZE + 1),
+        )
+    client.write(
+        BUFFERS,
+        chance.choice(
+            (chance.randbytes(64), struct.pack("<I", REGIONS[1][0] // PAGE + 7) * (PAGE // 2))
+        ),
+    )
     client.publish(number, chance.randrange(SIZE), chance.choice((1, 1, 1, 2, 9)))
     client.kick(number)
 

@@ -11,8 +11,19 @@ import time
 
 import pytest
 from vhost_client import (
-    ADD_MEM_REG, BUFFERS, GET_VRING_BASE, INFLATE, PAGE, PAGES_OF_REGION, QEMU_PROTOCOL, SET_BACKEND_REQ_FD, SET_VRING_CALL,
-    SET_VRING_ENABLE, SET_VRING_ERR, SET_VRING_KICK, VRING_KICK,
+    ADD_MEM_REG,
+    BUFFERS,
+    GET_VRING_BASE,
+    INFLATE,
+    PAGE,
+    PAGES_OF_REGION,
+    QEMU_PROTOCOL,
+    SET_BACKEND_REQ_FD,
+    SET_VRING_CALL,
+    SET_VRING_ENABLE,
+    SET_VRING_ERR,
+    SET_VRING_KICK,
+    VRING_KICK,
 )
 from vhost_demands import FIRST, demand_refused, demand_served, word
 
@@ -44,6 +55,7 @@ def semaphore(count):
 @pytest.fixture
 def begin(serve):
     """Returns a client that doesn't have to end well, whose driver is ready."""
+
     def make(**kept):
         client = serve(**kept)
         client.start_by_events()
@@ -66,6 +78,7 @@ def socket_of(family, kind):
 
 def end_of(pair, number):
     """Returns a function that makes such a pair of files, and returns one; the other one is closed."""
+
     def make():
         ends = [it if isinstance(it, int) else it.detach() for it in pair()]
         os.close(ends.pop(1 - number))
@@ -75,12 +88,17 @@ def end_of(pair, number):
 
 
 NO_EVENTFDS = {
-    "pipe that is read": end_of(os.pipe, 0), "pipe that is written": end_of(os.pipe, 1), "socket": end_of(socket.socketpair, 0),
-    "timer": timer, "memory": lambda: os.memfd_create("kick"),
+    "pipe that is read": end_of(os.pipe, 0),
+    "pipe that is written": end_of(os.pipe, 1),
+    "socket": end_of(socket.socketpair, 0),
+    "timer": timer,
+    "memory": lambda: os.memfd_create("kick"),
 }
 NO_STREAMS = {
-    "TCP": socket_of(socket.AF_INET, socket.SOCK_STREAM), "datagrams": socket_of(socket.AF_UNIX, socket.SOCK_DGRAM),
-    "timer": timer, "null": lambda: os.open("/dev/null", os.O_RDWR),
+    "TCP": socket_of(socket.AF_INET, socket.SOCK_STREAM),
+    "datagrams": socket_of(socket.AF_UNIX, socket.SOCK_DGRAM),
+    "timer": timer,
+    "null": lambda: os.open("/dev/null", os.O_RDWR),
 }
 
 
@@ -90,7 +108,9 @@ def test_a_kick_that_is_no_eventfd(begin, sort):
 
 
 def test_a_kick_whose_name_is_that_of_an_eventfd(begin, tmp_path):
-    demand_kick_refused(begin(), os.open(f"{tmp_path}/anon_inode:[eventfd]", os.O_RDWR | os.O_CREAT))
+    demand_kick_refused(
+        begin(), os.open(f"{tmp_path}/anon_inode:[eventfd]", os.O_RDWR | os.O_CREAT)
+    )
 
 
 @pytest.mark.parametrize("count", COUNTS)
@@ -166,6 +186,7 @@ def test_memory_that_is_sealed_cannot_be_cut_off(serve_well):
 @pytest.fixture
 def region_of(serve):
     """Hands over one more region, of a file; returns the client."""
+
     def make(file, size=PAGE):
         client = serve()
         client.negotiate(protocol=QEMU_PROTOCOL)
@@ -175,7 +196,13 @@ def region_of(serve):
     return make
 
 
-@pytest.mark.parametrize("path", ("/proc/self/mem", "/sys/kernel/profiling" if os.path.exists("/sys/kernel/profiling") else "/proc/version"))
+@pytest.mark.parametrize(
+    "path",
+    (
+        "/proc/self/mem",
+        "/sys/kernel/profiling" if os.path.exists("/sys/kernel/profiling") else "/proc/version",
+    ),
+)
 def test_memory_whose_pages_somebody_else_has(region_of, path):
     with open(path, "rb") as file:
         client = region_of(file.fileno())
@@ -203,11 +230,18 @@ def test_a_region_of_half_a_large_page(region_of):
 def test_a_turn_of_many_pages(serve_well):
     client = serve_well()
     client.start(size=256)
-    client.write(BUFFERS, struct.pack(f"<{PAGES_OF_CHAIN}I", *(FIRST + it % PAGES_OF_REGION for it in range(PAGES_OF_CHAIN))))
+    client.write(
+        BUFFERS,
+        struct.pack(
+            f"<{PAGES_OF_CHAIN}I", *(FIRST + it % PAGES_OF_REGION for it in range(PAGES_OF_CHAIN))
+        ),
+    )
     for head in range(TURN):
         client.describe(INFLATE, head, BUFFERS, 4 * PAGES_OF_CHAIN)
     client.write(client.table(INFLATE) + PAGE, struct.pack(f"<HH{TURN}H", 1, TURN, *range(TURN)))
-    asks = struct.pack("<IIIII", VRING_KICK, 1, 8, INFLATE, 0) + struct.pack("<IIIII", GET_VRING_BASE, 1, 8, INFLATE, 0)
+    asks = struct.pack("<IIIII", VRING_KICK, 1, 8, INFLATE, 0) + struct.pack(
+        "<IIIII", GET_VRING_BASE, 1, 8, INFLATE, 0
+    )
     client.socket.sendall(asks)
     base = struct.unpack("<II", client.receive()[1])[1]
     # Between the two messages there are a turn for the kick, and one for what that left.
@@ -222,7 +256,10 @@ def test_lines_of_a_second(start_by_events):
     seconds = int(time.monotonic() - begin) + 2
     with open(client.backend.log, encoding="latin-1") as log:
         said = list(log)
-    line, more = "the client can't be told of a change\n", "further lines of this second are left out\n"
+    line, more = (
+        "the client can't be told of a change\n",
+        "further lines of this second are left out\n",
+    )
     assert said[:6] == [line] * 5 + [more]
     assert len(said) <= 6 * seconds
     os.truncate(client.backend.log, 0)

@@ -1,7 +1,9 @@
-/* Days of a strict host whose guests are simulated, in a time of its own. The lender is its program as it is: the linker puts these functions between
- * it and the kernel's clock, and where it waits, what its guests do happens. Each guest has the process that a lender knows, a driver as
- * Linux's, and work to do. Each of their steps takes a moment, at random a long one. Nothing else is random: a day of one number
- * is always the same. A lender may end at any time: then the program begins anew, and all that is simulated is in memory that outlives it. */
+/* Days of a strict host whose guests are simulated, in a time of its own. The lender is its program
+ * as it is: the linker puts these functions between it and the kernel's clock, and where it waits,
+ * what its guests do happens. Each guest has the process that a lender knows, a driver as Linux's,
+ * and work to do. Each of their steps takes a moment, at random a long one. Nothing else is random:
+ * a day of one number is always the same. A lender may end at any time: then the program begins
+ * anew, and all that is simulated is in memory that outlives it. */
 #ifndef DAYS_H
 #define DAYS_H
 #include "../../../backends/host/message.h"
@@ -20,25 +22,26 @@ struct wait {
 
 struct guest {
     unsigned number;
-    uint32_t pages, used;       /* its memory, and what its kernel and its programs use of it */
-    /* Its process: what it reports, where it speaks to the lender, and what is on the queues of its device. */
+    uint32_t pages, used; /* its memory, and what its kernel and its programs use of it */
+    /* Its process: what it reports, where it speaks to the lender, and what is on the queues of its
+     * device. */
     struct lending_message report;
     int listener, channel;
-    bool turns, news;           /* it is about to have a turn; it has something to report */
+    bool turns, news; /* it is about to have a turn; it has something to report */
     int64_t reports_at;
-    uint64_t answers;           /* the number of the question that is to be answered; 0: none */
+    uint64_t answers; /* the number of the question that is to be answered; 0: none */
     int64_t answers_until;
-    uint32_t target, read_target;       /* the last one that it has heard, and that its driver has read */
-    uint32_t reminded;          /* what was in the balloon at the last target or reminder */
-    uint32_t inflates, deflates;        /* pages of the requests that are on its queues */
+    uint32_t target, read_target; /* the last one that it has heard, and that its driver has read */
+    uint32_t reminded;            /* what was in the balloon at the last target or reminder */
+    uint32_t inflates, deflates;  /* pages of the requests that are on its queues */
     struct wait held, reset;
     /* Its driver: what it has in the balloon, and in the deflate that it waits for. */
     uint32_t balloon, leaks;
-    bool locked;                /* a request is on its way, or about to be */
+    bool locked; /* a request is on its way, or about to be */
     bool worker_waits, work_is_queued, out_of_memory;
     /* Its work. */
-    bool reboots;               /* it reboots after each of its works */
-    uint32_t wants, filled;     /* pages that it still takes, and what it has filled */
+    bool reboots;           /* it reboots after each of its works */
+    uint32_t wants, filled; /* pages that it still takes, and what it has filled */
     uint64_t works;
 };
 
@@ -55,28 +58,30 @@ enum { MOST_GUESTS_OF_DAY = 16, MOST_STEPS = 1024 };
 
 /* All that outlives a lender. */
 struct day {
-    int64_t now;                /* since it began */
-    int64_t lender_ends;        /* when the lender ends, and until when there is none then */
+    int64_t now;         /* since it began */
+    int64_t lender_ends; /* when the lender ends, and until when there is none then */
     int64_t lender_begins;
     uint64_t random;
     struct guest guests[MOST_GUESTS_OF_DAY];
     unsigned size;
     struct step steps[MOST_STEPS];
     unsigned count;
-    uint32_t budget, left;      /* pages; left: that nobody uses, and somebody may */
-    int64_t seen[MOST_GUESTS_OF_DAY];   /* when each guest was last looked at */
+    uint32_t budget, left;            /* pages; left: that nobody uses, and somebody may */
+    int64_t seen[MOST_GUESTS_OF_DAY]; /* when each guest was last looked at */
     int64_t waited, longest;
-    uint64_t lenders;           /* that have ended */
+    uint64_t lenders; /* that have ended */
 };
 
 extern struct day *day;
 
 /* ---- time.c */
 
-/* Begins a day of this number, or goes on with the one of the lender before; whether it begins. A lender has these words. */
+/* Begins a day of this number, or goes on with the one of the lender before; whether it begins. A
+ * lender has these words. */
 bool day_begins(uint64_t number, char **words);
 
-/* Has something be done of a guest after a while, or after a moment as one of its steps takes; and nothing more of it. */
+/* Has something be done of a guest after a while, or after a moment as one of its steps takes; and
+ * nothing more of it. */
 void later(struct guest *guest, act *act, int64_t microseconds);
 void soon(struct guest *guest, act *act);
 void forget(const struct guest *guest);

@@ -1,9 +1,10 @@
-/* A guest's driver, as Linux's: it inflates and deflates by requests of 256 pages, one at a time, by the target that it read before each. Where the
- * guest is out of memory, it deflates by itself, and what takes memory waits for that. */
+/* A guest's driver, as Linux's: it inflates and deflates by requests of 256 pages, one at a time,
+ * by the target that it read before each. Where the guest is out of memory, it deflates by itself,
+ * and what takes memory waits for that. */
 #include "days.h"
 
-/* Pages that nobody may have but the kernel itself; microseconds of a page that is filled; and before a driver that finds no page to give
- * tries again. */
+/* Pages that nobody may have but the kernel itself; microseconds of a page that is filled; and
+ * before a driver that finds no page to give tries again. */
 enum { KERNEL_KEEPS = 512, OF_PAGE = 2, TRIES_AGAIN = SECOND / 5 };
 
 static void work(struct guest *guest);
@@ -49,7 +50,8 @@ static void unlock(struct guest *guest)
 static void request(struct guest *guest)
 {
     uint32_t target = guest->read_target, balloon = guest->balloon;
-    uint32_t most = target > balloon ? driver_spare(guest) : balloon, lacks = target > balloon ? target - balloon : balloon - target;
+    uint32_t most = target > balloon ? driver_spare(guest) : balloon,
+             lacks = target > balloon ? target - balloon : balloon - target;
     uint32_t pages = smaller(smaller(lacks, PAGES_OF_REQUEST), most);
     if (pages == 0) {
         unlock(guest);

@@ -9,7 +9,8 @@
 #include <sys/un.h>
 #include <unistd.h>
 
-/* Microseconds between two reports that nobody asked for; and in which a guest answers a question before the process does. */
+/* Microseconds between two reports that nobody asked for; and in which a guest answers a question
+ * before the process does. */
 enum { NEWS_EVERY = 10 * MILLISECOND, ANSWERS_IN = 100 * MILLISECOND };
 
 enum { FREE_MEMORY = 4, AVAILABLE_MEMORY = 6, PAGE_KIB = 4 };
@@ -50,7 +51,8 @@ static void tell_figures(struct guest *guest)
 {
     struct lending_message *report = &guest->report;
     report->figures[0] = (VbStatistic){FREE_MEMORY, (uint64_t)driver_free(guest) * BALLOON_PAGE};
-    report->figures[1] = (VbStatistic){AVAILABLE_MEMORY, (uint64_t)driver_spare(guest) * BALLOON_PAGE};
+    report->figures[1] =
+        (VbStatistic){AVAILABLE_MEMORY, (uint64_t)driver_spare(guest) * BALLOON_PAGE};
     report->figure_count = 2;
     report->counters.statistics++;
     report->ballooned_then = report->ballooned;
@@ -89,7 +91,8 @@ static void look(struct guest *guest, const struct lending_message *order)
     later(guest, turn, ANSWERS_IN);
 }
 
-/* The pages of the deflate that is held leave the balloon. Those below its target were taken unasked. */
+/* The pages of the deflate that is held leave the balloon. Those below its target were taken
+ * unasked. */
 static void give(struct guest *guest, const struct lending_message *order)
 {
     struct lending_message *report = &guest->report;
@@ -202,7 +205,8 @@ void process_hears(struct guest *guest)
         guest->news |= guest->channel >= 0;
         guest->answers = 0;
     }
-    if (guest->channel >= 0 && (guest->news || recv(guest->channel, &byte, 1, MSG_PEEK | MSG_DONTWAIT) > 0))
+    if (guest->channel >= 0 &&
+        (guest->news || recv(guest->channel, &byte, 1, MSG_PEEK | MSG_DONTWAIT) > 0))
         has_turn(guest);
 }
 
@@ -238,11 +242,14 @@ void process_begins(struct guest *guest, const char *folder)
     struct sockaddr_un address = {.sun_family = AF_UNIX};
     snprintf(address.sun_path, sizeof address.sun_path, "%s/.channels", folder);
     mkdir(address.sun_path, S_IRWXU);
-    snprintf(address.sun_path, sizeof address.sun_path, "%s/.channels/guest-%u", folder, guest->number + 1);
+    snprintf(address.sun_path, sizeof address.sun_path, "%s/.channels/guest-%u", folder,
+             guest->number + 1);
     guest->channel = -1;
     guest->listener = socket(AF_UNIX, SOCK_SEQPACKET | SOCK_NONBLOCK, 0);
-    if (bind(guest->listener, (struct sockaddr *)&address, sizeof address) || listen(guest->listener, 1))
+    if (bind(guest->listener, (struct sockaddr *)&address, sizeof address) ||
+        listen(guest->listener, 1))
         town_ends("no socket for a guest", guest);
     guest->target = guest->read_target = guest->balloon;
-    guest->report = (struct lending_message){.holds = true, .ready = true, .ballooned = guest->balloon};
+    guest->report =
+        (struct lending_message){.holds = true, .ready = true, .ballooned = guest->balloon};
 }

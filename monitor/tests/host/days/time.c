@@ -16,7 +16,8 @@ enum { BEGIN = 1000, LONGEST = 5 * SECOND / 2 };
 /* How long a lender is there, and how long there is none at most. */
 enum { SHORTEST_LIFE = SECOND / 2, LONGEST_LIFE = 10 * SECOND, LONGEST_AWAY = 3 * SECOND };
 
-/* Where the memory of a day is in each of its programs, and the number of its file, below those that a lender takes. */
+/* Where the memory of a day is in each of its programs, and the number of its file, below those
+ * that a lender takes. */
 #define DAY_AT ((void *)0x600000000000)
 enum { DAY_FILE = 3 };
 
@@ -25,7 +26,8 @@ static char **lender_words;
 
 static void map_day(void)
 {
-    if (mmap(DAY_AT, sizeof *day, PROT_READ | PROT_WRITE, MAP_SHARED | MAP_FIXED_NOREPLACE, DAY_FILE, 0) == MAP_FAILED) {
+    if (mmap(DAY_AT, sizeof *day, PROT_READ | PROT_WRITE, MAP_SHARED | MAP_FIXED_NOREPLACE,
+             DAY_FILE, 0) == MAP_FAILED) {
         perror("the memory of a day");
         abort();
     }
@@ -124,7 +126,8 @@ static void plan_end(void)
     day->lender_begins = ends ? day->lender_ends + chance(0, LONGEST_AWAY) : INT64_MAX;
 }
 
-/* The lender ends as if it were killed, and the guests are alone for a while. Then the program begins anew. */
+/* The lender ends as if it were killed, and the guests are alone for a while. Then the program
+ * begins anew. */
 static void end_lender(void)
 {
     for (unsigned i = 0; i < day->size; i++)

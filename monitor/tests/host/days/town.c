@@ -1,6 +1,8 @@
-/* All guests of a day: what each works, what they have together, and how the day ends. The environment says which day it is: DAY is its number,
- * GUESTS how many there are, BUDGET the MiB for all, SECONDS how long it is, FOLDER where the lender finds them; REBOOTS whether one of them reboots,
- * BEYOND by how many MiB what they want passes what fits, SLOW how many times as long as usually each step takes, KILLED whether lenders end. */
+/* All guests of a day: what each works, what they have together, and how the day ends. The
+ * environment says which day it is: DAY is its number, GUESTS how many there are, BUDGET the MiB
+ * for all, SECONDS how long it is, FOLDER where the lender finds them; REBOOTS whether one of them
+ * reboots, BEYOND by how many MiB what they want passes what fits, SLOW how many times as long as
+ * usually each step takes, KILLED whether lenders end. */
 #define _GNU_SOURCE
 #include "days.h"
 
@@ -8,9 +10,18 @@
 #include <stdlib.h>
 #include <unistd.h>
 
-/* Pages of a MiB; MiB of each guest, and what its kernel and kept bytes take; what a work fills, at least and at most, and what one that reboots fills
- * at most; what each guest leaves of the budget. As the guests of the runs with Linux. */
-enum { MIB = 256, MEMORY = 244, OWN = 60, LEAST_FILL = 20, MOST_FILL = 150, REBOOTS_FILL = 90, LEFT = 15 };
+/* Pages of a MiB; MiB of each guest, and what its kernel and kept bytes take; what a work fills, at
+ * least and at most, and what one that reboots fills at most; what each guest leaves of the budget.
+ * As the guests of the runs with Linux. */
+enum {
+    MIB = 256,
+    MEMORY = 244,
+    OWN = 60,
+    LEAST_FILL = 20,
+    MOST_FILL = 150,
+    REBOOTS_FILL = 90,
+    LEFT = 15
+};
 
 /* Seconds after which a deflate, and a new life, waits for good. */
 enum { DEFLATE_WAITS = 30, RESET_WAITS = 300 };
@@ -24,9 +35,12 @@ unsigned town_number(const char *name)
 static void print_guest(const struct guest *guest)
 {
     const struct lending_message *its = &guest->report;
-    printf("guest-%u has %u pages, uses %u, balloon %u, in it %u, target %u, waits for %u%s, wants %u, works %llu%s%s\n", guest->number + 1,
-           guest->pages, guest->used, guest->balloon, its->ballooned, guest->target, its->held_pages, guest->reset.waits ? " and a new life" : "",
-           guest->wants, (unsigned long long)guest->works, guest->out_of_memory ? ", out of memory" : "", its->ready ? "" : ", boots");
+    printf("guest-%u has %u pages, uses %u, balloon %u, in it %u, target %u, waits for %u%s, wants "
+           "%u, works %llu%s%s\n",
+           guest->number + 1, guest->pages, guest->used, guest->balloon, its->ballooned,
+           guest->target, its->held_pages, guest->reset.waits ? " and a new life" : "",
+           guest->wants, (unsigned long long)guest->works,
+           guest->out_of_memory ? ", out of memory" : "", its->ready ? "" : ", boots");
 }
 
 void town_ends(const char *fault, const struct guest *guest)
@@ -35,9 +49,11 @@ void town_ends(const char *fault, const struct guest *guest)
     for (unsigned i = 0; i < day->size; i++)
         works += day->guests[i].works;
     if (fault)
-        printf("fault: guest-%u %s at %.3f seconds\n", guest->number + 1, fault, (double)day->now / SECOND);
-    printf("works %llu waited %lld longest %lld lenders %llu\n", (unsigned long long)works, (long long)day->waited / MILLISECOND,
-           (long long)day->longest / MILLISECOND, (unsigned long long)day->lenders);
+        printf("fault: guest-%u %s at %.3f seconds\n", guest->number + 1, fault,
+               (double)day->now / SECOND);
+    printf("works %llu waited %lld longest %lld lenders %llu\n", (unsigned long long)works,
+           (long long)day->waited / MILLISECOND, (long long)day->longest / MILLISECOND,
+           (unsigned long long)day->lenders);
     for (unsigned i = 0; i < day->size && fault; i++)
         print_guest(&day->guests[i]);
     fflush(stdout);
@@ -76,9 +92,11 @@ void work_begins(struct guest *guest)
 }
 
 /* Whether it waits for too long. */
-static void look_at(const struct guest *guest, const struct wait *wait, int64_t most, const char *fault)
+static void look_at(const struct guest *guest, const struct wait *wait, int64_t most,
+                    const char *fault)
 {
-    int64_t waits = wait->waits ? day->now - wait->since : 0, passed = day->now - day->seen[guest->number];
+    int64_t waits = wait->waits ? day->now - wait->since : 0,
+            passed = day->now - day->seen[guest->number];
     day->longest = waits > day->longest ? waits : day->longest;
     day->waited += wait->waits ? passed : 0;
     day->seen[guest->number] = day->now;
@@ -104,8 +122,9 @@ void town_looks(void)
         town_ends(NULL, NULL);
 }
 
-/* All guests are there before the lender is, each with its part of the budget. What fits is what they use with what each leaves, and all memory of one that
- * reboots: it has all of that for a while. */
+/* All guests are there before the lender is, each with its part of the budget. What fits is what
+ * they use with what each leaves, and all memory of one that reboots: it has all of that for a
+ * while. */
 static void __attribute__((constructor)) begin(int count, char **words)
 {
     (void)count;
@@ -114,10 +133,14 @@ static void __attribute__((constructor)) begin(int count, char **words)
     unsigned size = day->size = town_number("GUESTS");
     bool reboots = town_number("REBOOTS") > 0;
     day->budget = town_number("BUDGET") * MIB;
-    day->left = day->budget + town_number("BEYOND") * MIB - (size - reboots) * (OWN + LEFT) * MIB - (reboots ? MEMORY * MIB : 0);
+    day->left = day->budget + town_number("BEYOND") * MIB - (size - reboots) * (OWN + LEFT) * MIB -
+                (reboots ? MEMORY * MIB : 0);
     for (unsigned i = 0; i < size; i++) {
         struct guest *guest = &day->guests[i];
-        *guest = (struct guest){.number = i, .pages = MEMORY * MIB, .used = OWN * MIB, .reboots = reboots && i + 1 == size};
+        *guest = (struct guest){.number = i,
+                                .pages = MEMORY * MIB,
+                                .used = OWN * MIB,
+                                .reboots = reboots && i + 1 == size};
         guest->balloon = guest->pages - day->budget / size;
         process_begins(guest, getenv("FOLDER"));
         later(guest, work_begins, chance(0, SECOND));
