@@ -147,7 +147,7 @@ CHANGES = (
 # A file that repeats the version 1.18.3, and how.
 WITH_VERSION = (
     ("crates/vb_c/vb.h", '#define VB_VERSION "1.18.3"\n'),
-    ("crates/vb_c/vb.h", "#define VB_VERSION_NUMBER 0x011203u "),
+    ("crates/vb_c/vb.h", "#define VB_VERSION_NUMBER 0x011203u\n"),
     ("crates/vb_c/src/saving.rt", "const VERSION: u32 = 0x01_1203;\n"),
     ("monitor/rust/Cargo.toml", '\nversion = "1.18.3"\n'),
     ("monitor/rust/ctests/Cargo.toml", '\nversion = "1.18.3"\n'),
