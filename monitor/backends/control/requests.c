@@ -202,14 +202,14 @@ static json_t *follow(const struct asked *asked)
     return json_pack("{s:b, s:I}", "ok", 1, "next", (json_int_t)events_next(asked->control));
 }
 
-#define TERMS                                                                                      \
-    {"least", FIELD_BYTES, .effect = CHANGES}, {"most", FIELD_LIMIT, .effect = CHANGES},           \
-        {"strict", FIELD_BOOLEAN, .effect = CHANGES},                                              \
-        {"priority", FIELD_NUMBER, .effect = CHANGES, .least = 0, .most = UINT32_MAX},             \
-        {"overhead", FIELD_BYTES, .effect = CHANGES},                                              \
-    {                                                                                              \
-        "limit", FIELD_KERNEL_LIMIT, .effect = CHANGES                                             \
-    }
+/* clang-format off */
+#define TERMS \
+    {"least", FIELD_BYTES, .effect = CHANGES}, {"most", FIELD_LIMIT, .effect = CHANGES}, \
+    {"strict", FIELD_BOOLEAN, .effect = CHANGES}, \
+    {"priority", FIELD_NUMBER, .effect = CHANGES, .least = 0, .most = UINT32_MAX}, \
+    {"overhead", FIELD_BYTES, .effect = CHANGES}, \
+    {"limit", FIELD_KERNEL_LIMIT, .effect = CHANGES}
+/* clang-format on */
 
 static const struct kind kinds[] = {
     {"status", SHOWS, status, {{0}}},

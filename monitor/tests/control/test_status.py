@@ -57,9 +57,10 @@ SHOWS_MORE = {("status", "request"), ("events", "request")}
 def fields_of_requests():
     """Returns each request of the sources with the word `request`, and with each of its fields."""
     with open(f"{ROOT}/monitor/backends/control/requests.c", encoding="utf-8") as file:
-        text = file.read().replace("\\\n", "")
-    terms = re.search(r"#define TERMS(.*)", text)[1]
-    kinds = re.findall(r'(?m)^    \{"(\w+)", (?:SHOWS|CHANGES), \w+, (.*)\},$', text)
+        text = " ".join(file.read().replace("\\\n", "").split())
+    terms = re.search(r"#define TERMS (.*?) /\*", text)[1]
+    _, *rest = re.split(r'\{"(\w+)", (?:SHOWS|CHANGES), \w+, ', text)
+    kinds = zip(rest[::2], rest[1::2])
     return {
         (name, it)
         for name, fields in kinds
