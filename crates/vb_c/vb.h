@@ -227,9 +227,9 @@ typedef struct {
     uint16_t published;
     uint32_t taken_pages; /* how many pages that chain names */
     uint32_t told[3];
-    uint64_t
-        written[10]; /* within a call alone: what is told, and what is written of a used chain */
-    VbQueue ring;    /* and the device as the notice left it: the queue, the id of hints that was
+    /* within a call alone: what is told, and what is written of a used chain */
+    uint64_t written[10];
+    VbQueue ring; /* and the device as the notice left it: the queue, the id of hints that was
                         shown, and the status */
     uint32_t shown;
     uint8_t status;

@@ -42,8 +42,8 @@ typedef struct {
     uint64_t turn;      /* of its ask, among all; 0 where it doesn't wait */
     uint32_t spare;     /* how many it can spare, by vb_loan_figure */
     uint16_t uncounted; /* unless 0: its balloon doesn't count */
-    uint16_t
-        line; /* 0: it waits in the first line; else in the second, which comes after the first */
+    /* 0: it waits in the first line; else in the second, which comes after the first */
+    uint16_t line;
 } VbLoan;
 typedef struct {
     uint32_t pages, spare;
@@ -71,8 +71,8 @@ enum {
     VB_GUEST_SILENT = 1, /* its statistics are too old: it counts for what it holds and has given,
                             and gives what it has given */
     VB_GUEST_HEARD = 2,  /* its statistics are recent */
-    VB_GUEST_AWAY =
-        3, /* it has gone, and its memory isn't freed yet: it counts for what it holds */
+    /* it has gone, and its memory isn't freed yet: it counts for what it holds */
+    VB_GUEST_AWAY = 3,
 };
 
 /* What a host knows of a guest, in pages. */

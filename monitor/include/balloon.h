@@ -90,8 +90,8 @@ struct balloon {
 
 /* What happened, and what the monitor has to do. */
 struct balloon_result {
-    uint32_t
-        code; /* VB_OK: something was served; VB_NOTHING; or why the last chain wasn't served */
+    /* VB_OK: something was served; VB_NOTHING; or why the last chain wasn't served */
+    uint32_t code;
     uint32_t rule, chains; /* of VB_BROKEN; how many were served */
     uint32_t interrupts;   /* bit 1 << kind: interrupt for a used buffer of this queue */
     bool configuration;    /* tell of a change of configuration: the device needs a reset */
@@ -101,8 +101,8 @@ struct balloon_result {
     uint32_t held_pages;
     uint64_t pages,
         discarded; /* named by inflates, deflates, reports and hints; of these, discarded */
-    uint64_t
-        waiting; /* of these, pages whose large page wasn't given up whole yet (vb_large_pages) */
+    /* of these, pages whose large page wasn't given up whole yet (vb_large_pages) */
+    uint64_t waiting;
     uint64_t skipped; /* numbers past the end or of reserved pages */
     uint64_t late;    /* pages of hints that came while no round was open: they aren't named */
     uint64_t marked, unmarked; /* pages put into the set of ballooned pages, or taken out; those

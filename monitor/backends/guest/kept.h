@@ -68,8 +68,8 @@ struct kept {
                           may write anything here */
     uint8_t stays;     /* unless 0, it couldn't */
     uint32_t turns;    /* how many turns a process has served, and all before it */
-    uint32_t
-        granted; /* the number of the last deflate whose grant was obeyed, or is being obeyed */
+    /* the number of the last deflate whose grant was obeyed, or is being obeyed */
+    uint32_t granted;
     uint64_t counted_from; /* the bytes that were read as the count began */
     uint64_t unnoted;      /* bytes that were read, and aren't in the inbox yet */
     struct inbox inbox;

@@ -21,9 +21,9 @@ struct lent {
     bool leaves;    /* the lender has said so */
     bool ends_anew; /* another process is to go on */
     bool regains;   /* the deflate that the process before held is still to be found */
-    bool
-        asks_nothing; /* the deflate that is held names no page: it is given back without a grant */
-    uint32_t wanted;  /* pages for which it waits, and for what */
+    /* the deflate that is held names no page: it is given back without a grant */
+    bool asks_nothing;
+    uint32_t wanted; /* pages for which it waits, and for what */
     enum lending_wait waits;
     int answered; /* 1: they may be had; -1: they may not; 0: it waits */
 };

@@ -26,8 +26,8 @@ struct ring {
 
 /* What a client has told of the whole device. */
 struct told {
-    uint64_t
-        features; /* as it sent them, with the bit that says that there are protocol features */
+    /* as it sent them, with the bit that says that there are protocol features */
+    uint64_t features;
     uint64_t protocol; /* protocol features */
     uint8_t status;    /* where the client tells it */
     bool owned;        /* a session has begun */

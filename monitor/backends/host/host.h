@@ -18,8 +18,8 @@
 enum {
     MOST_PLACES = 2 * MOST_GUESTS, /* of loans: also of guests that are leaving */
     MOST_PATH = 108,               /* of a socket's */
-    SILENT_AFTER =
-        3, /* questions without statistics, and a guest counts as one that doesn't answer */
+    /* questions without statistics, and a guest counts as one that doesn't answer */
+    SILENT_AFTER = 3,
     PAGES_PER_MIB = 256,
     PAGE_KIB = BALLOON_PAGE / 1024,
 };
@@ -69,8 +69,8 @@ struct seat {
     uint64_t number, answered; /* of the last order to look; of the last one that is answered */
     unsigned read;             /* messages of it that were read since the last refill */
     uint64_t clients, lost;
-    struct lending_message
-        report; /* the last one, whose words are the version of its process; zeros without one */
+    /* the last one, whose words are the version of its process; zeros without one */
+    struct lending_message report;
     /* What was made of it. */
     uint32_t pages; /* of its memory that has room */
     uint32_t free, available, ballooned_then;
@@ -153,8 +153,8 @@ struct host {
     bool strict, strict_pages, events, no_sandbox, end_with_lender;
     struct seat *seats[MOST_GUESTS];
     unsigned count;
-    struct seat
-        *leaving[MOST_GUESTS]; /* seats that were taken away, whose processes haven't ended yet */
+    /* seats that were taken away, whose processes haven't ended yet */
+    struct seat *leaving[MOST_GUESTS];
     unsigned leaving_count;
     uint32_t frames, floor; /* pages: the budget, and what each guest is to keep free */
     uint32_t step;          /* a target grows by 1/step of the guest in a second; 0: at once */
@@ -177,9 +177,9 @@ struct host {
     uint64_t missing;      /* as the last decision had it */
     uint64_t looks_asked;  /* the number of the last order to look */
     struct host_counters counters;
-    struct decision
-        log[MOST_DECISIONS]; /* the last ones: decision n has its place at n % MOST_DECISIONS */
-    uint64_t printed;        /* how many decisions `log` has printed or lost */
+    /* the last ones: decision n has its place at n % MOST_DECISIONS */
+    struct decision log[MOST_DECISIONS];
+    uint64_t printed; /* how many decisions `log` has printed or lost */
     struct input input;
     struct answers answers;
     struct question question;

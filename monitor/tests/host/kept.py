@@ -36,7 +36,7 @@ HEAD = 12
 NUMBERS = {"bool": 1, "uint8_t": 1, "int": 4, "enum": 4, "uint32_t": 4, "uint64_t": 8, "size_t": 8}
 
 BODY = re.compile(r"^struct (\w+) \{(.*?)\};", re.M | re.S)
-DECLARATION = re.compile(r"\s*((?:struct |enum )?\w+) (.*)", re.S)
+DECLARATION = re.compile(r"\s*((?:struct |enum )?\w+)\s(.*)", re.S)
 
 
 @functools.cache
