@@ -1,4 +1,5 @@
-"""What a host answers: the fields of each answer that commands read, by their kinds. Others are ignored, as later hosts add some."""
+"""What a host answers: the fields of each answer that commands read, by their kinds. Others are
+ignored, as later hosts add some."""
 
 from typing import NamedTuple
 
@@ -124,7 +125,8 @@ REFUSAL = {"error": {"code": is_text, "text": is_text, "field": Maybe(is_text)}}
 
 
 def parts(kind, value, place):
-    """Yields the parts that a list or an object of a kind has to have: the kind of each, its value, and its place."""
+    """Yields the parts that a list or an object of a kind has to have: the kind of each, its value,
+    and its place."""
     if isinstance(kind, list):
         yield from ((kind[0], it, f"{place}[{number}]") for number, it in enumerate(value))
         return
@@ -137,7 +139,8 @@ def parts(kind, value, place):
 
 
 def wrong_part(kind, value, place=""):
-    """Returns the place of the first part that isn't there, or isn't of its kind; None where all are as they should be."""
+    """Returns the place of the first part that isn't there, or isn't of its kind; None where all
+    are as they should be."""
     if callable(kind):
         return None if kind(value) else place
     if not isinstance(value, type(kind)):

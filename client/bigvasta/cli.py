@@ -25,7 +25,10 @@ def parser():
         "--control",
         metavar="PATH",
         default=os.environ.get("BIGVASTA_CONTROL"),
-        help=f"the host's socket (what BIGVASTA_CONTROL says; else {CONTROL} for what changes the host, {STATUS} for what shows it)",
+        help=(
+            f"the host's socket (what BIGVASTA_CONTROL says; else {CONTROL} for what changes the "
+            f"host, {STATUS} for what shows it)"
+        ),
     )
     common.set_defaults(changes=lambda asked: False)
     common.add_argument(

@@ -208,7 +208,8 @@ def measured_metrics(measures):
 
 
 class Collector:
-    """Asks the host at each scrape. Where it doesn't answer, `bigvasta_up` is 0, and that is all."""
+    """Asks the host at each scrape. Where it doesn't answer, `bigvasta_up` is 0, and that is
+    all."""
 
     def __init__(self, path):
         self.path = path

@@ -1,4 +1,5 @@
-"""A connection to a control socket of a host: requests and answers, and the events of a host that is followed."""
+"""A connection to a control socket of a host: requests and answers, and the events of a host that
+is followed."""
 
 import json
 import socket

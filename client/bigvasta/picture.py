@@ -1,11 +1,13 @@
-"""What `bigvasta watch` shows, as lines of a given width: made of a status alone, so that it is the same for each terminal."""
+"""What `bigvasta watch` shows, as lines of a given width: made of a status alone, so that it is the
+same for each terminal."""
 
 from typing import NamedTuple
 
 from bigvasta.sizes import mebibytes
 from bigvasta.waits import wait_of
 
-# Characters of a bar: held and not to spare, held and to spare, lent and not held, neither; and what a target or a budget leaves.
+# Characters of a bar: held and not to spare, held and to spare, lent and not held, neither; and
+# what a target or a budget leaves.
 BLOCKS, PLAIN = "█▒░ │", "#=. |"
 
 LEAST_WIDTH, NAME_WIDTH, NUMBER_WIDTH = 60, 12, 7
@@ -30,7 +32,8 @@ class Shown(NamedTuple):
 
 
 def bar(parts, mark, width, blocks):
-    """Returns a bar of this width: each part is a share of it, in the order of the blocks; the mark is one, too, or None."""
+    """Returns a bar of this width: each part is a share of it, in the order of the blocks; the mark
+    is one, too, or None."""
     text, at = "", 0.0
     for share, block in zip(parts, blocks):
         at += share
@@ -63,7 +66,10 @@ def host_lines(host, guests, width, shown):
     held, lent, budget = host["held"], host["lent"], host["budget"]
     promised = sum(it["memory"] for it in guests)
     scale = max(promised, budget, 1)
-    head = f"budget {mebibytes(budget)}  held {mebibytes(held)}  lent {mebibytes(lent)}  promised {mebibytes(promised)}"
+    head = (
+        f"budget {mebibytes(budget)}  held {mebibytes(held)}  lent {mebibytes(lent)}  promised "
+        f"{mebibytes(promised)}"
+    )
     missing = f"  missing {mebibytes(host['missing'])}" if host["missing"] else ""
     kind = "warning" if held > budget or host["missing"] else "head"
     yield Line(f"{head}{missing} MiB"[:width], kind)
@@ -104,7 +110,10 @@ def guest_line(guest, scale, width, shown):
     )
     wait = wait_of(guest) if guest["state"] != "absent" else "absent"
     room = max(width - NAME_WIDTH - 4 * NUMBER_WIDTH - 18, 8)
-    text = f"{guest['name'][:NAME_WIDTH]:<{NAME_WIDTH}}{numbers}  {guest_bar(guest, scale, room - 1, shown.blocks):<{room}} {wait}"
+    text = (
+        f"{guest['name'][:NAME_WIDTH]:<{NAME_WIDTH}}{numbers}  "
+        f"{guest_bar(guest, scale, room - 1, shown.blocks):<{room}} {wait}"
+    )
     return Line(text[:width].rstrip(), "warning" if wait and wait != "absent" else "plain")
 
 
@@ -127,7 +136,10 @@ def picture(status, width, height, shown, fault=""):
     lines += [guest_line(it, scale, width, shown) for it in chosen]
     lines += [Line("")] * (height - len(lines) - 1)
     own, spare, lent, _, mark = shown.blocks
-    keys = f"{own} held  {spare} of it spare  {lent} lent  {mark} left by the target   q quit  s sort  p pause"
+    keys = (
+        f"{own} held  {spare} of it spare  {lent} lent  {mark} left by the target   q quit  s "
+        "sort  p pause"
+    )
     return [
         Line(it.text[:room_across], it.kind)
         for it in [*lines[: max(height - 1, 0)], Line(keys, "head")]

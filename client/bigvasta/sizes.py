@@ -20,7 +20,8 @@ def parse_size(text, name="size"):
 
 
 def mebibytes(size):
-    """Returns bytes as a column shows them: whole MiB, or with a digit after the point below ten."""
+    """Returns bytes as a column shows them: whole MiB, or with a digit after the point below
+    ten."""
     value = size / MIB
     return f"{value:.1f}" if 0 < value < 9.95 else f"{value:.0f}"
 

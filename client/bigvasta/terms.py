@@ -41,7 +41,10 @@ TERMS = {
     "overhead": parse_size,
     "limit": kernel_limit,
 }
-TERMS_HELP = "least=SIZE most=SIZE|none priority=N strict=yes|no overhead=SIZE limit=cgroup:PATH|tmpfs:MOUNT|none"
+TERMS_HELP = (
+    "least=SIZE most=SIZE|none priority=N strict=yes|no overhead=SIZE "
+    "limit=cgroup:PATH|tmpfs:MOUNT|none"
+)
 TARGET = {"target": parse_size}
 
 

@@ -4,7 +4,8 @@ import sys
 
 
 def plain(text):
-    """Returns a line without what a terminal would obey: each such character as Python escapes it."""
+    """Returns a line without what a terminal would obey: each such character as Python escapes
+    it."""
     return "".join(
         it if it.isprintable() else it.encode("unicode_escape").decode("ascii") for it in text
     )

@@ -1,4 +1,5 @@
-"""What all suites have in common: their programs are built before the time of a test begins; and programs that are wrong on purpose."""
+"""What all suites have in common: their programs are built before the time of a test begins; and
+programs that are wrong on purpose."""
 
 import argparse
 import os
@@ -31,7 +32,8 @@ def pytest_addoption(parser):
 
 
 def is_chosen(item, wrong, hours):
-    """Whether a test is of those that the command line asks for: that of hours, of this wrong program, or of none."""
+    """Whether a test is of those that the command line asks for: that of hours, of this wrong
+    program, or of none."""
     mark = item.get_closest_marker("wrong")
     if hours or item.get_closest_marker("hours"):
         return bool(hours and item.get_closest_marker("hours"))
@@ -48,8 +50,8 @@ def pytest_collection_modifyitems(config, items):
 
 
 def pytest_sessionstart(session):
-    """Builds the programs of the suites that are run, which PROGRAMS of their conftest.py names; once, and not in each worker, nor where the
-    environment names a program."""
+    """Builds the programs of the suites that are run, which PROGRAMS of their conftest.py names;
+    once, and not in each worker, nor where the environment names a program."""
     plugins = session.config.pluginmanager.get_plugins()
     wanted = sorted({name for it in plugins for name in getattr(it, "PROGRAMS", ())})
     if (

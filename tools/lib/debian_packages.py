@@ -5,12 +5,14 @@ import shutil
 import subprocess
 import time
 
-# How often an installation is tried, the seconds between, and those that it waits for another one to end.
+# How often an installation is tried, the seconds between, and those that it waits for another one
+# to end.
 TRIES, PAUSE, OTHERS = 3, 20, 600
 
 
 def missing(packages):
-    """Returns the packages that aren't installed, each once; none on a system without dpkg, which has others."""
+    """Returns the packages that aren't installed, each once; none on a system without dpkg, which
+    has others."""
     if not packages or not shutil.which("dpkg-query"):
         return []
     said = subprocess.run(

@@ -11,8 +11,8 @@ DECLARES = re.compile(r"(?:(?:abbrev|unfoldable|pub|rec) )*(record |data )?(?:pu
 
 @dataclasses.dataclass
 class Planted:
-    """A definition that says less, or something else: of which relation, which field of a record, what of it, from which line on, and
-    its file with it."""
+    """A definition that says less, or something else: of which relation, which field of a record,
+    what of it, from which line on, and its file with it."""
 
     path: str
     name: str
@@ -39,7 +39,8 @@ def definition_files(crate):
 
 
 def items(lines):
-    """Returns where each item of a file begins and ends: a line at the margin, with the indented ones after it."""
+    """Returns where each item of a file begins and ends: a line at the margin, with the indented
+    ones after it."""
     starts = [
         n
         for n, line in enumerate(lines)

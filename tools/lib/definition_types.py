@@ -7,7 +7,8 @@ import re
 from definition_files import at_top, definition_files, read_lines
 from other_definitions import DATA, ENUM
 
-# A group of binders, the constructors of one line of a data, and a constructor's line that is broken.
+# A group of binders, the constructors of one line of a data, and a constructor's line that is
+# broken.
 BINDERS = re.compile(r"\(([\w' ]+) : ((?:[^()]|\([^()]*\))*)\)")
 CONSTRUCTORS = re.compile(r"^  ([\w ]+) : (.*)$", re.M)
 BROKEN = re.compile(r"\n {4,}")
@@ -21,7 +22,8 @@ PRELUDE = "Rattle.std.specs.Prelude"
 
 @dataclasses.dataclass
 class Case:
-    """A constructor: its name, its pattern, the types of its arguments, and the module that has it."""
+    """A constructor: its name, its pattern, the types of its arguments, and the module that has
+    it."""
 
     name: str
     pattern: str
@@ -54,7 +56,8 @@ def within(text):
 
 
 def binders(text):
-    """Returns the name and the type of each value that is bound in a text; of one without a name `_`."""
+    """Returns the name and the type of each value that is bound in a text; of one without a name
+    `_`."""
     if BINDERS.match(text):
         return [(name, kind) for names, kind in BINDERS.findall(text) for name in names.split()]
     return [] if text.startswith("{") else [("_", text)]

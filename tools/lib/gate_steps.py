@@ -1,4 +1,5 @@
-"""Steps of which each is a command that passes or fails: all that needs no network and no root, and the part of it that no load fails."""
+"""Steps of which each is a command that passes or fails: all that needs no network and no root, and
+the part of it that no load fails."""
 
 import os
 import re
@@ -35,7 +36,8 @@ def suite(name, *words):
 
 
 def monitor(name, *words):
-    """Returns a step of monitor's Makefile: the programs are built beside each other before they run."""
+    """Returns a step of monitor's Makefile: the programs are built beside each other before they
+    run."""
     build = " ".join(
         (
             "make",
@@ -87,7 +89,8 @@ def skipped(said):
 
 
 def run(step):
-    """Runs a step and prints a line about it; returns whether it passed, and the last lines of what it said."""
+    """Runs a step and prints a line about it; returns whether it passed, and the last lines of what
+    it said."""
     path, begun = os.path.join(LOGS, f"{step.name.replace(' ', '-')}.log"), time.monotonic()
     with open(path, "w", encoding="utf-8") as log:
         try:
@@ -110,7 +113,10 @@ def run(step):
     print(
         "; ".join(
             [
-                f"{step.name}: {'passed' if passed else 'FAILED'} in {time.monotonic() - begun:.0f} s",
+                (
+                    f"{step.name}: {'passed' if passed else 'FAILED'} in "
+                    f"{time.monotonic() - begun:.0f} s"
+                ),
                 *skipped(said),
             ]
         ),
@@ -120,13 +126,15 @@ def run(step):
 
 
 def lacking(steps):
-    """Returns the packages that steps want and that aren't there once they were installed, as root."""
+    """Returns the packages that steps want and that aren't there once they were installed, as
+    root."""
     return install(missing([package for it in steps for package in it.packages]))
 
 
 def run_all(steps, tries=1):
-    """Runs steps in order, prints a line for each, the end of what each that failed said, and how many passed; returns the status. A step has failed
-    that fails this many times in a row: each is printed."""
+    """Runs steps in order, prints a line for each, the end of what each that failed said, and how
+    many passed; returns the status. A step has failed that fails this many times in a row: each is
+    printed."""
     packages = lacking(steps)
     if packages:
         print(f"test: missing: apt-get install {' '.join(packages)}", file=sys.stderr)
@@ -142,7 +150,10 @@ def run_all(steps, tries=1):
             failed[step.name] = lines
     for name, lines in failed.items():
         print(
-            f"\n{name} failed; the end of {os.path.relpath(LOGS, ROOT)}/{name.replace(' ', '-')}.log:",
+            (
+                f"\n{name} failed; the end of "
+                f"{os.path.relpath(LOGS, ROOT)}/{name.replace(' ', '-')}.log:"
+            ),
             *lines,
             sep="\n    ",
         )
@@ -163,8 +174,9 @@ def all_suites():
 
 
 def gate():
-    """Runs the quick part, and becomes rt ci where that has passed, whose last line is the last. A wrong body fails twice; a test that fails by a
-    machine's moment alone doesn't keep a change from landing, and its line says that it failed."""
+    """Runs the quick part, and becomes rt ci where that has passed, whose last line is the last. A
+    wrong body fails twice; a test that fails by a machine's moment alone doesn't keep a change from
+    landing, and its line says that it failed."""
     status = quick(tries=2)
     if status:
         return status

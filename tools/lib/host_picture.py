@@ -1,5 +1,5 @@
-"""Draws a run of host-linux: what the host holds of each guest, one above the other, over the time, what it lends, who waits for whom, and the
-targets."""
+"""Draws a run of host-linux: what the host holds of each guest, one above the other, over the time,
+what it lends, who waits for whom, and the targets."""
 
 import os
 
@@ -35,7 +35,8 @@ def thinned(samples):
 
 
 def draw_held(axes, samples, budget, promised):
-    """Draws what each guest holds, one above the other, with the budget and what was promised as lines."""
+    """Draws what each guest holds, one above the other, with the budget and what was promised as
+    lines."""
     seconds = [it.seconds for it in samples]
     below = [0.0] * len(samples)
     for number in range(len(samples[0].held)):
@@ -59,8 +60,9 @@ def is_waited_for(sample, number):
 
 
 def draw_waits(axes, samples, names):
-    """Draws a row for each guest: filled where it waits, and hatched where others wait for what it is still to give. It is grey under all rows
-    while the guests can't spare what they lack together: then somebody has to free memory."""
+    """Draws a row for each guest: filled where it waits, and hatched where others wait for what it
+    is still to give. It is grey under all rows while the guests can't spare what they lack
+    together: then somebody has to free memory."""
     seconds = [it.seconds for it in samples]
     axes.fill_between(
         seconds,

@@ -1,4 +1,5 @@
-"""Says which relations a contract supposes and no function's contract promises, by all crates' sources and definitions."""
+"""Says which relations a contract supposes and no function's contract promises, by all crates'
+sources and definitions."""
 
 import collections
 import glob
@@ -75,8 +76,9 @@ class Uses:
 
 
 def premises(crates):
-    """Returns the relations that a contract of these crates supposes, itself or by what it says, and no function's promises. What a
-    function promises needs no fact, since its proof refuses a stronger definition."""
+    """Returns the relations that a contract of these crates supposes, itself or by what it says,
+    and no function's promises. What a function promises needs no fact, since its proof refuses a
+    stronger definition."""
     uses = Uses([it for crate in crates for it in definition_files(crate)])
     for path in [
         it for crate in crates for it in glob.glob(f"{crate}/src/**/*.rt", recursive=True)

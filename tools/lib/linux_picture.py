@@ -1,11 +1,13 @@
-"""Draws a run of boot-linux: what the host holds, what the guest calls free, and its balloon, over the time."""
+"""Draws a run of boot-linux: what the host holds, what the guest calls free, and its balloon, over
+the time."""
 
 import os
 import sys
 
 from linux_kit import Fault, Missing
 
-# How what the host holds is drawn, and each line over it; as in tools/draw-run where it is the same.
+# How what the host holds is drawn, and each line over it; as in tools/draw-run where it is the
+# same.
 HELD = "#cccccc"
 LINES = {
     "free": ("the guest: free", {"color": "#228833", "linewidth": 1.3}),
@@ -26,7 +28,8 @@ def load_library(path):
         import matplotlib.transforms
     except ImportError:
         raise Missing(
-            f"{sys.executable} has no matplotlib for a picture: apt-get install python3-matplotlib gives it to /usr/bin/python3"
+            f"{sys.executable} has no matplotlib for a picture: apt-get install "
+            "python3-matplotlib gives it to /usr/bin/python3"
         ) from None
     matplotlib.rcdefaults()
     matplotlib.rcParams.update(
@@ -49,7 +52,8 @@ def draw_memory(axes, samples):
 
 
 def draw_steps(library, axes, rows):
-    """Draws a thin line where each step ends, and says above it which one that was; one that ends at once is written beside it."""
+    """Draws a thin line where each step ends, and says above it which one that was; one that ends
+    at once is written beside it."""
     down = axes.get_xaxis_transform()
     above = library.transforms.offset_copy(down, axes.figure, y=12, units="points")
     axes.vlines(

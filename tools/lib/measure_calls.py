@@ -42,7 +42,8 @@ def frees(size):
     return ["alloc 0 0 0"] * min(32, size - RESERVED)
 
 
-# A processor is handed the lowest pages first: its first block of eight begins after the reserved pages.
+# A processor is handed the lowest pages first: its first block of eight begins after the reserved
+# pages.
 BLOCK = ["alloc 0 0 3", f"write 0 {RESERVED} 0 0000"]
 
 CALLS = {

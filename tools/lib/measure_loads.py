@@ -1,4 +1,5 @@
-"""The scripts of tools/measure whose events are counted, and whose time and memory are taken: by their names, loads."""
+"""The scripts of tools/measure whose events are counted, and whose time and memory are taken: by
+their names, loads."""
 
 import random
 import re
@@ -199,7 +200,8 @@ def mix_script(program, size, rounds=12):
 
 
 def of_blocks(chance, blocks, orders):
-    """Returns what is done with each allocated block: some writes and reads, and then it is freed."""
+    """Returns what is done with each allocated block: some writes and reads, and then it is
+    freed."""
     for block, order in zip(blocks, orders):
         size = chance.randint(1, 64)
         at = f"0 {block} {chance.randint(0, 4_096 - size)}"

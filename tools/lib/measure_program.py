@@ -6,7 +6,8 @@ import subprocess
 
 # The first words of the replies of events that were done.
 DONE = frozenset(
-    "guest ok ready page bytes posted filled none reaped taken empty worked idle finished swept asked"
+    "guest ok ready page bytes posted filled none reaped taken empty worked idle finished swept "
+    "asked"
     " targets free pages ballooned frame frames".split()
 )
 
@@ -40,7 +41,8 @@ class Program:
         return [int(it.split()[1]) for it in self.replies(script.text()) if it.startswith("page ")]
 
     def instructions(self, text, kept=os.devnull, mode=("run",), more=()):
-        """Counts what a run of this script takes; `kept` is callgrind's own file, and `more` are words for it."""
+        """Counts what a run of this script takes; `kept` is callgrind's own file, and `more` are
+        words for it."""
         words = [
             "valgrind",
             "--tool=callgrind",

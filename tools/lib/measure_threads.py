@@ -1,4 +1,5 @@
-"""What guests cost on threads, for tools/measure: instructions and bytes of a call, and seconds beside one another."""
+"""What guests cost on threads, for tools/measure: instructions and bytes of a call, and seconds
+beside one another."""
 
 import os
 import re
@@ -90,7 +91,8 @@ def threads_text(guests, rounds, mode="threads"):
 
 
 def by_thread(program, rounds):
-    """Returns the instructions of each thread of one guest's run: the first one's, the worker's and the processor's."""
+    """Returns the instructions of each thread of one guest's run: the first one's, the worker's and
+    the processor's."""
     with tempfile.TemporaryDirectory(prefix="measure-") as folder:
         kept = os.path.join(folder, "counts")
         program.instructions(
@@ -129,7 +131,8 @@ def print_costs(program):
 
 
 def print_bytes(program):
-    """Prints the bytes by which the most memory grows with each call, in a list of events and on threads."""
+    """Prints the bytes by which the most memory grows with each call, in a list of events and on
+    threads."""
     print("\n| One guest with one processor | bytes a call |\n|---|---|")
     for mode in ("run", "threads"):
         few, many = (program.memory(threads_text(1, it, mode), mode) for it in (2_000, 22_000))
@@ -153,7 +156,8 @@ class Clock:
         )
 
     def seconds(self, program, count, guests, bells):
-        """Returns how long the threads take, from the first one's beginning to the last one's end, of `count` programs."""
+        """Returns how long the threads take, from the first one's beginning to the last one's end,
+        of `count` programs."""
         with tempfile.TemporaryFile() as script:
             script.write(threads_text(guests, 20_000))
             script.flush()
@@ -177,7 +181,8 @@ def print_seconds(program):
             runs = [[clock.seconds(program, *it, bells) for it in kinds] for _ in range(RUNS)]
             took = {kind: min(seconds) for kind, seconds in zip(kinds, zip(*runs))}
             print(
-                f"\n| Guests, bells {bells} | seconds | of one guest's | as many programs with a guest each |"
+                f"\n| Guests, bells {bells} | seconds | of one guest's | as many programs with a "
+                "guest each |"
             )
             print("|---|---|---|---|")
             for guests in (1, 2, 4):
@@ -190,7 +195,8 @@ def print_seconds(program):
 
 
 def print_threads(program):
-    """Prints what a call costs on threads and in a list of events, and what guests beside one another take."""
+    """Prints what a call costs on threads and in a list of events, and what guests beside one
+    another take."""
     print_costs(program)
     print_bytes(program)
     print_seconds(program)

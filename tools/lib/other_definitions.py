@@ -1,4 +1,5 @@
-"""Definitions that say something else, one word at a time: another number, bound, field or constructor."""
+"""Definitions that say something else, one word at a time: another number, bound, field or
+constructor."""
 
 import collections
 import glob
@@ -20,7 +21,8 @@ OPPOSITES = {
 }
 OPPOSITES |= {"min": "max", "max": "min"}
 
-# Structs and enums of sources, with a line for each field or variant; and the constructors of a `data`.
+# Structs and enums of sources, with a line for each field or variant; and the constructors of a
+# `data`.
 STRUCT = re.compile(r"pub struct \w+[^{;]*\{\n(.*?)\n\}", re.S)
 PUBLIC = re.compile(r"pub (\w+): ([^\n]+),")
 ENUM = re.compile(r"pub enum \w+[^{;]*\{\n(.*?)\n\}", re.S)
@@ -47,7 +49,8 @@ def alike(names):
 
 
 def next_names(crates):
-    """Returns, for each field, variant and constructor that has others of its type beside it, the next of them."""
+    """Returns, for each field, variant and constructor that has others of its type beside it, the
+    next of them."""
     groups = []
     for crate in crates:
         for text in texts(crate, "src/**/*.rt"):
@@ -123,7 +126,8 @@ def others_of_item(path, lines, start, end, following):
 
 
 def other_definitions(crate, crates):
-    """Returns all definitions of a crate that say something else; names are in it and in the crates below it."""
+    """Returns all definitions of a crate that say something else; names are in it and in the crates
+    below it."""
     following, found = next_names(crates), []
     for path in definition_files(crate):
         lines = read_lines(path)

@@ -1,4 +1,5 @@
-"""What pages claim of commands, lists and counts, for tools/check-sources: each is compared with what it is about."""
+"""What pages claim of commands, lists and counts, for tools/check-sources: each is compared with
+what it is about."""
 
 import ast
 import glob
@@ -12,7 +13,10 @@ from suites import SUITES, packages_of
 
 ROOT = os.path.realpath(os.path.join(os.path.dirname(__file__), "../.."))
 
-WORDS = "no one two three four five six seven eight nine ten eleven twelve thirteen fourteen fifteen sixteen seventeen eighteen nineteen twenty".split()
+WORDS = (
+    "no one two three four five six seven eight nine ten eleven twelve thirteen fourteen fifteen "
+    "sixteen seventeen eighteen nineteen twenty"
+).split()
 
 
 def read(path):
@@ -120,7 +124,8 @@ COUNTS = (
 
 
 def counts():
-    """Returns the numbers of pages that aren't what they count, and the patterns that a page hasn't just once."""
+    """Returns the numbers of pages that aren't what they count, and the patterns that a page hasn't
+    just once."""
     found = []
     for path, pattern, count in COUNTS:
         said = re.findall(pattern, read(path))
@@ -164,7 +169,8 @@ PACKAGES = (
 
 
 def wanted():
-    """Returns the packages that the tests of a suite of monitor say to install, and that aren't among the suite's."""
+    """Returns the packages that the tests of a suite of monitor say to install, and that aren't
+    among the suite's."""
     found = []
     for name, suite in SUITES.items():
         for path in sorted(
@@ -207,7 +213,8 @@ DURATION = r"\b(?:minutes?|hours?)\b"
 
 
 def times():
-    """Returns commands whose tables have several times, and pages and tools that state one beside the tables."""
+    """Returns commands whose tables have several times, and pages and tools that state one beside
+    the tables."""
     stated, found = {}, []
     for path in TABLES:
         for command, time in re.findall(
@@ -257,7 +264,8 @@ def listings():
 
 
 def order():
-    """Returns what is wrong with the map's table of crates, low to high: each is there once, after those that it needs."""
+    """Returns what is wrong with the map's table of crates, low to high: each is there once, after
+    those that it needs."""
     section = read("docs/MAP.md").partition("\n## The crates\n")[2].partition("\n## ")[0]
     named = re.findall(r"(?m)^\| `(vb_\w+)` \|", section)
     below = {
@@ -266,14 +274,18 @@ def order():
     }
     if sorted(named) != sorted(below):
         return [
-            f"docs/MAP.md: its crates aren't those of crates.txt: {', '.join(sorted(set(named) ^ set(below))) or 'one is there twice'}"
+            (
+                "docs/MAP.md: its crates aren't those of crates.txt: "
+                f"{', '.join(sorted(set(named) ^ set(below))) or 'one is there twice'}"
+            )
         ]
     late = [(it, low) for at, it in enumerate(named) for low in below[it] & set(named[at:])]
     return [f"docs/MAP.md: crate {it} is listed before {low}, which it needs" for it, low in late]
 
 
 def named_files():
-    """Returns the files that the map's table of crates names, or CONTRIBUTING by its crate, and that aren't there."""
+    """Returns the files that the map's table of crates names, or CONTRIBUTING by its crate, and
+    that aren't there."""
     section = read("docs/MAP.md").partition("\n## The crates\n")[2].partition("\n## ")[0]
     named = [
         ("docs/MAP.md", crate, it)
@@ -296,7 +308,8 @@ def named_files():
 
 
 def named_tools():
-    """Returns the tools that the map doesn't name, and those that it names and that aren't there."""
+    """Returns the tools that the map doesn't name, and those that it names and that aren't
+    there."""
     section = read("docs/MAP.md").partition("\n## The tools\n")[2]
     named = {
         it.split()[0]
@@ -308,7 +321,8 @@ def named_tools():
 
 
 def sanitized():
-    """Returns where monitor/README.md names other tests as those without the address sanitizer than the Makefile has."""
+    """Returns where monitor/README.md names other tests as those without the address sanitizer than
+    the Makefile has."""
     page, makefile = read("monitor/README.md"), read("monitor/Makefile")
     tests = set(re.findall(r"(?m)^\| `(\w+)\.c` \|", page))
     run = {

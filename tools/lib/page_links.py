@@ -1,4 +1,5 @@
-"""The links of pages, for tools/check-sources: each leads to a file that is there, and to a heading that it has."""
+"""The links of pages, for tools/check-sources: each leads to a file that is there, and to a heading
+that it has."""
 
 import os
 import re
@@ -29,7 +30,8 @@ def pages():
 
 
 def anchor(heading):
-    """Returns the anchor that a heading gets: lower case, words and hyphens, a hyphen for each space."""
+    """Returns the anchor that a heading gets: lower case, words and hyphens, a hyphen for each
+    space."""
     plain = re.sub(r"\[([^\]]*)\]\([^)]*\)", r"\1", heading).strip().lower()
     return re.sub(r"[^\w\- ]", "", plain).replace(" ", "-")
 

@@ -1,4 +1,5 @@
-"""The proved program over an allocator that refuses the request, or the thread, of a number, for tools/refuse-memory."""
+"""The proved program over an allocator that refuses the request, or the thread, of a number, for
+tools/refuse-memory."""
 
 import os
 import shutil
@@ -10,7 +11,8 @@ ROOT = os.path.realpath(os.path.join(os.path.dirname(__file__), "../.."))
 CRATE = os.path.join(ROOT, "crates", "vb_sim")
 PROGRAM = os.path.join(CRATE, "out", "vb_sim")
 
-# The proved tests of runs on threads, and that of an allocation failure, which says what a run left.
+# The proved tests of runs on threads, and that of an allocation failure, which says what a run
+# left.
 TESTS = os.path.join(ROOT, "crates", "vb_run_tests", "out", "vb_run_tests_tests")
 TEST = "tests::refused::want_of_memory_leaves_no_report_or_a_whole_one"
 
@@ -113,7 +115,8 @@ class Proved:
         )
 
     def run_with(self, words, text="", refused=0, thread=0):
-        """Runs a program of which the request, or the thread, of this number is refused, counted from 1."""
+        """Runs a program of which the request, or the thread, of this number is refused, counted
+        from 1."""
         given = {
             "LD_PRELOAD": self.library,
             "REFUSED_REQUEST": str(refused),
@@ -130,7 +133,8 @@ class Proved:
             return Run(ran.returncode, ran.stdout.splitlines(), ran.stderr, int(file.read()))
 
     def run(self, lines, refused=0, words=("run",), thread=0):
-        """Runs a script of which the request, or the thread, of this number is refused, counted from 1."""
+        """Runs a script of which the request, or the thread, of this number is refused, counted
+        from 1."""
         return self.run_with([PROGRAM, *words], "".join(it + "\n" for it in lines), refused, thread)
 
     def test(self, refused=0, thread=0):

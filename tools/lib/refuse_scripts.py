@@ -1,4 +1,5 @@
-"""The scripts of tools/refuse-memory: each event with the reply that it has where nothing is refused."""
+"""The scripts of tools/refuse-memory: each event with the reply that it has where nothing is
+refused."""
 
 from dataclasses import dataclass
 

@@ -1,4 +1,5 @@
-"""Requests of a run on threads that are refused, and its threads, for tools/refuse-memory: by the program and by its tests."""
+"""Requests of a run on threads that are refused, and its threads, for tools/refuse-memory: by the
+program and by its tests."""
 
 import sys
 
@@ -8,12 +9,14 @@ from refuse_scripts import GUESTS
 # What the test of an allocation failure says that a run left.
 NO_RUN, NO_REPORT, REPORT = "left: NoRun", "left: NoReport", "left: Report"
 
-# A run of two guests with one processor each has a thread for each processor and each worker, and one that balances.
+# A run of two guests with one processor each has a thread for each processor and each worker, and
+# one that balances.
 THREADS = 5
 
 
 def threads_script():
-    """Returns the lines of two guests, each of which takes, writes, reads and frees a page, 25 times."""
+    """Returns the lines of two guests, each of which takes, writes, reads and frees a page, 25
+    times."""
     lines = ["host 64", "spare paced", "spare paced", "plug 64 8 1", "plug 64 8 1"]
     for guest in GUESTS:
         lines += [
@@ -26,7 +29,8 @@ def threads_script():
 
 
 def is_whole(run):
-    """Whether a run on threads printed a line for each guest, with all its calls, and that no frame is shared."""
+    """Whether a run on threads printed a line for each guest, with all its calls, and that no frame
+    is shared."""
     guests = [f"guest {it} calls 100 frames " for it in GUESTS]
     said = [line.rstrip("0123456789") for line in run.replies[:-1]]
     return (
@@ -35,7 +39,8 @@ def is_whole(run):
 
 
 def count_wrong(what, runs, is_right):
-    """Names each of these runs that was answered wrongly, by its number from 1 on and what it said; returns how many."""
+    """Names each of these runs that was answered wrongly, by its number from 1 on and what it said;
+    returns how many."""
     wrong = [(number, run) for number, run in enumerate(runs, 1) if not is_right(run)]
     for number, run in wrong:
         print(f"WRONG: {what} {number}: status {run.status}: {run.errors.strip()}")
@@ -43,7 +48,8 @@ def count_wrong(what, runs, is_right):
 
 
 def walk_threads(proved):
-    """Refuses each request of a run on threads, and each thread; returns how many were answered wrongly."""
+    """Refuses each request of a run on threads, and each thread; returns how many were answered
+    wrongly."""
     lines, words = threads_script(), ("threads",)
     whole = proved.run(lines, words=words)
     if not whole.requests:
@@ -57,11 +63,13 @@ def walk_threads(proved):
     unasked = sum(is_whole(run) and run.requests < it for it, run in runs)
     answered = sum(is_whole(run) and run.requests >= it for it, run in runs)
     print(
-        f"two guests on threads: {len(runs)} requests, {THREADS} threads\n\n| Refused | Answer |\n|---|---|"
+        f"two guests on threads: {len(runs)} requests, {THREADS} threads\n\n| Refused | Answer "
+        "|\n|---|---|"
     )
     print(f"| {short} requests | status 3, `run: memory` |")
     print(
-        f"| {answered} requests | all lines of a run: the runtime asked again, or a guest's call was answered `{WANT}` |"
+        f"| {answered} requests | all lines of a run: the runtime asked again, or a guest's call "
+        f"was answered `{WANT}` |"
     )
     print(f"| none: {unasked} runs asked for fewer | all lines of a run |")
     unmade = [proved.run(lines, words=words, thread=it) for it in range(1, THREADS + 1)]
@@ -80,7 +88,8 @@ def what_is_left(run):
 
 
 def walk_tests(proved):
-    """Refuses each request of the test of runs on threads, and each thread; returns how many were answered wrongly."""
+    """Refuses each request of the test of runs on threads, and each thread; returns how many were
+    answered wrongly."""
     whole = proved.test()
     if not whole.requests:
         sys.exit("refuse-memory: no request of the test is counted, so none would be refused")
@@ -93,11 +102,13 @@ def walk_tests(proved):
     left = [what_is_left(it) for it in runs]
     ended = [what_is_left(it) for it in unmade].count(NO_REPORT)
     print(
-        f"\nthe same by the tests: {len(runs)} requests, {THREADS} threads\n\n| Refused | Left |\n|---|---|"
+        f"\nthe same by the tests: {len(runs)} requests, {THREADS} threads\n\n| Refused | Left "
+        "|\n|---|---|"
     )
     print(f"| {left.count(NO_REPORT)} requests | `Memory`, and no frame is out |")
     print(
-        f"| {left.count(REPORT)} requests, or none | a report, whose histories replay, and no frame is out |"
+        f"| {left.count(REPORT)} requests, or none | a report, whose histories replay, and no "
+        "frame is out |"
     )
     print(f"| {left.count(NO_RUN)} requests | they are the test's own, beside the run |")
     print(f"| {ended} threads | `Memory`, and no frame is out |")

@@ -1,4 +1,5 @@
-"""A Debian that is booted in a container (systemd-nspawn), with its own service manager, in which commands are run."""
+"""A Debian that is booted in a container (systemd-nspawn), with its own service manager, in which
+commands are run."""
 
 import os
 import shutil
@@ -11,7 +12,8 @@ from linux_kit import ROOT, Fault
 # Seconds of a command, of a boot, and in which what is told to end undoes what it has begun.
 LIMIT, BOOT_LIMIT, END_LIMIT = 900, 180, 60
 
-# Where the container sees the repository and what is released; other folders of its own are its root's.
+# Where the container sees the repository and what is released; other folders of its own are its
+# root's.
 SOURCE, RELEASED = "/srv/source", "/srv/released"
 ENVIRONMENT = {
     "PATH": "/usr/local/bin:/usr/sbin:/usr/bin:/sbin:/bin",
@@ -23,7 +25,8 @@ ENVIRONMENT = {
 
 
 def end(process):
-    """Has a process that hangs end, and all that it has started: in order, so that nothing stays mounted, or at once."""
+    """Has a process that hangs end, and all that it has started: in order, so that nothing stays
+    mounted, or at once."""
     for number in (signal.SIGTERM, signal.SIGKILL):
         os.killpg(process.pid, number)
         try:
@@ -58,7 +61,8 @@ def ran(words, what, limit=LIMIT, **options):
 
 
 class Booted:
-    """A Debian that runs, from its root; it sees other folders by the names that they have there."""
+    """A Debian that runs, from its root; it sees other folders by the names that they have
+    there."""
 
     def __init__(self, root, released, others=()):
         if not shutil.which("systemd-nspawn"):

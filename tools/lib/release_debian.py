@@ -1,4 +1,5 @@
-"""Makes Debian packages, by debhelper, of folders that have what each package has: with a changelog and a copyright."""
+"""Makes Debian packages, by debhelper, of folders that have what each package has: with a changelog
+and a copyright."""
 
 import email.utils
 import glob
@@ -50,7 +51,10 @@ def copyright_of(tree):
             "Files: *",
             f"Copyright: {year} The authors of Bigvasta",
             "License: none",
-            " No licence is chosen yet: nothing here says that anybody but the authors may copy, change or hand on these files.",
+            (
+                " No licence is chosen yet: nothing here says that anybody but the authors may "
+                "copy, change or hand on these files."
+            ),
             "",
         )
     )

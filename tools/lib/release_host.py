@@ -9,7 +9,8 @@ DAEMONS = ("vhost_user_balloon", "vhost_user_host")
 PAGES = ("vhost_user_balloon.1", "vhost_user_host.1", "bigvasta.1", "bigvasta-host.conf.5")
 PACKAGING = os.path.join(ROOT, "packaging")
 
-# Files of packaging, and where they are under a root; units, the user and the folder of sockets are put there by debhelper.
+# Files of packaging, and where they are under a root; units, the user and the folder of sockets are
+# put there by debhelper.
 INSTALLED = (
     ("etc/host.conf", "etc/bigvasta/host.conf"),
     ("bash-completion/bigvasta", "usr/share/bash-completion/completions/bigvasta"),
@@ -20,8 +21,8 @@ DOCUMENTS = ("docs/HOST.md", "docs/CONTROL.md", "docs/LINUX.md", "docs/PLANNING.
 
 
 def build_installed(library, room):
-    """Builds over a library what an operator runs: the daemons, and the library as the planner loads it; returns their paths. All are without
-    symbols."""
+    """Builds over a library what an operator runs: the daemons, and the library as the planner
+    loads it; returns their paths. All are without symbols."""
     return make(
         room, *(f"plain/{it}" for it in DAEMONS), "libvb.so", O=room, VB_LIB=library, LIB=""
     )
@@ -61,7 +62,8 @@ def stage_host(tree, installed, root):
 
 
 def put_service(root):
-    """Puts units, the user, the configuration and the rules of alerts under a root, for who has no package."""
+    """Puts units, the user, the configuration and the rules of alerts under a root, for who has no
+    package."""
     copy_listed("packaging/systemd", f"{root}/systemd")
     for source, target in (
         ("sysusers.d", "sysusers.d"),

@@ -1,4 +1,5 @@
-"""What may be released: a program that the kit's mark shows as proved of a tree's sources, and what the gate said of them."""
+"""What may be released: a program that the kit's mark shows as proved of a tree's sources, and what
+the gate said of them."""
 
 import functools
 import hashlib
@@ -10,7 +11,8 @@ from linux_packages import Fault, last_line
 
 PROGRAM = "crates/vb_sim/out/vb_sim"
 
-# Characters of a sum in the kit's mark, which has that of the sources first, and then that of the program.
+# Characters of a sum in the kit's mark, which has that of the sources first, and then that of the
+# program.
 SUM = 64
 
 
@@ -30,8 +32,9 @@ def sum_of(path):
 
 
 def simulator(root):
-    """Returns the path of vb_sim, where the kit's mark beside it is of these bytes, and of the tree's sources. `rt run` leaves the
-    mark where it has proved and built the program; `rt ci` leaves none."""
+    """Returns the path of vb_sim, where the kit's mark beside it is of these bytes, and of the
+    tree's sources. `rt run` leaves the mark where it has proved and built the program; `rt ci`
+    leaves none."""
     program = f"{root}/{PROGRAM}"
     how = "tools/prove-sim proves and builds it"
     if not os.path.isfile(program):
@@ -49,8 +52,8 @@ def simulator(root):
 
 
 def gate_of(path, names):
-    """Returns the last line of a file with what `rt ci` printed, which has to be that of a gate that passed for a tree of these
-    files: each crate counts, and each must-fail edit."""
+    """Returns the last line of a file with what `rt ci` printed, which has to be that of a gate
+    that passed for a tree of these files: each crate counts, and each must-fail edit."""
     try:
         with open(path, encoding="utf-8", errors="replace") as file:
             line = last_line(file.read())
@@ -65,6 +68,7 @@ def gate_of(path, names):
     edits = [it for it in names if re.fullmatch(r"crates/\w+/must-fail/[^/]+\.edit", it)]
     if int(found[1]) != len(crates) + len(edits):
         raise Fault(
-            f"{path} is of another tree's gate: {line}, and there are {len(crates)} crates and {len(edits)} edits"
+            f"{path} is of another tree's gate: {line}, and there are {len(crates)} crates and "
+            f"{len(edits)} edits"
         )
     return line

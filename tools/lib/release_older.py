@@ -1,4 +1,5 @@
-"""The packages of 0.1.0, which are upgraded: made by the tools of its own commits, over the library's plain implementation."""
+"""The packages of 0.1.0, which are upgraded: made by the tools of its own commits, over the
+library's plain implementation."""
 
 import glob
 import os
@@ -9,10 +10,12 @@ import tempfile
 from linux_kit import ROOT, Fault
 from release_tree import said
 
-# The first commit of 0.1.0, whose daemons are in the package `bigvasta`; and the last one, which has a package of a host with its service.
+# The first commit of 0.1.0, whose daemons are in the package `bigvasta`; and the last one, which
+# has a package of a host with its service.
 WITH_DAEMONS, WITH_SERVICE = "9d1078bca0363b7b8116b664ce2364310affab32", "8ca96150"
 
-# What makes the packages of the first commit, in its folder: the files of a package hang on neither the proof nor the simulator.
+# What makes the packages of the first commit, in its folder: the files of a package hang on neither
+# the proof nor the simulator.
 MAKE_FIRST = """
 import importlib.machinery, shutil, subprocess, sys
 sys.path.insert(0, "tools")
@@ -33,7 +36,8 @@ release.release(sys.argv[1], None)
 
 
 def make(commit, words, out):
-    """Makes packages in a copy of the tree at a commit, by these words, and returns the paths of what is in a folder then."""
+    """Makes packages in a copy of the tree at a commit, by these words, and returns the paths of
+    what is in a folder then."""
     with tempfile.TemporaryDirectory(prefix="older-") as room:
         tree = f"{room}/tree"
         if (
@@ -43,7 +47,8 @@ def make(commit, words, out):
             != 0
         ):
             raise Fault(
-                f"the commit {commit[:8]} isn't there, of which packages of 0.1.0 are made: fetch the whole history"
+                f"the commit {commit[:8]} isn't there, of which packages of 0.1.0 are made: fetch "
+                "the whole history"
             )
         said(["git", "clone", "-q", "--shared", "--no-checkout", ROOT, tree])
         said(["git", "-C", tree, "checkout", "-q", commit])

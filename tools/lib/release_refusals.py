@@ -1,4 +1,5 @@
-"""What tools/release has to refuse, each in a copy of the tree: nothing is packed that the kit doesn't show as proved of a commit."""
+"""What tools/release has to refuse, each in a copy of the tree: nothing is packed that the kit
+doesn't show as proved of a commit."""
 
 import contextlib
 import os
@@ -126,7 +127,8 @@ def release(tree, room, gate):
 
 
 def refused(case):
-    """Demands that a case is refused in its words, and that nothing is made; without it, the same tree has a program that is taken."""
+    """Demands that a case is refused in its words, and that nothing is made; without it, the same
+    tree has a program that is taken."""
     with tempfile.TemporaryDirectory(prefix="test-release-") as room:
         tree = f"{room}/tree"
         subprocess.run(

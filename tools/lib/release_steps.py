@@ -1,4 +1,5 @@
-"""What tools/test-release does in a fresh Debian that is booted: the packages that it wants, and shell words, each of which ends with status 0."""
+"""What tools/test-release does in a fresh Debian that is booted: the packages that it wants, and
+shell words, each of which ends with status 0."""
 
 import re
 
@@ -8,7 +9,8 @@ from release_tree import read
 # What a monitor is built with, and what a host's package wants besides.
 WANTED = (
     "gcc clang g++ pkg-config libc6-dev xz-utils rustc cargo librust-vm-memory-dev python3 lintian"
-    " libjansson4 libinih1 libsystemd0 libseccomp2 systemd systemd-sysv dbus python3-prometheus-client python3-pandas python3-matplotlib man-db bash-completion"
+    " libjansson4 libinih1 libsystemd0 libseccomp2 systemd systemd-sysv dbus "
+    "python3-prometheus-client python3-pandas python3-matplotlib man-db bash-completion"
 )
 
 WARNINGS = "-Wall -Wextra -Werror"
@@ -64,7 +66,8 @@ STEPS = (
     ),
 )
 
-# A host as a service. Who is in bigvasta-status sees it and changes nothing; a VMM, which is in bigvasta, can't open the control socket.
+# A host as a service. Who is in bigvasta-status sees it and changes nothing; a VMM, which is in
+# bigvasta, can't open the control socket.
 RUN_HOST = """
 sed -i 's/^# budget = 8G/budget = 64M/; s/^mode = 0600/&\\ngroup = bigvasta/' /etc/bigvasta/host.conf
 systemctl start bigvasta-host
@@ -89,7 +92,8 @@ bigvasta remove web-1
 systemctl stop bigvasta-host
 """
 
-# The first example of the planner's help, as it is printed, in a Debian with the packages that it names. matplotlib keeps its fonts at home.
+# The first example of the planner's help, as it is printed, in a Debian with the packages that it
+# names. matplotlib keeps its fonts at home.
 PLAN = """
 rm -rf /tmp/plan && mkdir /tmp/plan && cd /tmp/plan
 export HOME=/tmp/plan
@@ -108,13 +112,17 @@ HOST_STEPS = (
     ("the planner's example", PLAN),
     (
         "the programs say how they are called",
-        "vhost_user_balloon 2>&1 | grep -q SOCKET; vhost_user_host 2>&1 | grep -q FOLDER; bigvasta --help | grep -q watch",
+        (
+            "vhost_user_balloon 2>&1 | grep -q SOCKET; vhost_user_host 2>&1 | grep -q FOLDER; "
+            "bigvasta --help | grep -q watch"
+        ),
     ),
     ("the user and the group", "getent passwd bigvasta && getent group bigvasta"),
     (
         "the backend's kind, and its description",
         "vhost_user_balloon --print-capabilities | python3 -c 'import json, sys;"
-        ' assert json.load(sys.stdin)["type"] == json.load(open("/usr/share/qemu/vhost-user/50-bigvasta-balloon.json"))["type"]\'',
+        ' assert json.load(sys.stdin)["type"] == '
+        'json.load(open("/usr/share/qemu/vhost-user/50-bigvasta-balloon.json"))["type"]\'',
     ),
     ("the units", "systemd-analyze verify --man=no bigvasta-host.service bigvasta-metrics.service"),
     ("a host by its configuration, and the client program", RUN_HOST),
@@ -125,16 +133,23 @@ HOST_STEPS = (
     ),
     (
         "the host's man pages",
-        "for each in bigvasta.1 vhost_user_host.1 vhost_user_balloon.1 bigvasta-host.conf.5; do man -w ${each%.*} && test -s /usr/share/man/man${each##*.}/$each.gz; done",
+        (
+            "for each in bigvasta.1 vhost_user_host.1 vhost_user_balloon.1 bigvasta-host.conf.5; "
+            "do man -w ${each%.*} && test -s /usr/share/man/man${each##*.}/$each.gz; done"
+        ),
     ),
 )
 
-# What stays of README's commands where the one at a keyboard isn't there, or QEMU is too old: by how a command begins, what is done in its place.
+# What stays of README's commands where the one at a keyboard isn't there, or QEMU is too old: by
+# how a command begins, what is done in its place.
 QEMU = "qemu-system-x86_64"
 INSTEAD = (
     (
         "bigvasta watch",
-        "sleep 2 && (sleep 3; printf q) | timeout 20 script -qec 'bigvasta watch' /dev/null > /tmp/watch && grep -q 'budget 6144' /tmp/watch",
+        (
+            "sleep 2 && (sleep 3; printf q) | timeout 20 script -qec 'bigvasta watch' /dev/null > "
+            "/tmp/watch && grep -q 'budget 6144' /tmp/watch"
+        ),
     ),
     (
         QEMU,
@@ -155,7 +170,8 @@ fi
     ),
 )
 
-# Where a Debian sees a newer one, and the program there that runs its QEMU, with the sockets and devices of this one.
+# Where a Debian sees a newer one, and the program there that runs its QEMU, with the sockets and
+# devices of this one.
 NEWER = "/srv/newer"
 NEWER_QEMU = f"""#!/bin/sh
 exec unshare --mount sh -c 'mount --rbind /run {NEWER}/run && mount --rbind /dev {NEWER}/dev && exec chroot {NEWER} {QEMU} "$@"' sh "$@"

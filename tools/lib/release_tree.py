@@ -1,4 +1,5 @@
-"""What tools/release makes all of: the files of a committed tree, its version, and what was proved of it."""
+"""What tools/release makes all of: the files of a committed tree, its version, and what was proved
+of it."""
 
 import os
 import re
@@ -47,7 +48,8 @@ def listed(folder):
 
 
 def copy_listed(folder, path):
-    """Copies a folder of the tree, but empty files: tools/conform takes what isn't there for empty."""
+    """Copies a folder of the tree, but empty files: tools/conform takes what isn't there for
+    empty."""
     for name in listed(folder):
         if not name.startswith(TESTS_IN_C) and os.path.getsize(os.path.join(ROOT, folder, name)):
             copy(os.path.join(ROOT, folder, name), os.path.join(path, name))
@@ -77,7 +79,8 @@ class Tree:
         self.commit = said(["git", "rev-parse", "HEAD"], cwd=ROOT).strip()
         self.date = int(said(["git", "log", "-1", "--format=%ct"], cwd=ROOT))
         self.gate = gate_of(gate, listed(".")) if gate else ""
-        # What a release without the gate's last line is called, in names of files and as a Debian package.
+        # What a release without the gate's last line is called, in names of files and as a Debian
+        # package.
         self.name = self.number if gate else f"{self.number}-unproved"
         self.debian = self.number if gate else f"{self.number}~unproved"
 
@@ -108,7 +111,8 @@ and no must-fail edit was tried for this release"""
 
 
 def proved(tree, others):
-    """Returns the text of PROVED, where a release has these others besides the library and vb_sim."""
+    """Returns the text of PROVED, where a release has these others besides the library and
+    vb_sim."""
     kit = said(["rt", "version"]).strip()
     lines = [
         f"Bigvasta {tree.name}",
@@ -117,7 +121,10 @@ def proved(tree, others):
         f"kit: {kit}",
         f"gate: {tree.gate or UNPROVED}",
         "",
-        "Each function of the crates that has a body is proved to meet its contract. Public functions with a clause that says",
+        (
+            "Each function of the crates that has a body is proved to meet its contract. Public "
+            "functions with a clause that says"
+        ),
         "what they give or leave:",
         *contracts(),
         "",

@@ -1,6 +1,8 @@
-"""What tools/test-release does of packages of 0.1.0 in a booted Debian: words for its shell, each of which ends with status 0."""
+"""What tools/test-release does of packages of 0.1.0 in a booted Debian: words for its shell, each
+of which ends with status 0."""
 
-# Where the packages of 0.1.0 are there: those with the daemons in `bigvasta`, and the one with the service.
+# Where the packages of 0.1.0 are there: those with the daemons in `bigvasta`, and the one with the
+# service.
 DAEMONS, SERVICE = "srv/older/daemons", "srv/older/service"
 DROP_IN = "/etc/systemd/system/bigvasta-host.service.d"
 
@@ -18,7 +20,8 @@ test ! -e /usr/share/man/man1/vhost_user_balloon.1 && test -s /usr/share/man/man
 test "$(dpkg-query -W -f '${db:Status-Status} ${Version}' bigvasta | grep -c '^installed 0[.]1[.]')" = 0
 """
 
-# A guest of 128 pages of a client of the tests, which answers as long as its unit runs; it comes by the first word.
+# A guest of 128 pages of a client of the tests, which answers as long as its unit runs; it comes by
+# the first word.
 GUEST = """import sys, threading, types
 from hosts import Answering
 Answering(types.SimpleNamespace(folder="/run/bigvasta", said=list), sys.argv[1])
@@ -32,7 +35,8 @@ comes() {{
 }}
 """
 
-# What is asked of a guest that is at work, as one line of JSON without what time changes, and without terms that 0.1.0 hasn't.
+# What is asked of a guest that is at work, as one line of JSON without what time changes, and
+# without terms that 0.1.0 hasn't.
 SHOW = """import json, sys
 it = json.load(sys.stdin)["guest"]
 assert it["state"] == "ready" and it["answers"], it
@@ -55,7 +59,8 @@ cat /root/why && test -s /root/before
 cp /etc/bigvasta/host.conf /root/host.conf && systemctl show -p MainPID bigvasta-host > /root/main
 """
 
-# Whose configuration was changed keeps it; the host starts anew, and the guest and its process stay. Another guest comes to the new host.
+# Whose configuration was changed keeps it; the host starts anew, and the guest and its process
+# stay. Another guest comes to the new host.
 NEW_SERVICE = f"""
 rm -r {DROP_IN}
 apt-get -q -y -o Dpkg::Options::=--force-confold install /srv/released/bigvasta-host_*.deb

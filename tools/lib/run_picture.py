@@ -1,4 +1,5 @@
-"""Draws the points and marks of a run as panels over the numbers of its events, for tools/draw-run."""
+"""Draws the points and marks of a run as panels over the numbers of its events, for
+tools/draw-run."""
 
 import itertools
 import sys
@@ -51,7 +52,8 @@ def load_library():
         import matplotlib.transforms
     except ImportError:
         raise Fault(
-            f"{sys.executable} has no matplotlib for a picture: apt-get install python3-matplotlib gives it to /usr/bin/python3"
+            f"{sys.executable} has no matplotlib for a picture: apt-get install "
+            "python3-matplotlib gives it to /usr/bin/python3"
         ) from None
     matplotlib.rcdefaults()
     matplotlib.rcParams.update({"svg.hashsalt": "draw-run", "font.size": 8, "axes.linewidth": 0.6})
@@ -59,7 +61,8 @@ def load_library():
 
 
 def held(points, numbers_at):
-    """Returns each run of points that have numbers: the events at which they change, its end, and the numbers there."""
+    """Returns each run of points that have numbers: the events at which they change, its end, and
+    the numbers there."""
     changes = [
         (next(same).event, numbers) for numbers, same in itertools.groupby(points, numbers_at)
     ]
@@ -136,7 +139,8 @@ def draw_marks(library, axes, marks):
 
 
 def explain(library, axes, groups):
-    """Puts a legend beside a panel: a heading for each group, and below it how each of its parts is drawn."""
+    """Puts a legend beside a panel: a heading for each group, and below it how each of its parts is
+    drawn."""
     handles = []
     for heading, parts in groups.items():
         handles.extend(
@@ -154,7 +158,8 @@ def explain(library, axes, groups):
 
 
 def guests_legend(library, points, marks):
-    """Returns the legend of the guests' panels: the places and marks that there are in this run, and the counts."""
+    """Returns the legend of the guests' panels: the places and marks that there are in this run,
+    and the counts."""
     area, line = library.patches.Patch, library.lines.Line2D
     there = {
         place
@@ -182,7 +187,8 @@ def guests_legend(library, points, marks):
 
 
 def panels(library, count):
-    """Returns a figure with a panel for the host, and below it one for each of `count` guests, over the same events."""
+    """Returns a figure with a panel for the host, and below it one for each of `count` guests, over
+    the same events."""
     heights = [1.2, *[max(1.5, 3.0 / count)] * count] if count else [1.2]
     height, gap = sum(heights) + 0.35 * count + 0.85, 0.35 * len(heights) / sum(heights)
     figure = library.figure.Figure(figsize=(10, height))

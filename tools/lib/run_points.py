@@ -1,4 +1,5 @@
-"""What a script's run comes to, for tools/draw-run: the numbers after its events, by questions put in, and its marks."""
+"""What a script's run comes to, for tools/draw-run: the numbers after its events, by questions put
+in, and its marks."""
 
 import csv
 import subprocess
@@ -24,7 +25,8 @@ class BadScript(Exception):
 
 
 class Script(NamedTuple):
-    """The lines of a script that are not skipped: those of the host and its devices, and the events."""
+    """The lines of a script that are not skipped: those of the host and its devices, and the
+    events."""
 
     settings: list[str]
     events: list[str]
@@ -47,7 +49,8 @@ class Mark(NamedTuple):
 
 
 def script_of(text):
-    """Reads a good script. Its comments may have any bytes, and a line ends at a line feed alone."""
+    """Reads a good script. Its comments may have any bytes, and a line ends at a line feed
+    alone."""
     lines = [it for it in text.decode("latin-1").split("\n") if it and not it.startswith("#")]
     settings = [it for it in lines if it.split(" ")[0] in ("host", "spare")]
     return Script(settings, lines[len(settings) :])
@@ -140,12 +143,14 @@ def point_of(event, guests, answers):
 
 
 def points_of(answered, replies, asked, behind):
-    """Reads the points from the second run, where the script's events are answered as in the first."""
+    """Reads the points from the second run, where the script's events are answered as in the
+    first."""
     points, place, asked = [], 0, set(asked)
     for number, (reply, guests) in enumerate(zip(replies, behind), 1):
         if answered[place] != reply:
             raise Fault(
-                f"event {number} is answered {reply!r}, but {answered[place]!r} with questions put in"
+                f"event {number} is answered {reply!r}, but {answered[place]!r} with questions "
+                "put in"
             )
         place += 1
         if number in asked:
@@ -156,7 +161,8 @@ def points_of(answered, replies, asked, behind):
 
 
 def measure(path, program, every):
-    """Runs a script twice; returns the points and marks of its picture, and what the program said."""
+    """Runs a script twice; returns the points and marks of its picture, and what the program
+    said."""
     with open(path, "rb") as opened:
         text = opened.read()
     replies, said = run(program, text)

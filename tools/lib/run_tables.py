@@ -1,8 +1,8 @@
 """Numbers of runs worked out by hand, for tools/test-draw-run."""
 
-# What each event changes, worked out from docs/RULES.md: the event, `host` or a guest's number, and the
-# new numbers; a mark, or `gone` after an unplug. What isn't named stays as it was, and is 0 at a plug.
-# A table begins with the host's frames and the number of events.
+# What each event changes, worked out from docs/RULES.md: the event, `host` or a guest's number, and
+# the new numbers; a mark, or `gone` after an unplug. What isn't named stays as it was, and is 0 at
+# a plug. A table begins with the host's frames and the number of events.
 
 FIRST_PATH = """
 64 frames, 12 events
@@ -40,8 +40,8 @@ GIVE_BACK = """
 31 0 free 41 used 2
 """
 
-# The immediate device of guest 1 gives two frames back at event 24, the paced one of guest 0 gives one
-# at each of its first two visits.
+# The immediate device of guest 1 gives two frames back at event 24, the paced one of guest 0 gives
+# one at each of its first two visits.
 PACED = """
 64 frames, 56 events
 1 0 free 48
@@ -131,7 +131,8 @@ TWO_GUESTS = """
 40 1 giving 0 lent 45 actual 45
 """
 
-# What guest 0 scribbles goes to pages that have a frame since its init. The new life gives its 13 back.
+# What guest 0 scribbles goes to pages that have a frame since its init. The new life gives its 13
+# back.
 ROGUE = """
 40 frames, 40 events
 1 0 free 48
@@ -160,8 +161,9 @@ ROGUE = """
 39 0 giving 0 lent 16 actual 16
 """
 
-# Guest 0 has frames that back pages 16 to 23, which are visited first. Guest 1 has them for its pages 16
-# to 23, too: at event 84 it offers the rest of its smallest block, 40 to 47, and then 16 to 27.
+# Guest 0 has frames that back pages 16 to 23, which are visited first. Guest 1 has them for its
+# pages 16 to 23, too: at event 84 it offers the rest of its smallest block, 40 to 47, and then 16
+# to 27.
 PACED_BALANCE = """
 96 frames, 114 events
 1 0 free 48
@@ -225,8 +227,8 @@ PACED_BALANCE = """
 111 0 taking 0 free 28 actual 4
 """
 
-# A guest that goes, and one with another size that comes in its place; a comment with odd bytes, numbers
-# with leading zeros, and a last line that doesn't end.
+# A guest that goes, and one with another size that comes in its place; a comment with odd bytes,
+# numbers with leading zeros, and a last line that doesn't end.
 LIVES_SCRIPT = b"""# \xff\x85frames\x0bframes\rframes
 host 20
 spare immediate

@@ -1,4 +1,5 @@
-"""Makes a program of its own over crates of this repository, in a folder of its own, and counts its instructions."""
+"""Makes a program of its own over crates of this repository, in a folder of its own, and counts its
+instructions."""
 
 import os
 import re
@@ -24,7 +25,8 @@ def needed_lines(libraries):
 
 
 def build(folder, name, source, libraries, numbers):
-    """Proves and builds a program of this source over these crates, runs it on these numbers, and returns its path."""
+    """Proves and builds a program of this source over these crates, runs it on these numbers, and
+    returns its path."""
     names, lines = needed_lines(libraries)
     crate = os.path.join(folder, "crates", name)
     os.makedirs(os.path.join(crate, "src"))

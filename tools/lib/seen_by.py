@@ -1,5 +1,5 @@
-"""Which tests see a file of the daemons or of the client program: a table that is made of the programs' parts, of includes and imports, and of what each
-suite builds."""
+"""Which tests see a file of the daemons or of the client program: a table that is made of the
+programs' parts, of includes and imports, and of what each suite builds."""
 
 import functools
 import glob
@@ -12,7 +12,8 @@ from linux_kit import MONITOR
 from linux_packages import ROOT
 from suites import SUITES
 
-# Suites that build daemons and need no Linux, and those of the planner; the tests in C of the headers, which make runs.
+# Suites that build daemons and need no Linux, and those of the planner; the tests in C of the
+# headers, which make runs.
 ASKED, PLANNED = ("vhost-user", "pci-proxy", "control", "host"), ("plan", "fleet")
 C_TESTS = ("make", "-C", "monitor", "c-test", "LIB=reference", "NOTICES=30000", "DAYS=10000")
 BACKENDS, CLIENT = "monitor/backends/", "client/"
@@ -41,7 +42,8 @@ def parts():
 
 
 def shipped():
-    """Returns the files that are shipped, by their names from the top: parts of daemons, the headers, the modules of the client program."""
+    """Returns the files that are shipped, by their names from the top: parts of daemons, the
+    headers, the modules of the client program."""
     patterns = (
         f"{MONITOR}/backends/**/*.h",
         f"{MONITOR}/include/balloon*.h",
@@ -93,7 +95,8 @@ def tests_of(suite):
 
 @functools.cache
 def built_by(suite):
-    """Returns the daemons that a suite builds: of its conftest.py's PROGRAMS, and with a host's that of its guests' processes."""
+    """Returns the daemons that a suite builds: of its conftest.py's PROGRAMS, and with a host's
+    that of its guests' processes."""
     found = (
         set(re.findall(r'"[\w-]+/(\w+)"', read(f"{SUITES[suite].words[0]}/conftest.py")))
         & parts().keys()
@@ -102,7 +105,8 @@ def built_by(suite):
 
 
 def mentions(text, path):
-    """Returns how often a test speaks of a file: by its name, and ten times as much where it imports it."""
+    """Returns how often a test speaks of a file: by its name, and ten times as much where it
+    imports it."""
     stem = os.path.splitext(os.path.basename(path))[0]
     names = path.removeprefix(CLIENT).removesuffix(".py").split("/")
     imports = (
@@ -114,7 +118,8 @@ def mentions(text, path):
 
 
 def suites_of(path):
-    """Returns the suites that see a file, the narrowest first: that of its folder, then those that build the least, and those that speak most of it."""
+    """Returns the suites that see a file, the narrowest first: that of its folder, then those that
+    build the least, and those that speak most of it."""
 
     def spoken(suite):
         return sum(mentions(text, path) for text in tests_of(suite).values())

@@ -1,4 +1,5 @@
-"""Definitions that say more, one thing at a time: a clause or a record never holds, or not in one case of what it is about."""
+"""Definitions that say more, one thing at a time: a clause or a record never holds, or not in one
+case of what it is about."""
 
 import re
 
@@ -10,13 +11,16 @@ from weaker_definitions import FIELD, is_statement, relations_of
 NEVER, NEVER_HOLDS = "⊥", "it never holds"
 
 # What is put in front of a definition with a case that never holds, and what is said there.
-HELPER = "abbrev pub unless_planted : {kind} → Type 0 → Type 0\nunless_planted {pattern} said = ⊥\nunless_planted it said = said\n"
+HELPER = (
+    "abbrev pub unless_planted : {kind} → Type 0 → Type 0\nunless_planted {pattern} said = "
+    "⊥\nunless_planted it said = said\n"
+)
 SAID = "unless_planted {name} ({text})"
 
 
 def in_scope(case, path, text):
-    """Returns a constructor's pattern as a file may have it, and the import that it needs: by a name of its own, since the file may have another
-    such name."""
+    """Returns a constructor's pattern as a file may have it, and the import that it needs: by a
+    name of its own, since the file may have another such name."""
     if case.home == module(path) or case.name in text and "◌" in case.name:
         return case.pattern, ""
     if "◌" in case.name:
@@ -28,7 +32,8 @@ def in_scope(case, path, text):
 
 
 def stronger_texts(text, names, cases):
-    """Returns what a statement may be in place of this one: what of it is stronger, the text, and the type with the case, if there is one."""
+    """Returns what a statement may be in place of this one: what of it is stronger, the text, and
+    the type with the case, if there is one."""
     found = [(NEVER_HOLDS, NEVER, None)]
     for name, kind in names:
         said = SAID.format(name=name, text=text)
@@ -39,7 +44,8 @@ def stronger_texts(text, names, cases):
 
 
 def stronger_forms(path, lines, place, front, text, names, cases):
-    """Returns the stronger forms of a statement: front and text are on these lines of its file, which a helper is in front of."""
+    """Returns the stronger forms of a statement: front and text are on these lines of its file,
+    which a helper is in front of."""
     name, begin, first, last = place
     found = []
     for what, said, of in stronger_texts(text, names, cases):
@@ -56,7 +62,8 @@ def stronger_forms(path, lines, place, front, text, names, cases):
 
 
 def stronger_clause(path, lines, item, signature, cases):
-    """Returns a clause's stronger forms; its signature has the line where it begins, and the type."""
+    """Returns a clause's stronger forms; its signature has the line where it begins, and the
+    type."""
     whole = joined(without_comments(lines[slice(*item)]))
     front, text = (
         it.strip() for it in (whole[: at_top(whole, "=")[0]], whole[at_top(whole, "=")[0] + 1 :])
@@ -98,8 +105,8 @@ def stronger_record(path, lines, item, relations, cases):
 
 
 def stronger_definitions(crate, crates, all_crates):
-    """Returns all stronger definitions of a crate's premises. The types and relations that it names are of these crates, and contracts of
-    all crates have premises."""
+    """Returns all stronger definitions of a crate's premises. The types and relations that it names
+    are of these crates, and contracts of all crates have premises."""
     cases, wanted = all_cases(crates), premises(all_crates)
     relations, found = relations_of([it for other in crates for it in definition_files(other)]), []
     for path in definition_files(crate):

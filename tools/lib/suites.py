@@ -1,4 +1,5 @@
-"""The suites of tests: what each is about, what pytest is told, and Debian's packages that it wants."""
+"""The suites of tests: what each is about, what pytest is told, and Debian's packages that it
+wants."""
 
 from typing import NamedTuple
 
@@ -11,7 +12,8 @@ AT_ONCE = ("-q", "-n", "auto")
 
 
 class Suite(NamedTuple):
-    """What it tests; the words for pytest; the packages that it wants besides, and those without which some of its tests are skipped."""
+    """What it tests; the words for pytest; the packages that it wants besides, and those without
+    which some of its tests are skipped."""
 
     about: str
     words: tuple
@@ -30,7 +32,10 @@ SUITES = {
         ("monitor/tests/pci_proxy", *AT_ONCE),
     ),
     "control": Suite(
-        "a host that an operator runs: its control socket, configuration and service, and the client program",
+        (
+            "a host that an operator runs: its control socket, configuration and service, and the "
+            "client program"
+        ),
         ("monitor/tests/control", "-q"),
         more="tmux prometheus python3-prometheus-client man-db systemd",
     ),
@@ -50,28 +55,41 @@ SUITES = {
         ("monitor/tests/host/test_runs.py", "-v", "-rP"),
     ),
     "plan": Suite(
-        "the planner of the client program, `bigvasta plan`, over days worked out by hand and random ones",
+        (
+            "the planner of the client program, `bigvasta plan`, over days worked out by hand and "
+            "random ones"
+        ),
         ("monitor/tests/plan", *AT_ONCE),
         "python3-pandas python3-hypothesis",
         "python3-matplotlib",
     ),
     "fleet": Suite(
-        "its fleets: placement, processes, and a Dask scheduler with workers in network namespaces, one of them killed (as root)",
+        (
+            "its fleets: placement, processes, and a Dask scheduler with workers in network "
+            "namespaces, one of them killed (as root)"
+        ),
         ("monitor/tests/fleet", "-q"),
         "python3-pandas",
         "python3-distributed iproute2",
     ),
     "machine": Suite(
-        "limits by cgroups of the second version, and the installed service under systemd, in a Debian 13 that QEMU boots (the first time as root)",
+        (
+            "limits by cgroups of the second version, and the installed service under systemd, in "
+            "a Debian 13 that QEMU boots (the first time as root)"
+        ),
         ("monitor/tests/machine", "-v", "-rP"),
         "dpkg-dev debhelper dh-python git mmdebstrap e2fsprogs",
     ),
     "linux": Suite(
-        "Debian's own Linux and driver on both, under User Mode Linux; `--vmm qemu`: under QEMU; `--help` names its words",
+        (
+            "Debian's own Linux and driver on both, under User Mode Linux; `--vmm qemu`: under "
+            "QEMU; `--help` names its words"
+        ),
         ("monitor/tests/linux/test_linux.py", "-v", "-rP"),
     ),
     "rust-vmm": Suite(
-        "the backend of one guest, by the frontend of rust-vmm's crate `vhost`, and the example on `vhost-user-backend`: Debian 13's crates, which "
+        "the backend of one guest, by the frontend of rust-vmm's crate `vhost`, and the example "
+        "on `vhost-user-backend`: Debian 13's crates, which "
         "are fetched where they aren't installed",
         ("monitor/tests/rust_vmm", "-q"),
         "cargo",
@@ -88,7 +106,10 @@ SUITES = {
         over_library=False,
     ),
     "draw-run": Suite(
-        "the numbers of tools/draw-run beside numbers worked out by hand: ./vb_sim answers, or the program that VB_SIM names",
+        (
+            "the numbers of tools/draw-run beside numbers worked out by hand: ./vb_sim answers, "
+            "or the program that VB_SIM names"
+        ),
         ("tools/tests/test_draw_run.py", *AT_ONCE),
         more="python3-matplotlib",
         over_library=False,
@@ -97,7 +118,8 @@ SUITES = {
 
 
 def packages_of(name, all_of_it=False):
-    """Returns the packages that a suite wants; those of the tests that are skipped without them, too."""
+    """Returns the packages that a suite wants; those of the tests that are skipped without them,
+    too."""
     suite = SUITES[name]
     return [
         *PYTEST.split(),

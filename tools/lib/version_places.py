@@ -2,7 +2,8 @@
 
 import re
 
-# A string, and 65,536 times the first number, 256 times the second, and the third: in C, and in Rust.
+# A string, and 65,536 times the first number, 256 times the second, and the third: in C, and in
+# Rust.
 STRING, C, RUST = '"{0}"', "{1:#08x}u", "{1:#09_x}"
 
 # A file, what the version's line begins with, and the form of the version after that.

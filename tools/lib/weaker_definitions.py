@@ -1,4 +1,5 @@
-"""Definitions that say less, one thing at a time: a field, a clause, or a part of one says nothing."""
+"""Definitions that say less, one thing at a time: a field, a clause, or a part of one says
+nothing."""
 
 import re
 

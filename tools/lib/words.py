@@ -1,4 +1,5 @@
-"""The words of the field (docs/TERMS.md), for tools/check-sources: which words pages, comments and commit subjects don't use."""
+"""The words of the field (docs/TERMS.md), for tools/check-sources: which words pages, comments and
+commit subjects don't use."""
 
 import ast
 import io
@@ -9,7 +10,10 @@ import tokenize
 # A word that isn't used, with its exceptions, and what is used in its place.
 WORDS = (
     (
-        r"behind\b(?! (?:an? |one |its |the )?(?:traits?|types?|box|references?|pointers?|locks?|flag)\b)",
+        (
+            r"behind\b(?! (?:an? |one |its |the "
+            r")?(?:traits?|types?|box|references?|pointers?|locks?|flag)\b)"
+        ),
         "after, at offset, or backs",
     ),
     (
@@ -37,7 +41,8 @@ WORDS = (
 )
 LISTED = tuple((re.compile(rf"\b{pattern}", re.IGNORECASE), instead) for pattern, instead in WORDS)
 
-# What is read: prose of all kinds. The page of terms and this file's test name the words that aren't used.
+# What is read: prose of all kinds. The page of terms and this file's test name the words that
+# aren't used.
 READ = (
     "*.md",
     "*.rt",
@@ -79,7 +84,8 @@ def page(text):
 
 
 def commented(text, kind):
-    """Returns what the comments of a source say, by lines; in C and Rust a comment may have several lines."""
+    """Returns what the comments of a source say, by lines; in C and Rust a comment may have several
+    lines."""
     found, inside = [], False
     for number, line in enumerate(text.splitlines(), 1):
         marked = re.search(MARKED[kind], line)
@@ -91,7 +97,8 @@ def commented(text, kind):
 
 
 def described(text):
-    """Returns the comments of a Python file, and what it and its classes and functions say of themselves."""
+    """Returns the comments of a Python file, and what it and its classes and functions say of
+    themselves."""
     tokens = tokenize.generate_tokens(io.StringIO(text).readline)
     found = [(it.start[0], it.string) for it in tokens if it.type == tokenize.COMMENT]
     for node in ast.walk(ast.parse(text)):
@@ -118,7 +125,8 @@ def lines_of(path, text):
 
 
 def words_of(path, text):
-    """Returns the words of a file that aren't used, with their lines. No doc comment begins with "The same": each is read alone."""
+    """Returns the words of a file that aren't used, with their lines. No doc comment begins with
+    "The same": each is read alone."""
     found = [
         f"{path}:{number}: {it}" for number, line in lines_of(path, text) for it in unused(line)
     ]
@@ -167,7 +175,8 @@ def asked(root, *words):
 
 
 def subjects(root, since=SINCE):
-    """Returns the commits since a time whose subjects are wrong; none where the history isn't there."""
+    """Returns the commits since a time whose subjects are wrong; none where the history isn't
+    there."""
     said = [
         line.partition(" ") for line in asked(root, "log", f"--since={since}", "--format=%h %s")
     ]

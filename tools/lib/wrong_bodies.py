@@ -1,4 +1,5 @@
-"""Wrong bodies of C and of Python: each is one edit of a text, on one line, by the kind of what is wrong."""
+"""Wrong bodies of C and of Python: each is one edit of a text, on one line, by the kind of what is
+wrong."""
 
 import re
 from typing import NamedTuple
@@ -6,12 +7,16 @@ from typing import NamedTuple
 # What is no code; then words, numbers and signs.
 SKIPPED = {
     ".c": r"/\*.*?\*/|//[^\n]*|^[ \t]*\#(?:\\\n|[^\n])*|\"(?:\\.|[^\"\\])*\"|'(?:\\.|[^'\\])*'",
-    ".py": r"\#[^\n]*|[rbf]?\"\"\".*?\"\"\"|[rbf]?\"(?:\\.|[^\"\\\n])*\"|[rbf]?'(?:\\.|[^'\\\n])*'|^@[^\n]*|^(?:from|import) [^\n]*",
+    ".py": (
+        r"\#[^\n]*|[rbf]?\"\"\".*?\"\"\"|[rbf]?\"(?:\\.|[^\"\\\n])*\"|[rbf]?'(?:\\.|[^'\\\n])*'|^@[^\n]*|^(?:from|import) "
+        r"[^\n]*"
+    ),
 }
 SKIPPED[".h"] = SKIPPED[".c"]
 TOKEN = r"(?P<word>[A-Za-z_]\w*)|(?P<number>\d[\w.]*)|(?P<sign>->|<<|>>|[-+*/|&<>=!]=|&&|\|\||\+\+|--|\*\*|//|[^\s\w])"
 
-# What takes a token's place, by the kind of the edit; spaces round a word of Python's that is left out stay.
+# What takes a token's place, by the kind of the edit; spaces round a word of Python's that is left
+# out stay.
 PLACES = {
     "comparison": {"<": "<=", "<=": "<", ">": ">=", ">=": ">", "==": "!=", "!=": "=="},
     "logic": {
@@ -48,7 +53,8 @@ KEYWORDS = {
     "yield",
 }
 
-# Whole lines, by what takes their place: calls and assignments that stand by themselves, labels of cases, rows of tables.
+# Whole lines, by what takes their place: calls and assignments that stand by themselves, labels of
+# cases, rows of tables.
 C_LINES = {
     "call": (re.compile(r" +[a-z_]\w*\([^\n]*\);"), "(void)0;"),
     "assignment": (
@@ -133,7 +139,8 @@ def small_edits(path, tokens):
 
 
 def field_edits(path, tokens):
-    """Yields exchanged fields: in the place of one that a name has, the next one that it has elsewhere."""
+    """Yields exchanged fields: in the place of one that a name has, the next one that it has
+    elsewhere."""
     four = zip(tokens, tokens[1:], tokens[2:], [*tokens[3:], Token("sign", ";", 0, 0)])
     triples = [
         it for it in four if it[0].kind == it[2].kind == "word" and it[1].text in ("->", ".")
@@ -151,7 +158,8 @@ def field_edits(path, tokens):
 
 
 def arguments_of(tokens, number):
-    """Returns the spans of the arguments of a call whose parenthesis is this token; none where they aren't all on its line."""
+    """Returns the spans of the arguments of a call whose parenthesis is this token; none where they
+    aren't all on its line."""
     depth, spans, begin = 0, [], tokens[number].end
     for token in tokens[number:]:
         depth += (token.text in "([{") - (token.text in ")]}")

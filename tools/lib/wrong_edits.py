@@ -1,5 +1,5 @@
-"""Wrong edits of the two shims, monitor/include/balloon.h and monitor/rust, each of which a test has
-to refuse."""
+"""Wrong edits of the two shims, monitor/include/balloon.h and monitor/rust, each of which a test
+has to refuse."""
 
 import re
 
@@ -28,28 +28,50 @@ WRONG = [
         "full fence after the flags",
         H,
         "    return answer;\n}\n\n/* What is to be done next",
-        "    if (what & VB_FULL_FENCE)\n        __atomic_thread_fence(__ATOMIC_SEQ_CST);\n    return answer;\n}\n\n/* What is to be done next",
         (
-            "        if (what & VB_FULL_FENCE)\n            __atomic_thread_fence(__ATOMIC_SEQ_CST);\n        if (what & VB_READ)",
+            "    if (what & VB_FULL_FENCE)\n        __atomic_thread_fence(__ATOMIC_SEQ_CST);\n    "
+            "return answer;\n}\n\n/* What is to be done next"
+        ),
+        (
+            (
+                "        if (what & VB_FULL_FENCE)\n            "
+                "__atomic_thread_fence(__ATOMIC_SEQ_CST);\n        if (what & VB_READ)"
+            ),
             "        if (what & VB_READ)",
         ),
     ),
     (
         "release fence after the index",
         H,
-        "    __atomic_thread_fence(__ATOMIC_RELEASE);\n    *(volatile balloon_word16 *)balloon_at(balloon, notice->index_at) = htole16(notice->used_index);\n",
-        "    *(volatile balloon_word16 *)balloon_at(balloon, notice->index_at) = htole16(notice->used_index);\n    __atomic_thread_fence(__ATOMIC_RELEASE);\n",
+        (
+            "    __atomic_thread_fence(__ATOMIC_RELEASE);\n    *(volatile balloon_word16 "
+            "*)balloon_at(balloon, notice->index_at) = htole16(notice->used_index);\n"
+        ),
+        (
+            "    *(volatile balloon_word16 *)balloon_at(balloon, notice->index_at) = "
+            "htole16(notice->used_index);\n    __atomic_thread_fence(__ATOMIC_RELEASE);\n"
+        ),
     ),
     (
         "used index before its element",
         H,
-        "    const VbNotice *notice = &balloon->notice;\n    *(volatile balloon_word32 *)balloon_at(balloon, notice->id_at)",
-        "    const VbNotice *notice = &balloon->notice;\n    *(volatile balloon_word16 *)balloon_at(balloon, notice->index_at) = htole16(notice->used_index);\n    *(volatile balloon_word32 *)balloon_at(balloon, notice->id_at)",
+        (
+            "    const VbNotice *notice = &balloon->notice;\n    *(volatile balloon_word32 "
+            "*)balloon_at(balloon, notice->id_at)"
+        ),
+        (
+            "    const VbNotice *notice = &balloon->notice;\n    *(volatile balloon_word16 "
+            "*)balloon_at(balloon, notice->index_at) = htole16(notice->used_index);\n    "
+            "*(volatile balloon_word32 *)balloon_at(balloon, notice->id_at)"
+        ),
     ),
     (
         "a length that isn't written",
         H,
-        "    *(volatile balloon_word32 *)balloon_at(balloon, notice->length_at) = htole32(notice->used_length);\n",
+        (
+            "    *(volatile balloon_word32 *)balloon_at(balloon, notice->length_at) = "
+            "htole32(notice->used_length);\n"
+        ),
         "",
     ),
     (
@@ -73,8 +95,18 @@ WRONG = [
     (
         "discarding after giving back",
         H,
-        "    for (uint32_t i = 0; what & VB_DISCARD && i < balloon->notice.cuts; i++, part++) {\n        balloon_discard(balloon, part, result);\n        what = balloon->discard ? balloon_recheck(balloon, what, result) : what;\n    }\n    if (what & VB_GIVE_BACK)\n        balloon_give_back(balloon);\n",
-        "    if (what & VB_GIVE_BACK)\n        balloon_give_back(balloon);\n    for (uint32_t i = 0; what & VB_DISCARD && i < balloon->notice.cuts; i++, part++) {\n        balloon_discard(balloon, part, result);\n        what = balloon->discard ? balloon_recheck(balloon, what, result) : what;\n    }\n",
+        (
+            "    for (uint32_t i = 0; what & VB_DISCARD && i < balloon->notice.cuts; i++, part++) "
+            "{\n        balloon_discard(balloon, part, result);\n        what = balloon->discard "
+            "? balloon_recheck(balloon, what, result) : what;\n    }\n    if (what & "
+            "VB_GIVE_BACK)\n        balloon_give_back(balloon);\n"
+        ),
+        (
+            "    if (what & VB_GIVE_BACK)\n        balloon_give_back(balloon);\n    for (uint32_t "
+            "i = 0; what & VB_DISCARD && i < balloon->notice.cuts; i++, part++) {\n        "
+            "balloon_discard(balloon, part, result);\n        what = balloon->discard ? "
+            "balloon_recheck(balloon, what, result) : what;\n    }\n"
+        ),
     ),
     (
         "nothing discarded",
@@ -97,8 +129,16 @@ WRONG = [
     (
         "a deflate that discards",
         H,
-        "    const bool told = balloon->on_pages && (notice->runs > 0 || notice->kind != VB_HINT);\n",
-        "    for (uint32_t i = 0; notice->kind == VB_DEFLATE && i < notice->runs; i++)\n        madvise(balloon_at(balloon, (VbSpot){ 0, balloon->room.runs[i].first * 4096ull }), 4096, MADV_DONTNEED);\n    const bool told = balloon->on_pages && (notice->runs > 0 || notice->kind != VB_HINT);\n",
+        (
+            "    const bool told = balloon->on_pages && (notice->runs > 0 || notice->kind != "
+            "VB_HINT);\n"
+        ),
+        (
+            "    for (uint32_t i = 0; notice->kind == VB_DEFLATE && i < notice->runs; "
+            "i++)\n        madvise(balloon_at(balloon, (VbSpot){ 0, balloon->room.runs[i].first * "
+            "4096ull }), 4096, MADV_DONTNEED);\n    const bool told = balloon->on_pages && "
+            "(notice->runs > 0 || notice->kind != VB_HINT);\n"
+        ),
     ),
     ("a file's offset forgotten", H, "(off_t)cut->in_file", "(off_t)cut->offset"),
     ("another region's file", H, "&balloon->regions[part->region];", "&balloon->regions[0];"),
@@ -138,13 +178,19 @@ WRONG = [
         "four bytes read twice",
         H,
         "        *(balloon_word32 *)to = *(const volatile balloon_word32 *)from;\n",
-        "        *(balloon_word32 *)to = *(const volatile balloon_word32 *)from | *(const volatile balloon_word32 *)from;\n",
+        (
+            "        *(balloon_word32 *)to = *(const volatile balloon_word32 *)from | *(const "
+            "volatile balloon_word32 *)from;\n"
+        ),
     ),
     (
         "bytes read twice",
         H,
         "        *(balloon_word64 *)to = *(const volatile balloon_word64 *)from;\n",
-        "        *(balloon_word64 *)to = *(const volatile balloon_word64 *)from | *(const volatile balloon_word64 *)from;\n",
+        (
+            "        *(balloon_word64 *)to = *(const volatile balloon_word64 *)from | *(const "
+            "volatile balloon_word64 *)from;\n"
+        ),
     ),
     (
         "bytes read as memcpy likes",
@@ -198,7 +244,10 @@ WRONG = [
     (
         "a notice that doesn't pause",
         H,
-        "        if (what & VB_PAUSE && vb_recheck(&balloon->notice, &balloon->state) & VB_PAUSE)\n            return;\n",
+        (
+            "        if (what & VB_PAUSE && vb_recheck(&balloon->notice, &balloon->state) & "
+            "VB_PAUSE)\n            return;\n"
+        ),
         "",
     ),
     (
@@ -211,11 +260,17 @@ WRONG = [
     (
         "pages told after their discarding",
         H,
-        "    if (what & VB_TELL_PAGES && balloon_tell_pages(balloon, result))\n        what = balloon_recheck(balloon, what, result);\n",
+        (
+            "    if (what & VB_TELL_PAGES && balloon_tell_pages(balloon, result))\n        what = "
+            "balloon_recheck(balloon, what, result);\n"
+        ),
         "",
         (
             "    if (what & VB_GIVE_BACK)\n        balloon_give_back(balloon);\n",
-            "    if (what & VB_TELL_PAGES)\n        balloon_tell_pages(balloon, result);\n    if (what & VB_GIVE_BACK)\n        balloon_give_back(balloon);\n",
+            (
+                "    if (what & VB_TELL_PAGES)\n        balloon_tell_pages(balloon, result);\n    "
+                "if (what & VB_GIVE_BACK)\n        balloon_give_back(balloon);\n"
+            ),
         ),
     ),
     (
@@ -240,10 +295,22 @@ WRONG = [
         "pages told before they are in the set",
         H,
         "    if (balloon->ballooned)\n        marked = vb_mark(",
-        "    if (balloon->on_pages)\n        balloon->on_pages(balloon->context, notice->kind, balloon->room.runs, notice->runs);\n    if (balloon->ballooned)\n        marked = vb_mark(",
         (
-            "    result->unmarked += marked.code == VB_BAD_ARGUMENT ? notice->pages : 0;\n    const bool told = balloon->on_pages && (notice->runs > 0 || notice->kind != VB_HINT);\n    if (told)\n        balloon->on_pages(balloon->context, notice->kind, balloon->room.runs, notice->runs);\n    return told;\n",
-            "    result->unmarked += marked.code == VB_BAD_ARGUMENT ? notice->pages : 0;\n    return balloon->on_pages != NULL;\n",
+            "    if (balloon->on_pages)\n        balloon->on_pages(balloon->context, "
+            "notice->kind, balloon->room.runs, notice->runs);\n    if "
+            "(balloon->ballooned)\n        marked = vb_mark("
+        ),
+        (
+            (
+                "    result->unmarked += marked.code == VB_BAD_ARGUMENT ? notice->pages : 0;\n    "
+                "const bool told = balloon->on_pages && (notice->runs > 0 || notice->kind != "
+                "VB_HINT);\n    if (told)\n        balloon->on_pages(balloon->context, "
+                "notice->kind, balloon->room.runs, notice->runs);\n    return told;\n"
+            ),
+            (
+                "    result->unmarked += marked.code == VB_BAD_ARGUMENT ? notice->pages : 0;\n    "
+                "return balloon->on_pages != NULL;\n"
+            ),
         ),
     ),
     (
@@ -310,11 +377,19 @@ WRONG = [
     (
         "an id of hints told after its chain is given back",
         H,
-        "    if (what & VB_TELL_ID && balloon->on_hint_id) {\n        balloon->on_hint_id(balloon->context, balloon->notice.hint_id);\n        what = balloon_recheck(balloon, what, result);\n    }\n",
+        (
+            "    if (what & VB_TELL_ID && balloon->on_hint_id) {\n        "
+            "balloon->on_hint_id(balloon->context, balloon->notice.hint_id);\n        what = "
+            "balloon_recheck(balloon, what, result);\n    }\n"
+        ),
         "",
         (
             "    if (what & VB_GIVE_BACK)\n        balloon_give_back(balloon);\n",
-            "    if (what & VB_GIVE_BACK)\n        balloon_give_back(balloon);\n    if (what & VB_TELL_ID && balloon->on_hint_id)\n        balloon->on_hint_id(balloon->context, balloon->notice.hint_id);\n",
+            (
+                "    if (what & VB_GIVE_BACK)\n        balloon_give_back(balloon);\n    if (what "
+                "& VB_TELL_ID && balloon->on_hint_id)\n        "
+                "balloon->on_hint_id(balloon->context, balloon->notice.hint_id);\n"
+            ),
         ),
     ),
     # A hook that calls the balloon.
@@ -352,7 +427,10 @@ WRONG = [
         "a recheck that knows closed rounds alone",
         H,
         "what & vb_recheck(&balloon->notice, &balloon->state);",
-        "vb_recheck(&balloon->notice, &balloon->state) ? what & vb_recheck(&balloon->notice, &balloon->state) : what;",
+        (
+            "vb_recheck(&balloon->notice, &balloon->state) ? what & vb_recheck(&balloon->notice, "
+            "&balloon->state) : what;"
+        ),
     ),
     (
         "what a hook kept in no region",
@@ -363,13 +441,19 @@ WRONG = [
     (
         "a notice that begins in a hook",
         CALLS,
-        "    if (balloon->notice.what)\n        return balloon_later();\n    if (!balloon_continue(",
+        (
+            "    if (balloon->notice.what)\n        return balloon_later();\n    if "
+            "(!balloon_continue("
+        ),
         "    if (!balloon_continue(",
     ),
     (
         "a deflate that is granted in a hook",
         CALLS,
-        "    if (balloon->notice.what)\n        return balloon_later();\n    if (!balloon_held_deflate(",
+        (
+            "    if (balloon->notice.what)\n        return balloon_later();\n    if "
+            "(!balloon_held_deflate("
+        ),
         "    if (!balloon_held_deflate(",
     ),
     (
@@ -394,7 +478,10 @@ WRONG = [
         "an id of hints read twice",
         H,
         "    if (what & VB_COPY)\n        balloon_read_once(",
-        "    for (int i = 0; what & VB_COPY && i < (notice->kind == VB_HINT && notice->length < 16 ? 2 : 1); i++)\n        balloon_read_once(",
+        (
+            "    for (int i = 0; what & VB_COPY && i < (notice->kind == VB_HINT && notice->length "
+            "< 16 ? 2 : 1); i++)\n        balloon_read_once("
+        ),
     ),
     ("an inflate's interrupt for hints", CALLS, "(notice->kind & 7)", "(notice->kind & 3)"),
     ("one queue's late hints forgotten", CALLS, "    all->late += one->late;\n", ""),
@@ -410,7 +497,10 @@ WRONG = [
         "poisoned inflates that count as kept",
         H,
         "result->kept += notice->kept;",
-        "result->kept += notice->kind == VB_INFLATE && vb_keeps_reports(&balloon->state.device) ? notice->pages : notice->kept;",
+        (
+            "result->kept += notice->kind == VB_INFLATE && "
+            "vb_keeps_reports(&balloon->state.device) ? notice->pages : notice->kept;"
+        ),
     ),
     (
         "kept inflates not counted",
@@ -547,14 +637,20 @@ WRONG = [
     (
         "the set kept over a reset",
         CALLS,
-        "    if (then & VB_EMPTY && balloon->ballooned)\n        memset(balloon->ballooned, 0, balloon->ballooned_words * sizeof *balloon->ballooned);\n",
+        (
+            "    if (then & VB_EMPTY && balloon->ballooned)\n        memset(balloon->ballooned, "
+            "0, balloon->ballooned_words * sizeof *balloon->ballooned);\n"
+        ),
         "",
     ),
     (
         "held kept over a reset",
         CALLS,
         "vb_set_status(&balloon->state, status, &then);",
-        "vb_write_status(&balloon->state.device, status) + 0 * (then = status == 15 ? VB_LOOK : status ? 0 : VB_EMPTY);",
+        (
+            "vb_write_status(&balloon->state.device, status) + 0 * (then = status == 15 ? VB_LOOK "
+            ": status ? 0 : VB_EMPTY);"
+        ),
     ),
     (
         "held not saved",
@@ -577,8 +673,18 @@ WRONG = [
     (
         "regions changed although refused",
         CALLS,
-        "    if (balloon->notice.what || !balloon_places(places, regions, count) || vb_set_regions(&balloon->state, places, count) != VB_OK)\n        return VB_BAD_ARGUMENT;\n    memcpy(balloon->places, places, sizeof places);\n    balloon->regions = regions;\n    balloon->region_count = count;\n",
-        "    memcpy(balloon->places, places, sizeof places);\n    balloon->regions = regions;\n    balloon->region_count = count;\n    if (!balloon_places(places, regions, count) || vb_set_regions(&balloon->state, places, count) != VB_OK)\n        return VB_BAD_ARGUMENT;\n",
+        (
+            "    if (balloon->notice.what || !balloon_places(places, regions, count) || "
+            "vb_set_regions(&balloon->state, places, count) != VB_OK)\n        return "
+            "VB_BAD_ARGUMENT;\n    memcpy(balloon->places, places, sizeof places);\n    "
+            "balloon->regions = regions;\n    balloon->region_count = count;\n"
+        ),
+        (
+            "    memcpy(balloon->places, places, sizeof places);\n    balloon->regions = "
+            "regions;\n    balloon->region_count = count;\n    if (!balloon_places(places, "
+            "regions, count) || vb_set_regions(&balloon->state, places, count) != VB_OK)\n        "
+            "return VB_BAD_ARGUMENT;\n"
+        ),
     ),
     (
         "the library sees the old regions",
@@ -657,7 +763,10 @@ WRONG = [
         "a hook's discard made again",
         H,
         "    *(error ? &result->kept",
-        "    if (!error && balloon->discard)\n        balloon_drop(region, part);\n    *(error ? &result->kept",
+        (
+            "    if (!error && balloon->discard)\n        balloon_drop(region, part);\n    "
+            "*(error ? &result->kept"
+        ),
     ),
     (
         "the first reason kept",
@@ -707,13 +816,25 @@ WRONG = [
         "refused regions looked at",
         CALLS,
         "    if (balloon->notice.what || !balloon_places(places, regions, count) ||",
-        "    balloon_places(balloon->places, regions, count);\n    if (!balloon_places(places, regions, count) ||",
+        (
+            "    balloon_places(balloon->places, regions, count);\n    if "
+            "(!balloon_places(places, regions, count) ||"
+        ),
     ),
     (
         "a held deflate given back at once",
         CALLS,
-        "             balloon->most_chains, balloon->most_pages, balloon->keeps_pages);\n    return balloon_finish(balloon);\n",
-        "             balloon->most_chains, balloon->most_pages, balloon->keeps_pages);\n    struct balloon_result result = balloon_finish(balloon);\n    if (result.held) {\n        vb_give_held(&balloon->notice, &balloon->state, balloon->places, balloon->region_count, &balloon->room, VB_DEFLATE);\n        balloon_finish(balloon);\n    }\n    return result;\n",
+        (
+            "             balloon->most_chains, balloon->most_pages, balloon->keeps_pages);\n    "
+            "return balloon_finish(balloon);\n"
+        ),
+        (
+            "             balloon->most_chains, balloon->most_pages, balloon->keeps_pages);\n    "
+            "struct balloon_result result = balloon_finish(balloon);\n    if (result.held) "
+            "{\n        vb_give_held(&balloon->notice, &balloon->state, balloon->places, "
+            "balloon->region_count, &balloon->room, VB_DEFLATE);\n        "
+            "balloon_finish(balloon);\n    }\n    return result;\n"
+        ),
     ),
     (
         "the set emptied of a deflate that is held",
@@ -726,7 +847,10 @@ WRONG = [
         "one portion's pages held alone",
         H,
         "    if (balloon->ballooned)\n        marked = vb_mark(",
-        "    if (notice->waits && set)\n        memset(set, 0, balloon->ballooned_words * sizeof *set);\n    if (balloon->ballooned)\n        marked = vb_mark(",
+        (
+            "    if (notice->waits && set)\n        memset(set, 0, balloon->ballooned_words * "
+            "sizeof *set);\n    if (balloon->ballooned)\n        marked = vb_mark("
+        ),
     ),
     (
         "the set kept of a deflate that is granted",
@@ -737,11 +861,19 @@ WRONG = [
     (
         "the set emptied after a granted deflate is given back",
         CALLS,
-        "    if (balloon->ballooned && balloon->deflating)\n        marked = vb_unmark(balloon->deflating, words, balloon->ballooned, words);\n",
+        (
+            "    if (balloon->ballooned && balloon->deflating)\n        marked = "
+            "vb_unmark(balloon->deflating, words, balloon->ballooned, words);\n"
+        ),
         "",
         (
             "    struct balloon_result result = balloon_finish(balloon);\n    result.marked",
-            "    struct balloon_result result = balloon_finish(balloon);\n    if (balloon->ballooned && balloon->deflating)\n        marked = vb_unmark(balloon->deflating, words, balloon->ballooned, words);\n    result.marked",
+            (
+                "    struct balloon_result result = balloon_finish(balloon);\n    if "
+                "(balloon->ballooned && balloon->deflating)\n        marked = "
+                "vb_unmark(balloon->deflating, words, balloon->ballooned, words);\n    "
+                "result.marked"
+            ),
         ),
     ),
     (
@@ -772,18 +904,28 @@ WRONG = [
         "two deflates held",
         CALLS,
         "    if (!balloon_continue(",
-        "    if (kind == VB_DEFLATE)\n        vb_forget_held(&balloon->state, kind);\n    if (!balloon_continue(",
+        (
+            "    if (kind == VB_DEFLATE)\n        vb_forget_held(&balloon->state, kind);\n    if "
+            "(!balloon_continue("
+        ),
     ),
     (
         "a deflate held over a reset",
         CALLS,
         "    uint32_t then, answer = vb_set_status(&balloon->state, status, &then);\n",
-        "    const VbHeld held = balloon->state.held;\n    uint32_t then, answer = vb_set_status(&balloon->state, status, &then);\n    balloon->state.held.deflate = held.deflate;\n    balloon->state.held.pages = held.pages;\n",
+        (
+            "    const VbHeld held = balloon->state.held;\n    uint32_t then, answer = "
+            "vb_set_status(&balloon->state, status, &then);\n    balloon->state.held.deflate = "
+            "held.deflate;\n    balloon->state.held.pages = held.pages;\n"
+        ),
     ),
     (
         "a deflate granted with other pages",
         CALLS,
-        "    if (!balloon_may_unmark(balloon, named))\n        return balloon_result_of(VB_BAD_ARGUMENT);\n",
+        (
+            "    if (!balloon_may_unmark(balloon, named))\n        return "
+            "balloon_result_of(VB_BAD_ARGUMENT);\n"
+        ),
         "",
     ),
     (
@@ -846,7 +988,10 @@ WRONG = [
         "a queue that starts at 0",
         CALLS,
         "vb_start_queue(&balloon->state, balloon->places, balloon->region_count, kind, at)",
-        "vb_start_queue(&balloon->state, balloon->places, balloon->region_count, kind, (VbQueueStart){ at.table, at.avail, at.used, at.size, 0 })",
+        (
+            "vb_start_queue(&balloon->state, balloon->places, balloon->region_count, kind, "
+            "(VbQueueStart){ at.table, at.avail, at.used, at.size, 0 })"
+        ),
     ),
     (
         "the index of a queue that stops forgotten",
@@ -873,7 +1018,10 @@ WRONG = [
         "used index before its element",
         OBEY,
         "        self.memory.write_number(notice.id_at, notice.id)?;\n",
-        "        self.memory.write_word(notice.index_at, notice.used_index)?;\n        self.memory.write_number(notice.id_at, notice.id)?;\n",
+        (
+            "        self.memory.write_word(notice.index_at, notice.used_index)?;\n        "
+            "self.memory.write_number(notice.id_at, notice.id)?;\n"
+        ),
     ),
     (
         "a length that isn't written",
@@ -890,11 +1038,18 @@ WRONG = [
     (
         "discarding after giving back",
         OBEY,
-        "        if is_asked(raw::DISCARD) {\n            room.cuts[..notice.cuts as usize].iter().for_each(|cut| self.discard(cut));\n        }\n",
+        (
+            "        if is_asked(raw::DISCARD) {\n            room.cuts[..notice.cuts as "
+            "usize].iter().for_each(|cut| self.discard(cut));\n        }\n"
+        ),
         "",
         (
             "        if is_asked(raw::ACQUIRE) {",
-            "        if is_asked(raw::DISCARD) {\n            room.cuts[..notice.cuts as usize].iter().for_each(|cut| self.discard(cut));\n        }\n        if is_asked(raw::ACQUIRE) {",
+            (
+                "        if is_asked(raw::DISCARD) {\n            room.cuts[..notice.cuts as "
+                "usize].iter().for_each(|cut| self.discard(cut));\n        }\n        if "
+                "is_asked(raw::ACQUIRE) {"
+            ),
         ),
     ),
     ("nothing discarded", OBEY, "room.cuts[..notice.cuts as usize]", "room.cuts[..0]"),
@@ -945,13 +1100,23 @@ WRONG = [
         "bytes read twice",
         OBEY,
         "            to[at..at + 8].copy_from_slice(&word.to_ne_bytes());\n",
-        "            to[at..at + 8].copy_from_slice(&word.to_ne_bytes());\n            let word = bytes.load::<u64>(at, Ordering::Relaxed).unwrap_or(0);\n            to[at..at + 8].copy_from_slice(&word.to_ne_bytes());\n",
+        (
+            "            to[at..at + 8].copy_from_slice(&word.to_ne_bytes());\n            let "
+            "word = bytes.load::<u64>(at, Ordering::Relaxed).unwrap_or(0);\n            to[at..at "
+            "+ 8].copy_from_slice(&word.to_ne_bytes());\n"
+        ),
     ),
     (
         "bytes read as vm-memory copies them",
         OBEY,
-        "        read_once(&region.get_slice(MemoryRegionAddress(at.offset), to.len()).map_err(|_| Unreachable)?, to)\n",
-        "        let _ = read_once::<()>;\n        region.read_slice(to, MemoryRegionAddress(at.offset)).map_err(|_| Unreachable)\n",
+        (
+            "        read_once(&region.get_slice(MemoryRegionAddress(at.offset), "
+            "to.len()).map_err(|_| Unreachable)?, to)\n"
+        ),
+        (
+            "        let _ = read_once::<()>;\n        region.read_slice(to, "
+            "MemoryRegionAddress(at.offset)).map_err(|_| Unreachable)\n"
+        ),
     ),
     ("bytes as a big-endian machine has them", OBEY, "word.to_ne_bytes()", "word.to_be_bytes()"),
     (
@@ -996,7 +1161,11 @@ WRONG = [
         "an id of hints read twice",
         OBEY,
         "            self.memory.copy(notice.at, ",
-        "            if notice.kind == raw::HINT && notice.length < 16 {\n                self.memory.copy(notice.at, &mut room.bytes[into..into + notice.length as usize])?;\n            }\n            self.memory.copy(notice.at, ",
+        (
+            "            if notice.kind == raw::HINT && notice.length < 16 {\n                "
+            "self.memory.copy(notice.at, &mut room.bytes[into..into + notice.length as "
+            "usize])?;\n            }\n            self.memory.copy(notice.at, "
+        ),
     ),
     ("an id of hints not told", OBEY, "            self.monitor.hint_id(notice.hint_id);\n", ""),
     (
@@ -1044,7 +1213,10 @@ WRONG = [
         "skipped numbers not counted",
         OBEY,
         "        *skipped += u64::from(notice.skipped);\n",
-        "        *skipped += if notice.kind == raw::HINT { u64::from(notice.skipped) } else { 0 };\n",
+        (
+            "        *skipped += if notice.kind == raw::HINT { u64::from(notice.skipped) } else { "
+            "0 };\n"
+        ),
     ),
     (
         "poisoned reports that count as holes",
@@ -1056,7 +1228,10 @@ WRONG = [
         "poisoned inflates that count as kept",
         OBEY,
         "u64::from(notice.kept);",
-        "if notice.kind == Kind::Inflate as u32 && self.balloon.keeps_reports() { u64::from(notice.pages) } else { u64::from(notice.kept) };",
+        (
+            "if notice.kind == Kind::Inflate as u32 && self.balloon.keeps_reports() { "
+            "u64::from(notice.pages) } else { u64::from(notice.kept) };"
+        ),
     ),
     (
         "kept inflates not counted",
@@ -1171,8 +1346,14 @@ WRONG = [
     (
         "why a chain wasn't served ignored",
         BALLOON,
-        "                code => Some(refusal(code, notice.rule)),\n            },\n            interrupts",
-        "                code => Some(refusal(code, notice.rule)).filter(|_| false),\n            },\n            interrupts",
+        (
+            "                code => Some(refusal(code, notice.rule)),\n            "
+            "},\n            interrupts"
+        ),
+        (
+            "                code => Some(refusal(code, notice.rule)).filter(|_| "
+            "false),\n            },\n            interrupts"
+        ),
     ),
     (
         "a deflate's pages that count as holes",
@@ -1197,13 +1378,24 @@ WRONG = [
         "a queue in a hole is placed",
         BALLOON,
         "let (kind, count, at) =",
-        "let all = [raw::Region { guest: 0, length: 1 << 30, in_file: 0 }];\n        let regions = if regions.is_empty() { regions } else { &all[..] };\n        let (kind, count, at) =",
+        (
+            "let all = [raw::Region { guest: 0, length: 1 << 30, in_file: 0 }];\n        let "
+            "regions = if regions.is_empty() { regions } else { &all[..] };\n        let (kind, "
+            "count, at) ="
+        ),
     ),
     (
         "the library sees the old regions",
         BALLOON,
-        "        let budget = (self.most_chains, self.most_pages, self.keeps_pages);\n        memory.regions(&mut self.regions);\n",
-        "        let budget = (self.most_chains, self.most_pages, self.keeps_pages);\n        if self.regions.is_empty() {\n            memory.regions(&mut self.regions);\n        }\n",
+        (
+            "        let budget = (self.most_chains, self.most_pages, self.keeps_pages);\n        "
+            "memory.regions(&mut self.regions);\n"
+        ),
+        (
+            "        let budget = (self.most_chains, self.most_pages, self.keeps_pages);\n        "
+            "if self.regions.is_empty() {\n            memory.regions(&mut "
+            "self.regions);\n        }\n"
+        ),
     ),
     (
         "no budget of pages",
@@ -1257,14 +1449,25 @@ WRONG = [
     (
         "a question over the old regions",
         HELD,
-        "        memory.regions(&mut self.regions);\n        raw::give_held(&mut self.notice, &mut self.state.0, &self.regions, &mut self.room, raw::STATISTICS",
-        "        if self.regions.is_empty() {\n            memory.regions(&mut self.regions);\n        }\n        raw::give_held(&mut self.notice, &mut self.state.0, &self.regions, &mut self.room, raw::STATISTICS",
+        (
+            "        memory.regions(&mut self.regions);\n        raw::give_held(&mut self.notice, "
+            "&mut self.state.0, &self.regions, &mut self.room, raw::STATISTICS"
+        ),
+        (
+            "        if self.regions.is_empty() {\n            memory.regions(&mut "
+            "self.regions);\n        }\n        raw::give_held(&mut self.notice, &mut "
+            "self.state.0, &self.regions, &mut self.room, raw::STATISTICS"
+        ),
     ),
     (
         "a held deflate given back at once",
         BALLOON,
         "self.room, kind as u32, budget);\n        }\n        self.finish(memory, monitor)\n",
-        "self.room, kind as u32, budget);\n        }\n        let served = self.finish(memory, monitor);\n        if served.held.is_some() {\n            let _ = self.give_deflate(memory);\n        }\n        served\n",
+        (
+            "self.room, kind as u32, budget);\n        }\n        let served = "
+            "self.finish(memory, monitor);\n        if served.held.is_some() {\n            let _ "
+            "= self.give_deflate(memory);\n        }\n        served\n"
+        ),
     ),
     (
         "the set emptied of a deflate that is held",
@@ -1276,13 +1479,19 @@ WRONG = [
         "one portion's pages held alone",
         OBEY,
         "        if !self.ballooned.is_empty() {\n            let marked",
-        "        if notice.waits != 0 {\n            self.deflating.fill(0);\n        }\n        if !self.ballooned.is_empty() {\n            let marked",
+        (
+            "        if notice.waits != 0 {\n            self.deflating.fill(0);\n        "
+            "}\n        if !self.ballooned.is_empty() {\n            let marked"
+        ),
     ),
     (
         "a second portion not marked",
         OBEY,
         "        if !self.ballooned.is_empty() {\n            let marked",
-        "        if !self.ballooned.is_empty() && self.served.pages <= 256 {\n            let marked",
+        (
+            "        if !self.ballooned.is_empty() && self.served.pages <= 256 {\n            let "
+            "marked"
+        ),
     ),
     (
         "one portion's pages told alone",
@@ -1324,7 +1533,10 @@ WRONG = [
         "two deflates held",
         BALLOON,
         "        let budget = (self.most_chains,",
-        "        if kind == Kind::Deflate {\n            self.forget_held(kind);\n        }\n        let budget = (self.most_chains,",
+        (
+            "        if kind == Kind::Deflate {\n            self.forget_held(kind);\n        "
+            "}\n        let budget = (self.most_chains,"
+        ),
     ),
     (
         "a deflate held over a reset",
@@ -1333,7 +1545,10 @@ WRONG = [
         "        let (mut then, held) = (0, self.state.0.held);\n",
         (
             "        if then & raw::EMPTY != 0 {\n",
-            "        self.state.0.held = raw::Held { statistics: self.state.0.held.statistics, ..held };\n        if then & raw::EMPTY != 0 {\n",
+            (
+                "        self.state.0.held = raw::Held { statistics: "
+                "self.state.0.held.statistics, ..held };\n        if then & raw::EMPTY != 0 {\n"
+            ),
         ),
     ),
     (
@@ -1371,7 +1586,10 @@ WRONG = [
         "a queue that starts in a hole",
         BALLOON,
         "raw::vb_start_queue(state, regions.as_ptr(), regions.len(), kind as u32, at)",
-        "raw::vb_start_queue(state, [raw::Region { guest: 0, length: 1 << 40 * regions.len().min(1), in_file: 0 }].as_ptr(), 1, kind as u32, at)",
+        (
+            "raw::vb_start_queue(state, [raw::Region { guest: 0, length: 1 << 40 * "
+            "regions.len().min(1), in_file: 0 }].as_ptr(), 1, kind as u32, at)"
+        ),
     ),
     (
         "the index of a queue that stops forgotten",
@@ -1383,7 +1601,10 @@ WRONG = [
         "a reset that asks for what is in the balloon",
         LENDING,
         "vb_loan_reset(loans.as_mut_ptr(), loans.len(), guest, line as u16) == OK",
-        "let _ = line; vb_loan_ask(loans.as_mut_ptr(), loans.len(), guest, loans[guest].ballooned) == OK",
+        (
+            "let _ = line; vb_loan_ask(loans.as_mut_ptr(), loans.len(), guest, "
+            "loans[guest].ballooned) == OK"
+        ),
     ),
     (
         "a reset that waits in the first line alone",

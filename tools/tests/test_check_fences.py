@@ -1,4 +1,5 @@
-"""tools/check-fences finds each fence of the shims, and misses each that is taken out of a copy, or put elsewhere."""
+"""tools/check-fences finds each fence of the shims, and misses each that is taken out of a copy, or
+put elsewhere."""
 
 import shutil
 
@@ -19,7 +20,8 @@ MISSED = {
 }
 
 
-# Patterns of instructions, the code, and whether they are in order in it: none like the last one may come between, nor another word before.
+# Patterns of instructions, the code, and whether they are in order in it: none like the last one
+# may come between, nor another word before.
 GIVES = next(
     patterns for processor, _, function, _, patterns in CHECK.ORDERS if function == "gives"
 )

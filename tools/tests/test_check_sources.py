@@ -1,4 +1,5 @@
-"""Which lines tools/check-sources takes for a bare number of a ring's layout, and which it doesn't."""
+"""Which lines tools/check-sources takes for a bare number of a ring's layout, and which it
+doesn't."""
 
 import pytest
 from page_claims import tool
@@ -33,7 +34,8 @@ NAMED = (
     "let bytes = 16 * frames;",
 )
 
-# A function with a clause, which may say the sum as its definition does, and a line of its body, which may not.
+# A function with a clause, which may say the sum as its definition does, and a line of its body,
+# which may not.
 CLAUSED = """fn length(size: u64) -> u64
     requires few { size ≤ 256 }
     ensures { (k : ℕ) → record {

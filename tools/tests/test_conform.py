@@ -1,4 +1,5 @@
-"""What tools/conform says of a program: that it conforms, and which of its answers is another one."""
+"""What tools/conform says of a program: that it conforms, and which of its answers is another
+one."""
 
 import pytest
 from page_claims import tool
@@ -6,7 +7,10 @@ from page_claims import tool
 CONFORM = tool("conform")
 
 # Programs in place of the simulator, and what is said of each, but for the first line that differs.
-RIGHT = 'cat > /dev/null; case "$1" in run) echo ok; echo frames;; *) echo "bad word $1" >&2; exit 3;; esac'
+RIGHT = (
+    'cat > /dev/null; case "$1" in run) echo ok; echo frames;; *) echo "bad word $1" >&2; exit '
+    "3;; esac"
+)
 PROGRAMS = (
     (RIGHT, 0, "2 passed, 0 failed\n"),
     (
@@ -27,7 +31,10 @@ PROGRAMS = (
     (
         RIGHT.replace("bad word", "word"),
         1,
-        "topic/second, walk: standard error, line 1: wanted 'bad word walk', got 'word walk'\n1 passed, 1 failed\n",
+        (
+            "topic/second, walk: standard error, line 1: wanted 'bad word walk', got 'word "
+            "walk'\n1 passed, 1 failed\n"
+        ),
     ),
     (
         RIGHT.replace("exit 3", "exit 4"),

@@ -5,8 +5,8 @@ from page_claims import tool
 
 DRAW = tool("draw-crates")
 
-# A trunk of one crate, the library, a part of it that the program reaches by the crate that ties both, the program, and one that neither
-# uses.
+# A trunk of one crate, the library, a part of it that the program reaches by the crate that ties
+# both, the program, and one that neither uses.
 CRATES = {
     "low": [],
     "vb_core": ["low"],

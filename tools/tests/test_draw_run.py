@@ -1,5 +1,5 @@
-"""The numbers of tools/draw-run beside numbers worked out by hand, its refusals, its pictures. ./vb_sim answers the scripts, or the
-program that the environment's VB_SIM names."""
+"""The numbers of tools/draw-run beside numbers worked out by hand, its refusals, its pictures.
+./vb_sim answers the scripts, or the program that the environment's VB_SIM names."""
 
 import csv
 import os
@@ -67,7 +67,8 @@ def rows_at(event, frames, host, guests):
 
 
 def rows_of(table, asked=None):
-    """Returns the rows that a table asks for, with the numbers after the events asked about, or after all."""
+    """Returns the rows that a table asks for, with the numbers after the events asked about, or
+    after all."""
     (frames, _, count, _), *lines = [it.split(" ") for it in table.strip().split("\n")]
     rows, host, guests = [], {"used": 0}, {}
     for event in range(1, int(count) + 1):
@@ -207,7 +208,10 @@ def test_scripts_that_are_refused(folder, name, contents, said):
         ("echo first >&2; echo why >&2; exit 70", "PATH ended with status 70: why"),
         ("cat > /dev/null", "PATH gave 0 replies to 1 events"),
         (
-            "if grep -q frames; then printf 'ok\\nframes used 0 free 1\\n'; else echo 'no guest'; fi",
+            (
+                "if grep -q frames; then printf 'ok\\nframes used 0 free 1\\n'; else echo 'no "
+                "guest'; fi"
+            ),
             "event 1 is answered 'no guest', but 'ok' with questions put in",
         ),
         (

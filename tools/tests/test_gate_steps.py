@@ -1,4 +1,5 @@
-"""Tests that tools/lib/gate_steps.py names each step that fails or lacks a package, and lets rt ci run after none."""
+"""Tests that tools/lib/gate_steps.py names each step that fails or lacks a package, and lets rt ci
+run after none."""
 
 import os
 
@@ -17,7 +18,8 @@ LACKS = Step("lacks", ("true",), ("nobody-has-this-package",))
 
 @pytest.fixture(autouse=True)
 def logs(tmp_path, monkeypatch):
-    """A folder of logs for the test alone, on a machine whose user isn't root, and rt in whose place a line is printed."""
+    """A folder of logs for the test alone, on a machine whose user isn't root, and rt in whose
+    place a line is printed."""
     monkeypatch.setattr(gate_steps, "LOGS", str(tmp_path))
     monkeypatch.setattr(os, "geteuid", lambda: 1000)
     monkeypatch.setattr(os, "chdir", lambda path: None)
@@ -81,10 +83,13 @@ def test_a_step_that_hangs_fails(monkeypatch, capsys):
 
 
 def tools_of(folder, monkeypatch, installs):
-    """Puts an apt-get and a dpkg-query that knows what it has installed in front; the first try doesn't install anything, and the second one
-    does where `installs`."""
+    """Puts an apt-get and a dpkg-query that knows what it has installed in front; the first try
+    doesn't install anything, and the second one does where `installs`."""
     folder.mkdir()
-    apt_get = f"case $* in *install*) echo x >> {folder}/tries; [ $(wc -l < {folder}/tries) -lt 2 ] || {'touch' if installs else 'true'} {folder}/there; esac"
+    apt_get = (
+        f"case $* in *install*) echo x >> {folder}/tries; [ $(wc -l < {folder}/tries) -lt 2 ] || "
+        f"{'touch' if installs else 'true'} {folder}/there; esac"
+    )
     for name, text in (
         ("apt-get", apt_get),
         ("dpkg-query", f"[ ! -e {folder}/there ] || echo nobody-has-this-package installed"),

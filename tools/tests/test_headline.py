@@ -1,4 +1,5 @@
-"""What tools/headline counts, in a small tree, worked out by hand; and that a page with another table is refused."""
+"""What tools/headline counts, in a small tree, worked out by hand; and that a page with another
+table is refused."""
 
 import pytest
 from page_claims import tool

@@ -1,4 +1,5 @@
-"""A number that is changed in one place is refused by tools/list-codes, in a copy of what it reads."""
+"""A number that is changed in one place is refused by tools/list-codes, in a copy of what it
+reads."""
 
 import os
 import shutil

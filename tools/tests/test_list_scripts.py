@@ -1,4 +1,5 @@
-"""Tests what tools/list-scripts says of pages whose rules lead to no scripts, and of what a script shows."""
+"""Tests what tools/list-scripts says of pages whose rules lead to no scripts, and of what a script
+shows."""
 
 import pytest
 from page_claims import read, tool

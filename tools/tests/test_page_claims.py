@@ -1,4 +1,5 @@
-"""Tests that tools/lib/page_claims.py refuses each kind of false claim: a page, or what it is about, is changed in one place."""
+"""Tests that tools/lib/page_claims.py refuses each kind of false claim: a page, or what it is
+about, is changed in one place."""
 
 import re
 

@@ -1,4 +1,5 @@
-"""Tests which links tools/lib/page_links.py takes for dead: each page is one of a small repository."""
+"""Tests which links tools/lib/page_links.py takes for dead: each page is one of a small
+repository."""
 
 import subprocess
 

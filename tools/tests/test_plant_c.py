@@ -1,4 +1,5 @@
-"""What tools/plant-c plants into small files, which tests it runs over each file, and what it says of what comes of an edit."""
+"""What tools/plant-c plants into small files, which tests it runs over each file, and what it says
+of what comes of an edit."""
 
 import random
 import subprocess
@@ -93,7 +94,8 @@ def test_what_is_drawn():
     assert firsts == {it.kind for it in edits}
 
 
-# A file that is shipped, and the suites that see it, the narrowest first; of the first one, the first test.
+# A file that is shipped, and the suites that see it, the narrowest first; of the first one, the
+# first test.
 SEEN = (
     ("monitor/backends/control/answers.c", ["control", "host"], None),
     (
@@ -122,7 +124,8 @@ def test_each_file_that_is_shipped_is_seen():
     assert commands_of("monitor/include/balloon.h")[0][:4] == ("make", "-C", "monitor", "c-test")
 
 
-# A file in a tree of its own, and its tests, in a shell: one fails once alone, as on a busy machine, and one always.
+# A file in a tree of its own, and its tests, in a shell: one fails once alone, as on a busy
+# machine, and one always.
 ADD = "int add(int a, int b)\n{\n    int sum = a + b;\n    return sum > 0 ? sum : sum * 1;\n}\n"
 SHELL = """
 fails() { echo "FAILED monitor/tests/test_add.py::test_$1 - no"; exit 1; }

@@ -1,4 +1,5 @@
-"""Each topic of tools/check-sources finds what is planted for it, in a folder of its own, and nothing where that is right."""
+"""Each topic of tools/check-sources finds what is planted for it, in a folder of its own, and
+nothing where that is right."""
 
 import os
 import subprocess
@@ -101,7 +102,10 @@ OF_ALL = (
     (
         "floors",
         {
-            "crates.txt": "# vb_model\nvb_ram: vb_virtio\nvb_c staticlib: vb_ram\nvb_guest: vb_ram vb_model\n"
+            "crates.txt": (
+                "# vb_model\nvb_ram: vb_virtio\nvb_c staticlib: vb_ram\nvb_guest: vb_ram "
+                "vb_model\n"
+            )
         },
         [],
     ),

@@ -1,4 +1,5 @@
-"""Which definitions are planted that say more, in a small crate, worked out by hand: of premises that no function promises."""
+"""Which definitions are planted that say more, in a small crate, worked out by hand: of premises
+that no function promises."""
 
 import pytest
 from stronger_definitions import stronger_definitions
@@ -87,7 +88,10 @@ def test_a_clause_that_never_holds(planted):
 
 
 def test_a_case_that_never_holds(planted):
-    helper = "abbrev pub unless_planted : Event → Type 0 → Type 0\nunless_planted (Planted a0) said = ⊥\nunless_planted it said = said\n\n"
+    helper = (
+        "abbrev pub unless_planted : Event → Type 0 → Type 0\nunless_planted (Planted a0) said = "
+        "⊥\nunless_planted it said = said\n\n"
+    )
     wanted = TREE["specs/Runs.antt"].replace("pub IsRun :", f"{helper}pub IsRun :")
     wanted = wanted.replace(
         f"{FRONT} =\n    IsRun n events", f"{FRONT} = unless_planted event (IsRun n events)"

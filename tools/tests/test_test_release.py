@@ -1,4 +1,5 @@
-"""What tools/test-release says as it goes: each step with its time, where the Debian is one that answers at once."""
+"""What tools/test-release says as it goes: each step with its time, where the Debian is one that
+answers at once."""
 
 import re
 
@@ -48,7 +49,8 @@ def test_each_step_is_said_with_its_time(monkeypatch, capsys, debian, others):
         ("apt-get update", "passed"),
     ]
     assert [it.groups() for it in said[:5]] == first
-    # What is looked at before and after isn't a step: whether there is a QEMU, and what is purged first.
+    # What is looked at before and after isn't a step: whether there is a QEMU, and what is purged
+    # first.
     steps = [
         it
         for it in system.asked

@@ -1,5 +1,6 @@
-"""What tools/weaken-definitions plants into a small crate, and what it says where a proof refuses it and where none does. In place of
-`rt` there is a program that takes the crate for proved while a part of a definition is there."""
+"""What tools/weaken-definitions plants into a small crate, and what it says where a proof refuses
+it and where none does. In place of `rt` there is a program that takes the crate for proved while a
+part of a definition is there."""
 
 import os
 import re
@@ -47,7 +48,8 @@ LIMIT = 60
 
 @pytest.fixture
 def weaken(tmp_path):
-    """Runs the tool in a small tree, where a crate is proved if its definitions have each of these texts; returns its status and lines."""
+    """Runs the tool in a small tree, where a crate is proved if its definitions have each of these
+    texts; returns its status and lines."""
     for path, text in TREE.items():
         (tmp_path / path).parent.mkdir(parents=True, exist_ok=True)
         (tmp_path / path).write_text(text, encoding="utf-8")
@@ -64,9 +66,11 @@ def weaken(tmp_path):
         errors = "".join(f"./proofs/SmallFacts.antt:1:1: error: `{it}`: no\\n" for it in objects)
         program = programs / "rt"
         program.write_text(
-            "#!/bin/sh\ncase \"$*\" in *--only*) said='only=1 proved=1';; *) said='logic=proved';; esac\n"
+            "#!/bin/sh\ncase \"$*\" in *--only*) said='only=1 proved=1';; *) "
+            "said='logic=proved';; esac\n"
             f"case \"$*\" in *--allow-holes*) printf '{errors}'; exit 1;; esac\n"
-            f"{{ {facts}; }} && {{ case \"$*\" in *--only*) true;; *) {whole};; esac; }} && echo $said && exit 0\necho 'Facts.antt:1:1: error: no'; exit 1\n",
+            f'{{ {facts}; }} && {{ case "$*" in *--only*) true;; *) {whole};; esac; }} && echo '
+            "$said && exit 0\necho 'Facts.antt:1:1: error: no'; exit 1\n",
             encoding="utf-8",
         )
         program.chmod(0o755)

@@ -1,4 +1,5 @@
-"""Tests which words, doc comments and commit subjects tools/check-sources refuses, and which it doesn't."""
+"""Tests which words, doc comments and commit subjects tools/check-sources refuses, and which it
+doesn't."""
 
 import pytest
 from words import lines_of, subject_faults, subjects, unused, words_of
@@ -58,7 +59,10 @@ FILES = (
     ("a.md", "stands\n\n```\nstands\n```\n\n    stands\n\nbehind\n", [1, 9]),
     (
         "a.py",
-        '"""What stands.\n\nAnyhow."""\nstands = "behind"  # by chance\n\n\ndef f():\n    """Rightly."""\n',
+        (
+            '"""What stands.\n\nAnyhow."""\nstands = "behind"  # by chance\n\n\ndef f():\n    '
+            '"""Rightly."""\n'
+        ),
         [1, 3, 4, 8],
     ),
     ("run", "#!/usr/bin/env bash\n# what stands\nstands behind\n", [2]),

@@ -1,5 +1,5 @@
-"""The subcommands. Each module has `add`, which adds its own to the command line; what it sets as `run` returns an exit status or
-None."""
+"""The subcommands. Each module has `add`, which adds its own to the command line; what it sets as
+`run` returns an exit status or None."""
 
 from bigvasta.commands import changes, guest, log, metrics, plan, status, upgrade, watch
 

@@ -42,7 +42,10 @@ def add(commands, common):
         "add",
         parents=[common],
         help="a guest may come; prints its socket",
-        description="Lets a guest come, and prints the socket to which its VMM connects. bigvasta(1) says what each KEY agrees with it.",
+        description=(
+            "Lets a guest come, and prints the socket to which its VMM connects. bigvasta(1) says "
+            "what each KEY agrees with it."
+        ),
     )
     words.add_argument("name", metavar="NAME")
     words.add_argument("words", metavar="KEY=VALUE", nargs="*", help=TERMS_HELP)

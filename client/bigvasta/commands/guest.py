@@ -43,7 +43,10 @@ def add(commands, common):
         "guest",
         parents=[common],
         help="a guest; and changes what is agreed with it",
-        description="Shows a guest. With words, changes what is agreed with it: all of them or, where the host refuses one, none.",
+        description=(
+            "Shows a guest. With words, changes what is agreed with it: all of them or, where the "
+            "host refuses one, none."
+        ),
     )
     words.add_argument("name", metavar="NAME")
     words.add_argument("words", metavar="KEY=VALUE", nargs="*", help=f"{TERMS_HELP} target=SIZE")

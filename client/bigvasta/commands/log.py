@@ -20,7 +20,10 @@ def decision_line(decision):
     why = decision["reason"] + (f" of {decision['guest']}" if decision["guest"] else "")
     short = f", {mebibytes(decision['missing'])} missing" if decision["missing"] else ""
     targets = ", ".join(map(share, decision["shares"])) or "no guests"
-    return f"decision {decision['number']}: {why}; budget {mebibytes(decision['budget'])}{short}; targets: {targets}"
+    return (
+        f"decision {decision['number']}: {why}; budget {mebibytes(decision['budget'])}{short}; "
+        f"targets: {targets}"
+    )
 
 
 def event_line(event):
@@ -43,7 +46,8 @@ def event_line(event):
 
 
 def past(host, since):
-    """Yields the decisions from this number on that the host has kept, and then the number of the next one."""
+    """Yields the decisions from this number on that the host has kept, and then the number of the
+    next one."""
     while True:
         answer = host.ask("log", since=since)
         if answer["lost"]:
@@ -77,7 +81,8 @@ def show_past(path, asked):
 
 
 def run(asked):
-    """Prints the log. Who follows it is told of events from before the past is asked for, so that nothing is missed between them."""
+    """Prints the log. Who follows it is told of events from before the past is asked for, so that
+    nothing is missed between them."""
     if not asked.follow:
         show_past(asked.control, asked)
         return

@@ -10,7 +10,8 @@ MOST_PORT, LOCAL = 65535, "127.0.0.1"
 
 
 def parse_address(text):
-    """Returns the host and the port of an address such as localhost:9750 or [::1]:9750; localhost is one even where no file says so."""
+    """Returns the host and the port of an address such as localhost:9750 or [::1]:9750; localhost
+    is one even where no file says so."""
     found = re.fullmatch(r"(?:\[([0-9a-fA-F:]+)\]|([^\[\]:]*)):(\d{1,5})", text, re.ASCII)
     if not found or not 1 <= int(found[3]) <= MOST_PORT:
         raise Usage(f"--listen: {text!r} is no HOST:PORT, such as localhost:9750")
@@ -53,7 +54,10 @@ def add(commands, common):
         "metrics",
         parents=[common],
         help="the host's metrics, for Prometheus",
-        description="Serves the metrics over HTTP at /metrics; without --listen prints them once. Wants python3-prometheus-client.",
+        description=(
+            "Serves the metrics over HTTP at /metrics; without --listen prints them once. Wants "
+            "python3-prometheus-client."
+        ),
     )
     words.add_argument(
         "--listen",

@@ -1,4 +1,5 @@
-"""`bigvasta plan`: which budget a host needs, by recorded days that are replayed through the library."""
+"""`bigvasta plan`: which budget a host needs, by recorded days that are replayed through the
+library."""
 
 import argparse
 
@@ -16,7 +17,8 @@ bigvasta_budget_bytes, too, and of each guest loan_bytes, asked_bytes, granted_b
 a fleet: how often 100 hosts of 24G may promise that to 3000 guests
   bigvasta plan --fleet 100 --budget 24G --make 3000 --promises 1.5..2 --steps 5"""
 
-# How many steps a range has that is tried; which promises of a fleet are; and how many guests a host of it has at most, as vhost_user_host.
+# How many steps a range has that is tried; which promises of a fleet are; and how many guests a
+# host of it has at most, as vhost_user_host.
 STEPS, PROMISES, PLACES = 12, "1.00..2.00", 64
 
 
@@ -38,8 +40,10 @@ def add(commands, _):
         help="which budget a host needs, by a recorded day",
         epilog=EXAMPLE,
         formatter_class=argparse.RawDescriptionHelpFormatter,
-        description="Replays a recorded day of a host's guests under budgets, through the library that decides for a host, and names the\n"
-        "smallest budget at which guests wait no longer than they may. Wants python3-pandas; --draw wants python3-matplotlib.",
+        description="Replays a recorded day of a host's guests under budgets, through the library that "
+        "decides for a host, and names the\n"
+        "smallest budget at which guests wait no longer than they may. Wants python3-pandas; "
+        "--draw wants python3-matplotlib.",
     )
     words.add_argument(
         "file",
@@ -72,7 +76,10 @@ def add(commands, _):
     words.add_argument(
         "--check",
         action="store_true",
-        help="replay what the guests of a strict host asked for and gave, and compare what they were granted",
+        help=(
+            "replay what the guests of a strict host asked for and gave, and compare what they "
+            "were granted"
+        ),
     )
     words.add_argument(
         "--json", action="store_true", help="print the plan as an object: bytes and seconds"

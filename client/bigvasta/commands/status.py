@@ -19,7 +19,8 @@ def row(guest):
 
 
 def table(rows):
-    """Returns lines of columns: the first two and the last begin at the left, the others end at the right."""
+    """Returns lines of columns: the first two and the last begin at the left, the others end at the
+    right."""
     widths = [max(len(it[number]) for it in rows) for number in range(len(COLUMNS))]
     left = (0, 1, len(COLUMNS) - 1)
 
@@ -39,7 +40,8 @@ def summary(host):
 
 
 def others(host, guests):
-    """Yields the line about processes that are of another version than the host: they serve on since before an upgrade."""
+    """Yields the line about processes that are of another version than the host: they serve on
+    since before an upgrade."""
     found = [it for it in guests if it["process"] and it["version"] != host["version"]]
     if found:
         words = [f"{it['name']} {it['version'] or 'unknown'}" for it in found]

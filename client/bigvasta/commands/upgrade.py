@@ -1,4 +1,5 @@
-"""`bigvasta upgrade`: the host and its guests' processes become the programs that are installed now, while guests live on."""
+"""`bigvasta upgrade`: the host and its guests' processes become the programs that are installed
+now, while guests live on."""
 
 import json
 import time
@@ -32,7 +33,8 @@ def served(answer):
 
 
 def upgrade_host(path):
-    """Has the host become its program, and waits until that one knows its guests; returns the status before and after."""
+    """Has the host become its program, and waits until that one knows its guests; returns the
+    status before and after."""
     with Connection(path) as host:
         before = host.ask("status")
         host.ask("upgrade")
@@ -46,7 +48,8 @@ def upgrade_host(path):
 
 
 def renew(path, guest):
-    """Has another process go on with a guest; returns the guest as it is then, or at the end of the time; None where it has gone."""
+    """Has another process go on with a guest; returns the guest as it is then, or at the end of the
+    time; None where it has gone."""
     until, name, now = time.monotonic() + LIMIT, guest["name"], guest
     while now and now["process"] in (0, guest["process"]) and time.monotonic() < until:
         try:
@@ -93,7 +96,8 @@ def add(commands, common):
         "upgrade",
         parents=[common],
         help="the host and its guests' processes become the programs that are installed now",
-        description="Has the host and its guests' processes become the programs that are installed now, while guests live on. Prints the versions "
+        description="Has the host and its guests' processes become the programs that are installed now, "
+        "while guests live on. Prints the versions "
         "before and after.",
     )
     words.set_defaults(run=run, changes=lambda asked: True)

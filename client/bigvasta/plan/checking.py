@@ -1,5 +1,6 @@
-"""A recorded day of a strict host beside a replay of it: what its guests asked for and gave is done as it was recorded, and the library says when
-each is granted what it asks for. It has to be as the host granted it, within the time between two looks."""
+"""A recorded day of a strict host beside a replay of it: what its guests asked for and gave is done
+as it was recorded, and the library says when each is granted what it asks for. It has to be as the
+host granted it, within the time between two looks."""
 
 from collections import deque
 from typing import NamedTuple
@@ -11,7 +12,8 @@ from bigvasta.statuses import Usage
 
 
 class Course(NamedTuple):
-    """What a guest was granted in all at each look, in pages, by the host and by the replay; and for how many seconds it waited."""
+    """What a guest was granted in all at each look, in pages, by the host and by the replay; and
+    for how many seconds it waited."""
 
     name: str
     granted: list
@@ -20,7 +22,8 @@ class Course(NamedTuple):
     replay_waited: float
 
     def apart(self):
-        """Returns how many looks the two are apart at most: neither grants a page earlier or later than the other by more."""
+        """Returns how many looks the two are apart at most: neither grants a page earlier or later
+        than the other by more."""
         looks = len(self.granted)
         return next(
             it
@@ -46,7 +49,8 @@ def within(first, second, looks):
 
 
 class Guest:
-    """What a guest of a replay is still to do: to give these pages, and to ask for these, one part after the other."""
+    """What a guest of a replay is still to do: to give these pages, and to ask for these, one part
+    after the other."""
 
     def __init__(self, name, number, look):
         self.name, self.number, self.look = name, number, look
@@ -69,7 +73,8 @@ class Guest:
         given = (look.granted - before.granted) - (look.loan - before.loan)
         if look.granted < before.granted or given < 0:
             raise Usage(
-                f"{self.name} at {at:.12g}: its loan grows by more than it was granted: a guest that isn't strict can't be compared"
+                f"{self.name} at {at:.12g}: its loan grows by more than it was granted: a guest "
+                "that isn't strict can't be compared"
             )
         self.owes += given
         done = max(look.granted - before.wanted(), 0)
@@ -103,7 +108,8 @@ class Follower(Lender):
             self.withdraw(self.guests[name], self.guests[name].follow(look, moment.seconds))
 
     def withdraw(self, guest, pages):
-        """A guest doesn't ask for its last pages any longer; those that it has got of them it gives back."""
+        """A guest doesn't ask for its last pages any longer; those that it has got of them it gives
+        back."""
         loan = self.loans[guest.number]
         while pages > 0 and guest.asks:
             part = min(pages, guest.asks[-1])
@@ -133,8 +139,8 @@ class Follower(Lender):
         return max(frames - self.owed() - sum(it.asked for it in self.loans), 0)
 
     def ask(self, guest, waits, most):
-        """A guest asks for its next part, once it has got those before: one that the host has granted until now, or one that waits there, too; and for
-        no more pages than these."""
+        """A guest asks for its next part, once it has got those before: one that the host has
+        granted until now, or one that waits there, too; and for no more pages than these."""
         loan = self.loans[guest.number]
         if (
             loan.asked
@@ -165,7 +171,8 @@ class Follower(Lender):
         self.guest_of(number).total += pages
 
     def next_is_granted(self, frames):
-        """Whether the host has granted until now what is next in the line, which there is room for."""
+        """Whether the host has granted until now what is next in the line, which there is room
+        for."""
         loans = type(self.loans).from_buffer_copy(self.loans)
         answer = self.library.vb_loan_grant(frames, loans, self.count)
         if answer.code == NOTHING:
@@ -174,7 +181,8 @@ class Follower(Lender):
         return guest.total + loan.lent + loan.ballooned - loan.pages <= guest.look.granted
 
     def grant_before(self, frames):
-        """Grants what the host has granted until now, on the budget of the look before: when it fell since then isn't recorded."""
+        """Grants what the host has granted until now, on the budget of the look before: when it
+        fell since then isn't recorded."""
         granted = False
         while self.next_is_granted(frames):
             self.take(self.library.vb_loan_grant(frames, self.loans, self.count).guest)
@@ -182,8 +190,10 @@ class Follower(Lender):
         return granted
 
     def rest(self, before, frames):
-        """Has all be done that can be on these budgets, of the look before and of now: what the host has granted until now was asked for before what waits
-        there, and who has waited longest has asked first. How the host has parted what it granted isn't recorded: first it is what there is room for.
+        """Has all be done that can be on these budgets, of the look before and of now: what the
+        host has granted until now was asked for before what waits there, and who has waited longest
+        has asked first. How the host has parted what it granted isn't recorded: first it is what
+        there is room for.
         """
         guests = sorted(self.guests.values(), key=lambda it: -it.look.waiting)
         for waits, fits in ((False, True), (False, False), (True, False)):

@@ -147,7 +147,8 @@ def plan_fleet(asked):
 
 
 def run_check(asked):
-    """Prints how a replay of a strict host's day compares with what the host did; returns the exit status."""
+    """Prints how a replay of a strict host's day compares with what the host did; returns the exit
+    status."""
     others = (
         asked.make,
         asked.fleet,

@@ -1,4 +1,5 @@
-"""Recorded days: what each guest uses from when on. A value that can't be meant is refused, by the place where it was read."""
+"""Recorded days: what each guest uses from when on. A value that can't be meant is refused, by the
+place where it was read."""
 
 import math
 from typing import NamedTuple
@@ -110,7 +111,8 @@ class Recording:
         self.pages, self.uses, self.ends, self.lines = {}, {}, {}, {}
 
     def add(self, line, used_by):
-        """Adds a line of a guest; `used_by` says of the line and the bytes of the guest's memory how many bytes are used."""
+        """Adds a line of a guest; `used_by` says of the line and the bytes of the guest's memory
+        how many bytes are used."""
         name, seconds, pages = line.text("guest"), line.seconds(), line.memory()
         used = -(-used_by(line, pages * PAGE) // PAGE)
         if pages != self.pages.setdefault(name, pages):
@@ -119,7 +121,8 @@ class Recording:
             )
         if name in self.ends and seconds <= self.ends[name]:
             line.refuse(
-                f"seconds: {seconds:.12g} isn't after {self.ends[name]:.12g}, the time of {name} before"
+                f"seconds: {seconds:.12g} isn't after {self.ends[name]:.12g}, the time of {name} "
+                "before"
             )
         add_use(self.uses.setdefault(name, []), seconds, used)
         self.ends[name], self.lines[name] = seconds, line

@@ -21,7 +21,8 @@ def load():
 
 
 def draw(plan, limit, own, path):
-    """Writes the picture to a file, whose name says of what kind it is; with what the recorded host did itself, if that is known."""
+    """Writes the picture to a file, whose name says of what kind it is; with what the recorded host
+    did itself, if that is known."""
     pyplot = load()
     figure, (waits, moves) = pyplot.subplots(
         2, 1, sharex=True, figsize=(7, 6), layout="constrained"

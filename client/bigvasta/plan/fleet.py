@@ -1,5 +1,5 @@
-"""A fleet: guests that are placed on hosts, and the day of each host replayed as a task of its own. The answer is the same wherever the tasks
-run, and in whatever order they end."""
+"""A fleet: guests that are placed on hosts, and the day of each host replayed as a task of its own.
+The answer is the same wherever the tasks run, and in whatever order they end."""
 
 import functools
 import itertools
@@ -65,7 +65,8 @@ class Read(NamedTuple):
 
 
 class Fleet(NamedTuple):
-    """The hosts, which are alike: how many, how many guests each has room for, what its library is, its budget and floor."""
+    """The hosts, which are alike: how many, how many guests each has room for, what its library is,
+    its budget and floor."""
 
     hosts: int
     places: int
@@ -83,7 +84,8 @@ class Task(NamedTuple):
 
 
 class FleetAnswer(NamedTuple):
-    """What a fleet says under a promise: the answer of each host by its number, of all together, and how many guests find no host."""
+    """What a fleet says under a promise: the answer of each host by its number, of all together,
+    and how many guests find no host."""
 
     hundredths: int
     hosts: dict
@@ -141,13 +143,15 @@ def answer_of(hundredths, hosts, away):
 
 
 class Planner:
-    """Tries promises: places the guests of a source, and has a runner replay the days of all hosts."""
+    """Tries promises: places the guests of a source, and has a runner replay the days of all
+    hosts."""
 
     def __init__(self, fleet, source, runner):
         self.fleet, self.source, self.runner, self.stays = fleet, source, runner, source.stays()
 
     def placed(self, hundredths):
-        """Returns the guests of each host by its number, in the order of the hosts, and those that find none."""
+        """Returns the guests of each host by its number, in the order of the hosts, and those that
+        find none."""
         fleet = self.fleet
         frames = fleet.terms.frames * hundredths // WHOLE
         hosts, away = place(
@@ -155,7 +159,8 @@ class Planner:
         )
         if not hosts:
             raise Usage(
-                f"plan: no host may promise enough for any guest, by {hundredths / WHOLE:.2f} times the budget"
+                f"plan: no host may promise enough for any guest, by {hundredths / WHOLE:.2f} "
+                "times the budget"
             )
         return dict(sorted(hosts.items())), away
 

@@ -25,7 +25,10 @@ def conclusion(plan, limit):
     if best is None:
         return f"none of these promises keeps the waits to {limit:g} s a guest and day"
     away = f"; {best.away} guests find no host" if best.away else ""
-    return f"promise {best.promise():.2f} times the budget: {best.wait_a_day():.1f} s a guest and day are waited, on {len(best.hosts)} hosts{away}"
+    return (
+        f"promise {best.promise():.2f} times the budget: {best.wait_a_day():.1f} s a guest and "
+        f"day are waited, on {len(best.hosts)} hosts{away}"
+    )
 
 
 def lines(plan, limit):

@@ -1,5 +1,6 @@
-"""A host that lends, at one moment after another: its guests as loans of vb_lending.h, and the order of effects that vb_lending.h
-gives. The library's calls decide who is granted, and which targets are set."""
+"""A host that lends, at one moment after another: its guests as loans of vb_lending.h, and the
+order of effects that vb_lending.h gives. The library's calls decide who is granted, and which
+targets are set."""
 
 import ctypes
 from typing import NamedTuple
@@ -26,7 +27,8 @@ class Terms(NamedTuple):
 
 
 class Lender:
-    """The loans of a host. `waits` has how long each ask waited that has ended, in seconds, `waited` the same of each guest together."""
+    """The loans of a host. `waits` has how long each ask waited that has ended, in seconds,
+    `waited` the same of each guest together."""
 
     def __init__(self, library, sizes, terms):
         count = len(sizes)
@@ -70,15 +72,17 @@ class Lender:
         return self.library.vb_loan_owed(self.loans, self.count)
 
     def spare(self, guest, floor):
-        """Returns what a guest can spare so that this much stays free, as a host asks for it: ballooned pages count as free ones."""
+        """Returns what a guest can spare so that this much stays free, as a host asks for it:
+        ballooned pages count as free ones."""
         if not self.runs[guest]:
             return 0
         pages = self.loans[guest].pages
         return self.library.vb_spare(pages, 0, max(pages - self.used[guest], 0), 1, floor, 0)
 
     def figure(self, guest):
-        """Says anew what a guest can spare: after each change of what it uses, or of its loan. One that waits can spare what stays in
-        its balloon when it has what it asks for (vb_lending.h)."""
+        """Says anew what a guest can spare: after each change of what it uses, or of its loan. One
+        that waits can spare what stays in its balloon when it has what it asks for
+        (vb_lending.h)."""
         self.do(self.library.vb_loan_figure, guest, self.spare(guest, self.terms.floor))
         loan, need = self.loans[guest], self.needs[guest]
         stays = loan.pages - loan.lent - loan.asked
@@ -93,7 +97,8 @@ class Lender:
         self.figure(guest)
 
     def begin(self, guests):
-        """These guests are here when the day begins: let in before the budget holds, so that none of them waits for that."""
+        """These guests are here when the day begins: let in before the budget holds, so that none
+        of them waits for that."""
         for guest, used in guests:
             self.arrive(guest, used)
         self.grant(MOST_FRAMES)
@@ -108,7 +113,8 @@ class Lender:
         self.figure(guest)
 
     def use(self, guest, pages):
-        """A guest uses this many pages now. One that uses none is reset: its balloon is to be empty."""
+        """A guest uses this many pages now. One that uses none is reset: its balloon is to be
+        empty."""
         self.used[guest] = pages
         loan = self.loans[guest]
         if pages == 0 and self.runs[guest] and loan.lent < loan.pages:
@@ -119,7 +125,8 @@ class Lender:
     # ---- waits
 
     def begin_wait(self, guest):
-        """A guest has asked, by which targets are decided anew: the wait goes on until it asks for nothing more."""
+        """A guest has asked, by which targets are decided anew: the wait goes on until it asks for
+        nothing more."""
         self.anew = True
         if self.since[guest] is None:
             self.since[guest] = self.now
@@ -158,7 +165,8 @@ class Lender:
         self.anew = False
 
     def movers(self):
-        """Returns the guests that run, wait for nothing, and don't have what the host wants in their balloons."""
+        """Returns the guests that run, wait for nothing, and don't have what the host wants in
+        their balloons."""
         return (
             (self.runs & (self.asked == 0) & (self.ballooned != self.wanted)).nonzero()[0].tolist()
         )
@@ -168,8 +176,9 @@ class Lender:
         return max(self.terms.frames - self.owed() - int(self.asked.sum()), 0)
 
     def obey(self, guest):
-        """A guest gives pages up to its target. One that uses more than it has asks for that, and waits for it. Any other takes what is above its
-        target as far as there is room, so that it doesn't wait. Returns whether it does one of these.
+        """A guest gives pages up to its target. One that uses more than it has asks for that, and
+        waits for it. Any other takes what is above its target as far as there is room, so that it
+        doesn't wait. Returns whether it does one of these.
         """
         loan = self.loans[guest]
         missing = self.targets[guest] - loan.ballooned

@@ -1,4 +1,5 @@
-"""What a host did in a recorded day: what was lent to each guest, what it asked for and what it was granted, at each moment of the host's metrics."""
+"""What a host did in a recorded day: what was lent to each guest, what it asked for and what it was
+granted, at each moment of the host's metrics."""
 
 from typing import NamedTuple
 
@@ -11,8 +12,8 @@ from bigvasta.statuses import Usage
 
 
 class Look(NamedTuple):
-    """A guest at a moment: pages of its memory, of its loan, those that it asks for, and all that it was granted so far; and for how many
-    seconds it has waited."""
+    """A guest at a moment: pages of its memory, of its loan, those that it asks for, and all that
+    it was granted so far; and for how many seconds it has waited."""
 
     size: int
     loan: int
@@ -34,7 +35,8 @@ class Moment(NamedTuple):
 
 
 class Own(NamedTuple):
-    """How a recorded host did itself: its budget in pages, how many times that was promised, and the seconds that a guest waited in a day."""
+    """How a recorded host did itself: its budget in pages, how many times that was promised, and
+    the seconds that a guest waited in a day."""
 
     budget: int
     promise: float
@@ -103,7 +105,8 @@ def read_lending(path):
 
 
 def own_of(path):
-    """Returns how a recorded host did itself; None where the recording doesn't have that, or the budget didn't stay the same."""
+    """Returns how a recorded host did itself; None where the recording doesn't have that, or the
+    budget didn't stay the same."""
     try:
         moments = read_lending(path)
     except Usage:

@@ -1,4 +1,5 @@
-"""The calls of vb.h and vb_lending.h that a replay makes, by ctypes. What they decide is theirs: nothing of it is here."""
+"""The calls of vb.h and vb_lending.h that a replay makes, by ctypes. What they decide is theirs:
+nothing of it is here."""
 
 import ctypes
 import os
@@ -80,7 +81,8 @@ def path_of(path=None):
     paths = [path] if path else [it for it in PLACES if os.path.exists(it)]
     if not paths:
         raise Usage(
-            "plan: the library isn't there: make -C monitor shared makes it, --library FILE names another"
+            "plan: the library isn't there: make -C monitor shared makes it, --library FILE names "
+            "another"
         )
     return os.path.abspath(paths[0])
 

@@ -1,5 +1,5 @@
-"""Days that nobody recorded: guests of some sizes, whose working sets walk with heavy tails, with page cache, reboots, and idle
-ones. The same seed makes the same day."""
+"""Days that nobody recorded: guests of some sizes, whose working sets walk with heavy tails, with
+page cache, reboots, and idle ones. The same seed makes the same day."""
 
 import random
 
@@ -20,10 +20,12 @@ IDLE, PASSING = 0.3, 0.15
 # Of its memory: what a kernel takes at least, and the most that a working set takes.
 LEAST, MOST = 0.06, 0.9
 
-# A step of the walk is Pareto: this exponent, this part of the memory at least, and at most half of it.
+# A step of the walk is Pareto: this exponent, this part of the memory at least, and at most half of
+# it.
 TAIL, STEP = 1.3, 0.01
 
-# Seconds between two changes of a working set: of a guest at work, and of an idle one. And reboots of a guest in a day.
+# Seconds between two changes of a working set: of a guest at work, and of an idle one. And reboots
+# of a guest in a day.
 PACE, IDLE_PACE, REBOOTS = 300, 3600, 0.3
 
 # Seconds that a reboot takes; the part of the page cache that can't be let go at once.
@@ -48,7 +50,8 @@ class Made:
         self.set, self.cache = self.random.uniform(LEAST, 0.5), 0.0
 
     def walk(self):
-        """Takes a step: the working set grows or shrinks, and what it read stays in the page cache, as far as there is room."""
+        """Takes a step: the working set grows or shrinks, and what it read stays in the page cache,
+        as far as there is room."""
         step = min(self.random.paretovariate(TAIL) * STEP, 0.5)
         self.set += step if self.random.random() < 0.5 else -step
         self.set = min(max(self.set, LEAST), MOST)

@@ -1,5 +1,5 @@
-"""A host's own metrics as Prometheus hands them out: the answer of query_range, whose result is a matrix, a series of values for each
-metric of a guest."""
+"""A host's own metrics as Prometheus hands them out: the answer of query_range, whose result is a
+matrix, a series of values for each metric of a guest."""
 
 import json
 import math
@@ -24,8 +24,9 @@ class Key(NamedTuple):
 
 
 def used_by_metrics(line, size):
-    """Returns the bytes that a guest uses: those that are neither available nor in its balloon. These two are looked at one after the
-    other, so they may be more than its memory together. A page at least is used: metrics don't say that a guest is reset.
+    """Returns the bytes that a guest uses: those that are neither available nor in its balloon.
+    These two are looked at one after the other, so they may be more than its memory together. A
+    page at least is used: metrics don't say that a guest is reset.
     """
     return max(size - line.part("available", size) - line.part("ballooned", size), PAGE)
 
@@ -102,7 +103,8 @@ def series_by_key(path, result):
 
 
 def table_of(path, name, series, cells):
-    """Refuses a guest that lacks one of these metrics; returns its values as a table, a row a moment."""
+    """Refuses a guest that lacks one of these metrics; returns its values as a table, a row a
+    moment."""
     for metric, cell in cells.items():
         if cell not in series:
             raise Usage(f"{path}: {name} has no series {metric}")
@@ -114,18 +116,21 @@ def table_of(path, name, series, cells):
 
 
 def demand_steps(path, tables):
-    """Refuses a guest without values where a step of the query would have some: the least time between two values is a step."""
+    """Refuses a guest without values where a step of the query would have some: the least time
+    between two values is a step."""
     apart = {name: table.index.to_series().diff().dropna() for name, table in tables.items()}
     step = min((it.min() for it in apart.values() if len(it)), default=0)
     for name, its in apart.items():
         for at, seconds in its[its > step + TOLERANCE].items():
             raise Usage(
-                f"{path}: {name} at {at:.12g}: there is a hole of {seconds:.12g} s before it, where values are {step:.12g} s apart"
+                f"{path}: {name} at {at:.12g}: there is a hole of {seconds:.12g} s before it, "
+                f"where values are {step:.12g} s apart"
             )
 
 
 def tables_of(path, series, cells):
-    """Returns the table of each guest by its name. Guests of several hosts are named with their host's instance."""
+    """Returns the table of each guest by its name. Guests of several hosts are named with their
+    host's instance."""
     keys = [it for it in series if it.guest]
     single = len({it.host for it in keys}) == 1
     tables = {}

@@ -1,7 +1,9 @@
-"""Which guest comes to which host of a fleet: the first host that may still promise it all of its memory takes it.
+"""Which guest comes to which host of a fleet: the first host that may still promise it all of its
+memory takes it.
 
-What a host has promised is a lender of its own, on as many frames as may be promised: a guest of it has all of its memory lent for as long as it
-is there. So the library's calls say whether there is a place and room."""
+What a host has promised is a lender of its own, on as many frames as may be promised: a guest of it
+has all of its memory lent for as long as it is there. So the library's calls say whether there is a
+place and room."""
 
 from typing import NamedTuple
 
@@ -29,7 +31,8 @@ class Promises:
         self.library, self.frames, self.places = library, frames, places
         self.loans = [(Loan * places)() for _ in range(hosts)]
         self.vacant = [list(range(places)) for _ in range(hosts)]
-        # The smallest guest that a host has refused since one went from it: it needn't be asked for that one or a larger one.
+        # The smallest guest that a host has refused since one went from it: it needn't be asked for
+        # that one or a larger one.
         self.refused = numpy.full(hosts, NOTHING_YET)
 
     def ask(self, host, pages):
@@ -48,7 +51,8 @@ class Promises:
         return self.vacant[host].pop()
 
     def come(self, pages):
-        """Returns the first host that takes a guest, and its place there; None where no host does."""
+        """Returns the first host that takes a guest, and its place there; None where no host
+        does."""
         while True:
             host = int(numpy.argmax(self.refused > pages))
             if self.refused[host] <= pages:
@@ -66,7 +70,8 @@ class Promises:
 
 
 def place(promises, stays):
-    """Returns the numbers of the guests of each host, and of those that find none. At a moment guests go before others come."""
+    """Returns the numbers of the guests of each host, and of those that find none. At a moment
+    guests go before others come."""
     hosts, away, here = {}, [], {}
     events = [
         (at, comes, number)

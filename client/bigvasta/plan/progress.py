@@ -1,8 +1,10 @@
-"""How far a long plan is, on standard error: a line that a terminal rewrites; elsewhere a line for each tenth."""
+"""How far a long plan is, on standard error: a line that a terminal rewrites; elsewhere a line for
+each tenth."""
 
 import time
 
-# Seconds between two writings of a terminal's line; and into how many parts the plan is divided elsewhere.
+# Seconds between two writings of a terminal's line; and into how many parts the plan is divided
+# elsewhere.
 EVERY, PARTS = 0.2, 10
 
 
@@ -18,7 +20,10 @@ class Progress:
         """Returns what is said."""
         passed = now - self.begin
         left = passed / self.done * (self.total - self.done)
-        return f"replayed {self.done} of {self.total} hosts, {100 * self.done // self.total}%, {passed:.0f} s; about {left:.0f} s to go"
+        return (
+            f"replayed {self.done} of {self.total} hosts, {100 * self.done // self.total}%, "
+            f"{passed:.0f} s; about {left:.0f} s to go"
+        )
 
     def is_due(self, now):
         """Returns whether something is said now."""

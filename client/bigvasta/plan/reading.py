@@ -38,7 +38,8 @@ def measure_of(place, names):
     measures = [it for it in MEASURES if it in names]
     if len(measures) != 1:
         raise Usage(
-            f"{place}: there has to be a column used or a column available, and not {'both' if measures else 'neither'}"
+            f"{place}: there has to be a column used or a column available, and not "
+            f"{'both' if measures else 'neither'}"
         )
     return MEASURES[measures[0]]
 

@@ -1,4 +1,5 @@
-"""The replay of a day on one host, from one moment to the next at which a guest's use changes: between those nothing happens."""
+"""The replay of a day on one host, from one moment to the next at which a guest's use changes:
+between those nothing happens."""
 
 import math
 from typing import NamedTuple
@@ -69,7 +70,8 @@ class Shortness:
 
 
 def events_of(day):
-    """Returns what happens at each moment: guests that go, that come, and what others use from then on."""
+    """Returns what happens at each moment: guests that go, that come, and what others use from then
+    on."""
     events = {}
     for number, guest in enumerate(day.guests):
         first, *others = guest.uses
@@ -104,7 +106,8 @@ def promised_by(day):
 
 
 def replay(library, day, terms, looks=()):
-    """Returns what a day says under these terms. At `looks` nothing happens: a host that looks there decides the same."""
+    """Returns what a day says under these terms. At `looks` nothing happens: a host that looks
+    there decides the same."""
     lender, short, events = (
         Lender(library, [it.pages for it in day.guests], terms),
         Shortness(),

@@ -1,4 +1,5 @@
-"""Runs tasks at once: on the processors of this machine, or on the workers of a Dask scheduler. Answers come in the order of their tasks."""
+"""Runs tasks at once: on the processors of this machine, or on the workers of a Dask scheduler.
+Answers come in the order of their tasks."""
 
 import concurrent.futures
 import ctypes
@@ -9,7 +10,8 @@ import socket
 from bigvasta.plan.progress import Progress
 from bigvasta.statuses import Away, Unclear, Usage
 
-# Seconds in which somebody has to take a connection, in which it has to prove a scheduler, and in which a worker has to come to that.
+# Seconds in which somebody has to take a connection, in which it has to prove a scheduler, and in
+# which a worker has to come to that.
 LIMIT, ANSWER_LIMIT, WORKER_LIMIT = 5, 10, 60
 
 MOST_PORT = 65535
@@ -74,7 +76,8 @@ class Scheduler:
             client = self.dask.Client(self.address, timeout=ANSWER_LIMIT)
         except (OSError, TimeoutError):
             raise Away(
-                f"--scheduler: who answers at {self.address} doesn't speak as a Dask scheduler, in {ANSWER_LIMIT} s"
+                f"--scheduler: who answers at {self.address} doesn't speak as a Dask scheduler, "
+                f"in {ANSWER_LIMIT} s"
             ) from None
         try:
             client.wait_for_workers(1, timeout=WORKER_LIMIT)
@@ -94,7 +97,8 @@ class Scheduler:
                 )
             except ModuleNotFoundError as fault:
                 raise Usage(
-                    f"--scheduler: a worker lacks the module {fault.name}: it needs the packages that this machine has"
+                    f"--scheduler: a worker lacks the module {fault.name}: it needs the packages "
+                    "that this machine has"
                 ) from None
             except self.dask.KilledWorker:
                 raise Unclear(

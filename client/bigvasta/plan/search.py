@@ -1,4 +1,5 @@
-"""What is tried, from the tightest to the loosest, and the tightest that serves: of a host its budgets, of a fleet its promises."""
+"""What is tried, from the tightest to the loosest, and the tightest that serves: of a host its
+budgets, of a fleet its promises."""
 
 from typing import NamedTuple
 
@@ -10,7 +11,8 @@ LEAST_PART = 4
 
 
 class Plan(NamedTuple):
-    """What was tried, from the tightest to the loosest; and the answer of the tightest that serves, or None."""
+    """What was tried, from the tightest to the loosest; and the answer of the tightest that serves,
+    or None."""
 
     answers: tuple
     best: object
@@ -24,7 +26,8 @@ def spread(first, last, steps):
 
 
 def tightest(answers, limit):
-    """Returns the number of the answer from which on no guest waits longer than the limit in a day; None where the last one fails."""
+    """Returns the number of the answer from which on no guest waits longer than the limit in a day;
+    None where the last one fails."""
     found = None
     for number in range(len(answers) - 1, -1, -1):
         if answers[number].wait_a_day() > limit:
@@ -34,8 +37,8 @@ def tightest(answers, limit):
 
 
 def search(try_all, ends, steps, limit):
-    """Tries what lies between the ends, the tighter of which comes first: in steps, and then once more between the last that doesn't serve and
-    the first that does."""
+    """Tries what lies between the ends, the tighter of which comes first: in steps, and then once
+    more between the last that doesn't serve and the first that does."""
     tried = spread(*ends, steps)
     answers = list(try_all(tried))
     found = tightest(answers, limit)

@@ -45,18 +45,28 @@ def conclusion(plan, limit):
     if plan.best is None:
         return f"none of these budgets keeps the waits to {limit:g} s a guest and day"
     best, budget = plan.best, -(-plan.best.budget * PAGE // MIB)
-    return f"budget {budget}M: {best.wait_a_day():.1f} s a guest and day are waited; {best.promise():.2f} times as much is promised"
+    return (
+        f"budget {budget}M: {best.wait_a_day():.1f} s a guest and day are waited; "
+        f"{best.promise():.2f} times as much is promised"
+    )
 
 
 def own_line(own):
     """Returns the line that says how the recorded host did itself."""
-    return f"the host itself: {own.wait_a_day:.1f} s a guest and day were waited; {own.promise:.2f} times its {in_mib(own.budget)} MiB were promised"
+    return (
+        f"the host itself: {own.wait_a_day:.1f} s a guest and day were waited; {own.promise:.2f} "
+        f"times its {in_mib(own.budget)} MiB were promised"
+    )
 
 
 def lines(plan, limit, own):
-    """Returns the table, the line that says which budget to set, and how the recorded host did itself, if that is known."""
+    """Returns the table, the line that says which budget to set, and how the recorded host did
+    itself, if that is known."""
     first = plan.answers[0]
-    head = f"{first.guests} guests, {in_mib(first.promised)} MiB promised at once, {first.present / 3600:.1f} hours of guests"
+    head = (
+        f"{first.guests} guests, {in_mib(first.promised)} MiB promised at once, "
+        f"{first.present / 3600:.1f} hours of guests"
+    )
     last = [*([own_line(own)] if own else []), conclusion(plan, limit)]
     return [
         head,

@@ -1,4 +1,5 @@
-"""What the tests of a host that an operator runs have in common: its programs, a host in a folder of its own, and its guests."""
+"""What the tests of a host that an operator runs have in common: its programs, a host in a folder
+of its own, and its guests."""
 
 import os
 
@@ -13,13 +14,15 @@ PROGRAMS = ("checked/vhost_user_host", "older/vhost_user_host", "wrong-checked/v
 
 @pytest.fixture(scope="session")
 def program():
-    """The host's program, beside that of its guests: one that the environment names, or one that is built with the compiler's checks."""
+    """The host's program, beside that of its guests: one that the environment names, or one that is
+    built with the compiler's checks."""
     return os.environ.get("HOST_PROGRAM") or linux_kit.built("checked/vhost_user_host")
 
 
 @pytest.fixture(scope="session")
 def wrong_program():
-    """The host that is wrong in the way that its environment's CONTROL_WRONG names, beside the program of its guests."""
+    """The host that is wrong in the way that its environment's CONTROL_WRONG names, beside the
+    program of its guests."""
     return linux_kit.built("wrong-checked/vhost_user_host")
 
 

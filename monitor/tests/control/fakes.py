@@ -8,7 +8,8 @@ import time
 
 
 class Fake:
-    """A control socket: `answer` makes of a request the objects, or the bytes, that are sent. After events the connection ends."""
+    """A control socket: `answer` makes of a request the objects, or the bytes, that are sent. After
+    events the connection ends."""
 
     def __init__(self, folder, answer):
         self.path, self.answer = f"{folder}/fake", answer

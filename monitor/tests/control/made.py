@@ -1,5 +1,6 @@
-"""A host whose numbers are made: each differs from all others, and is more than 32 bits count, as bytes where it counts pages. What has one is read in
-the sources, so that a field that is new has one, too."""
+"""A host whose numbers are made: each differs from all others, and is more than 32 bits count, as
+bytes where it counts pages. What has one is read in the sources, so that a field that is new has
+one, too."""
 
 import os
 import re
@@ -7,7 +8,8 @@ import re
 import linux_kit
 
 
-# What a number of each type begins at: a multiple of a prime is added. Of those that are no more than guests or processes there are few.
+# What a number of each type begins at: a multiple of a prime is added. Of those that are no more
+# than guests or processes there are few.
 FIRST = {
     "uint64_t": 1 << 33,
     "int64_t": 1 << 34,
@@ -19,8 +21,8 @@ FIRST = {
 PRIME = 104729
 PHASES, GUESTS = 2, 6
 
-# Flags of guests, a bit for each guest: no two are alike over all guests. States of guests; what each waits for in both phases, and how the waits
-# end that the second doesn't have any longer.
+# Flags of guests, a bit for each guest: no two are alike over all guests. States of guests; what
+# each waits for in both phases, and how the waits end that the second doesn't have any longer.
 FLAGS = {"strict": 0b000111, "answers": 0b011001, "reports": 0b101010, "cooperates": 0b110101}
 STATES = ("ABSENT", "COMING", "WAITING", "STARTING", "READY", "LEAVING")
 WAITS = (
@@ -72,7 +74,8 @@ class Made:
         }
 
     def guest(self, number, phase):
-        """Returns a guest: in the second phase it has the state and the flags that the next one had."""
+        """Returns a guest: in the second phase it has the state and the flags that the next one
+        had."""
         flags = {
             name: bool((bits >> (number + phase) % GUESTS) & 1) for name, bits in FLAGS.items()
         }
@@ -149,7 +152,8 @@ def written(value):
 
 
 class MadeHost:
-    """The values: of the host and its guests in each phase, decisions, measures, and what the control sockets count."""
+    """The values: of the host and its guests in each phase, decisions, measures, and what the
+    control sockets count."""
 
     def __init__(self):
         made = Made()

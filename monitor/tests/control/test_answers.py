@@ -1,4 +1,5 @@
-"""Answers that can't be made: a host says so, and drops followers whom it can't tell of an event."""
+"""Answers that can't be made: a host says so, and drops followers whom it can't tell of an
+event."""
 
 import json
 import os

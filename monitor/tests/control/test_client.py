@@ -51,20 +51,29 @@ COMMANDS = (
         "guest web-1 target",
         2,
         "",
-        "bigvasta: 'target' is none of least=, most=, priority=, strict=, overhead=, limit=, target=\n",
+        (
+            "bigvasta: 'target' is none of least=, most=, priority=, strict=, overhead=, limit=, "
+            "target=\n"
+        ),
     ),
     (
         "guest web-1 size=4M",
         2,
         "",
-        "bigvasta: 'size=4M' is none of least=, most=, priority=, strict=, overhead=, limit=, target=\n",
+        (
+            "bigvasta: 'size=4M' is none of least=, most=, priority=, strict=, overhead=, limit=, "
+            "target=\n"
+        ),
     ),
     ("guest web-1 target=1M target=2M", 2, "", "bigvasta: target= is said twice\n"),
     (
         "guest web-1 target=4",
         2,
         "",
-        "bigvasta: target: '4' is no size: a number with K, M, G or T, in pages of 4K, such as 480M\n",
+        (
+            "bigvasta: target: '4' is no size: a number with K, M, G or T, in pages of 4K, such "
+            "as 480M\n"
+        ),
     ),
     (
         "guest web-1 priority=-1",
@@ -307,7 +316,8 @@ def guest(name="a", **fields):
     return its | {it: value * MIB if it in sizes else value for it, value in fields.items()}
 
 
-# Of a guest of 100 MiB: what it has, and its bar of 20 characters: held, of it spare, lent beyond that, and what its target leaves.
+# Of a guest of 100 MiB: what it has, and its bar of 20 characters: held, of it spare, lent beyond
+# that, and what its target leaves.
 BARS = (
     ({}, "                    ]"),
     ({"held": 50}, "##########          ]"),

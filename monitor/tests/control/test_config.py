@@ -1,4 +1,5 @@
-"""The configuration file of a host: what it says is done, each key that is wrong is named with its line, and then the old one stays."""
+"""The configuration file of a host: what it says is done, each key that is wrong is named with its
+line, and then the old one stays."""
 
 import os
 import re
@@ -31,7 +32,8 @@ lines = 2000
 [guest web-2]
 """
 
-# A key's line in that file, and what is in its place; then what is said of it, after the file's name.
+# A key's line in that file, and what is in its place; then what is said of it, after the file's
+# name.
 SIZE = "a number with M, G or T, under 16T"
 WRONG = (
     (
@@ -170,7 +172,8 @@ from waiting import PATIENCE, patience_from_now
 
 
 def lines_of_a_client(host):
-    """Has a client of a guest break a rule; returns the lines about it, once some are said or left out."""
+    """Has a client of a guest break a rule; returns the lines about it, once some are said or left
+    out."""
     with socket.socket(socket.AF_UNIX) as client:
         client.connect(f"{host.folder}/web-1")
         client.sendall(b"\xff" * 12)
@@ -182,7 +185,8 @@ def term(name):
     return lambda host: host.guest("web-1")["terms"][name]
 
 
-# What changes while the host runs: the key, its line, what is in its place, and what shows that, with its value.
+# What changes while the host runs: the key, its line, what is in its place, and what shows that,
+# with its value.
 TAKEN = (
     (
         "budget of [host]",

@@ -1,4 +1,5 @@
-"""The control socket of a host: what each request is answered, what each wrong one is refused by, and that nobody is waited for."""
+"""The control socket of a host: what each request is answered, what each wrong one is refused by,
+and that nobody is waited for."""
 
 import json
 import os
@@ -345,13 +346,15 @@ def test_followers_hear_each_event_once_and_in_order(host, arrive):
         range(first.heard[0]["number"], first.heard[0]["number"] + len(first.heard))
     )
     names = [it["event"] for it in first.heard]
-    # On a loaded machine its statistics may come late, and then it is silent for a while: so it answers, is silent, answers, ..
+    # On a loaded machine its statistics may come late, and then it is silent for a while: so it
+    # answers, is silent, answers, ..
     manners = [it for it in names if it in ("answers", "silent")]
     assert manners == ["answers", "silent"] * (len(manners) // 2) + ["answers"] * (
         len(manners) % 2
     ), manners
     others = [it for it in names if it not in ("decision", "state", *manners)]
-    # A look may find it while it waits for the room that it is granted at once, and while it leaves.
+    # A look may find it while it waits for the room that it is granted at once, and while it
+    # leaves.
     waits = ["waits", "granted"] if "waits" in others else []
     assert others == ["added", "arrived", *waits, "budget", "gone", "removed"], names
     states = [it["state"] for it in first.heard if it["event"] == "state"]

@@ -1,4 +1,5 @@
-"""A guest's backend is started as QEMU's conventions for vhost-user backends say: by a path, by a socket, and asked what it can."""
+"""A guest's backend is started as QEMU's conventions for vhost-user backends say: by a path, by a
+socket, and asked what it can."""
 
 import json
 import os

@@ -1,5 +1,5 @@
-"""What a host counts rises alone: over guests' processes that others go on for, over lenders, and over clients that go and come, but for what
-begins with these."""
+"""What a host counts rises alone: over guests' processes that others go on for, over lenders, and
+over clients that go and come, but for what begins with these."""
 
 import os
 import signal
@@ -9,7 +9,8 @@ from hosts import Answering, Host, eventually
 from vhost_client import DEFLATE, INFLATE, PAGE, REGIONS, REPORT, WRITE
 from waiting import patience_from_now
 
-# Each counter, by when it begins at 0: with a lender; with a client of a guest, which its process counts; with both.
+# Each counter, by when it begins at 0: with a lender; with a client of a guest, which its process
+# counts; with both.
 OF_LENDERS, OF_CLIENTS, OF_BOTH = {"lender"}, {"client"}, {"lender", "client"}
 HOST = dict.fromkeys(
     "looks above peak decisions changed shorts admitted refused gone dropped".split(), OF_LENDERS
@@ -25,7 +26,8 @@ GUEST = {
     **dict.fromkeys("granted lost".split(), OF_BOTH),
 }
 
-# Pages that each guest gives, takes back and reports, of its second region, and of those that it takes the ones that the host wants back.
+# Pages that each guest gives, takes back and reports, of its second region, and of those that it
+# takes the ones that the host wants back.
 WORK = {"strict": (20, 7, 4, 2), "free": (24, 11, 3, 1)}
 FIRST = REGIONS[1][0] // PAGE
 
@@ -112,7 +114,8 @@ def work(host, name):
 
 
 class Town:
-    """A host with a guest whose deflates wait, and one whose deflates don't, and what may come over it."""
+    """A host with a guest whose deflates wait, and one whose deflates don't, and what may come over
+    it."""
 
     def __init__(self, program, folder):
         self.program, self.folder = program, folder
@@ -244,7 +247,8 @@ def test_what_a_host_says_of_all_guests(town):
     assert host["counters"]["peak"] >= host["held"] > 0 and host["lent"] > 0
 
 
-# Words of the lines of standard output, by what an answer has in their place, and how many of its unit each counts.
+# Words of the lines of standard output, by what an answer has in their place, and how many of its
+# unit each counts.
 KIB = 1024
 OF_GUESTS = {
     **{it: (f"counters.{it}", PAGE) for it in ("inflated", "deflated", "reported", "taken")},

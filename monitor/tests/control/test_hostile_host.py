@@ -1,4 +1,5 @@
-"""The client program beside a host that is hostile, or another version: each answer is understood, or refused in one line."""
+"""The client program beside a host that is hostile, or another version: each answer is understood,
+or refused in one line."""
 
 import copy
 import time
@@ -63,7 +64,8 @@ def answers():
 
 @pytest.fixture
 def path(folder, answers):
-    """The socket of a host that answers by a table of requests, where `event` is one for who follows it."""
+    """The socket of a host that answers by a table of requests, where `event` is one for who
+    follows it."""
 
     def answer(asked):
         if asked["request"] == "events":
@@ -103,7 +105,8 @@ def changed(answer, place, trash):
 
 
 def run(capsys, path, words):
-    """Runs the client program; returns its status, and what it says on standard output and standard error."""
+    """Runs the client program; returns its status, and what it says on standard output and standard
+    error."""
     status = main([*words.split(), "--control", path])
     return status, *capsys.readouterr()
 

@@ -1,4 +1,5 @@
-"""What a host of made numbers shows of itself: each field of an answer, an event and a metric has its own number, in its own unit."""
+"""What a host of made numbers shows of itself: each field of an answer, an event and a metric has
+its own number, in its own unit."""
 
 import itertools
 
@@ -34,7 +35,8 @@ UNITS = {
 
 
 def rows(unit, words):
-    """Returns rows of one unit: a member's name and where an answer has it, `counters.` before it where it is there."""
+    """Returns rows of one unit: a member's name and where an answer has it, `counters.` before it
+    where it is there."""
     return {
         name: (place or name, unit)
         for name, _, place in (it.partition("=") for it in words.split())
@@ -123,7 +125,8 @@ def shown_host(made, phase):
 
 
 def shown_decision(made, phase):
-    """Returns what is shown of the last decision of a phase; whom it is about is shown where it is about one."""
+    """Returns what is shown of the last decision of a phase; whom it is about is shown where it is
+    about one."""
     its = dict(made.decisions[phase])
     shares = [dict(it) for it in its.pop("shares")]
     needs = [it.pop("need") for it in shares]
@@ -141,7 +144,8 @@ def shown_decision(made, phase):
 
 
 def differences(found, wanted):
-    """Returns what isn't as it is wanted, by its name: what was found, and what should have been."""
+    """Returns what isn't as it is wanted, by its name: what was found, and what should have
+    been."""
     if not isinstance(found, dict) or not isinstance(wanted, dict):
         return {} if found == wanted else {"": (found, wanted)}
     inner = {
@@ -195,7 +199,8 @@ def test_each_field_of_a_decision(made, host):
 
 
 def test_each_field_of_an_event(made, host):
-    """From one phase to the next: what each guest does, by its states, flags and waits in made.py."""
+    """From one phase to the next: what each guest does, by its states, flags and waits in
+    made.py."""
     ends, budget = [it["ended"] for it in made[0].guests[1]], made[0].hosts[1]["budget"] * PAGE
     state = {
         it: {"event": "state", "state": it}
@@ -407,9 +412,9 @@ def test_each_column_and_each_line(made, host):
         assert line.split()[: len(wanted)] == wanted
     head, *rest = [it.text for it in picture(status, 200, 24, Shown())]
     promised = mebibytes(sum(it["memory"] for it in guests))
-    assert (
-        head
-        == f"budget {sums['budget']}  held {sums['held']}  lent {sums['lent']}  promised {promised}  missing {sums['missing']} MiB"
+    assert head == (
+        f"budget {sums['budget']}  held {sums['held']}  lent {sums['lent']}  promised "
+        f"{promised}  missing {sums['missing']} MiB"
     )
     for guest, line in zip(guests, rest[4:]):
         assert line.startswith(

@@ -1,4 +1,5 @@
-"""The metrics of a host: what promtool says of them, what a real Prometheus scrapes, and that each alert fires there for what it is for."""
+"""The metrics of a host: what promtool says of them, what a real Prometheus scrapes, and that each
+alert fires there for what it is for."""
 
 import json
 import os
@@ -74,7 +75,8 @@ def test_metrics_without_a_remark(host, arrive):
 
 
 def test_what_the_host_measures(host, arrive):
-    """Guests that go are counted by why; a budget that is passed by how long; and what took time is."""
+    """Guests that go are counted by why; a budget that is passed by how long; and what took time
+    is."""
     left, refused, removed = arrive("left"), arrive("refused"), arrive("removed")
     eventually(lambda: host.status()["counters"]["admitted"] == 3)
     host.ask("budget", bytes=256 * PAGE)
@@ -168,7 +170,8 @@ scrape_configs:
 
 @pytest.fixture
 def prometheus(exporter, tmp_path):
-    """A Prometheus that scrapes the host each second, with the alerts, which don't wait here; and its port."""
+    """A Prometheus that scrapes the host each second, with the alerts, which don't wait here; and
+    its port."""
     with open(os.path.join(RULES, "bigvasta.rules.yml"), encoding="utf-8") as file:
         rules = [it for it in file if "for:" not in it]
     quick = "".join(rules).replace("silent_seconds > 30", "silent_seconds > 1")

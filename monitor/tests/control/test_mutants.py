@@ -1,4 +1,5 @@
-"""Hosts that are wrong on purpose (tests/mutants/wrong_control.c): each is refused by the test that is for it, and that alone is run."""
+"""Hosts that are wrong on purpose (tests/mutants/wrong_control.c): each is refused by the test that
+is for it, and that alone is run."""
 
 import os
 import subprocess

@@ -1,5 +1,5 @@
-"""The manual of the programs: each page is well formed, what it shows happens, and it names each command, option and key that there is.
-And the completion for bash, in a bash."""
+"""The manual of the programs: each page is well formed, what it shows happens, and it names each
+command, option and key that there is. And the completion for bash, in a bash."""
 
 import os
 import re
@@ -194,7 +194,10 @@ def test_completion_in_bash(host, folder):
         f'#!/bin/sh\nPYTHONPATH={CLIENT} exec /usr/bin/python3 -B -m bigvasta "$@"\n'
     )
     program.chmod(0o755)
-    script = ". {file}; COMP_WORDS=({words}); COMP_CWORD=$(({count} - 1)); _bigvasta 2> /dev/null; printf '%s\\n' \"${{COMPREPLY[@]}}\""
+    script = (
+        ". {file}; COMP_WORDS=({words}); COMP_CWORD=$(({count} - 1)); _bigvasta 2> /dev/null; "
+        "printf '%s\\n' \"${{COMPREPLY[@]}}\""
+    )
     for words, wanted in COMPLETIONS:
         words = [it.format(control=host.control) for it in words]
         text = script.format(

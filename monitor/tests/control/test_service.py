@@ -1,4 +1,5 @@
-"""A host as a service: what its service manager is told, by a small one that speaks the protocol of sd_notify(3) and keeps files; its units."""
+"""A host as a service: what its service manager is told, by a small one that speaks the protocol of
+sd_notify(3) and keeps files; its units."""
 
 import array
 import os
@@ -19,7 +20,8 @@ from waiting import PATIENCE, patience_from_now
 SYSTEMD = os.path.join(ROOT, "packaging", "systemd")
 UNITS = ("bigvasta-host.service", "bigvasta-metrics.service")
 
-# What a service is started by: files are handed over from number 3 on, with its own number, as sd_listen_fds(3) wants it.
+# What a service is started by: files are handed over from number 3 on, with its own number, as
+# sd_listen_fds(3) wants it.
 STARTER = """import os, sys
 files = [int(it) for it in sys.argv[1].split()]
 for number, file in enumerate([os.dup2(it, 100 + it) for it in files]):
@@ -192,7 +194,8 @@ def test_without_a_manager(program, folder):
 
 
 def test_a_host_without_a_manager_waits_for_what_is_due(host):
-    """Ten looks for events a second, one at the guests: it takes no turn for a manager that isn't there."""
+    """Ten looks for events a second, one at the guests: it takes no turn for a manager that isn't
+    there."""
 
     def turns():
         return sum(host.status()["measures"]["turns"]["counts"])
@@ -203,7 +206,8 @@ def test_a_host_without_a_manager_waits_for_what_is_due(host):
     assert after - before < 30 * seconds, (after - before, seconds)
 
 
-# A level, and how the lines begin that are said of a wrong file, of a right one, and of a guest that breaks a rule and goes.
+# A level, and how the lines begin that are said of a wrong file, of a right one, and of a guest
+# that breaks a rule and goes.
 LEVELS = (
     ("error", ["<3>", "<3>"]),
     ("warning", ["<3>", "<3>"]),
@@ -323,7 +327,10 @@ def test_what_the_units_start():
     for unit, words in zip(
         UNITS,
         (
-            "/usr/bin/vhost_user_host --leave --status /run/bigvasta-status/socket --config /etc/bigvasta/host.conf",
+            (
+                "/usr/bin/vhost_user_host --leave --status /run/bigvasta-status/socket --config "
+                "/etc/bigvasta/host.conf"
+            ),
             "/usr/bin/bigvasta metrics --listen localhost:9750",
         ),
     ):
@@ -332,7 +339,8 @@ def test_what_the_units_start():
 
 
 def test_the_configuration_of_the_package(program, folder):
-    """With a budget, the file that the package installs is right, and with each line that is a comment in it, too."""
+    """With a budget, the file that the package installs is right, and with each line that is a
+    comment in it, too."""
     with open(f"{ROOT}/packaging/etc/host.conf", encoding="utf-8") as file:
         text = (
             file.read()

@@ -1,4 +1,5 @@
-"""The socket that only shows a host: what would change the host is refused there by name, and all else is answered as at the control socket."""
+"""The socket that only shows a host: what would change the host is refused there by name, and all
+else is answered as at the control socket."""
 
 import json
 import os
@@ -12,7 +13,8 @@ from installed import bigvasta
 
 PAGE, MIB = 4096, 1 << 20
 
-# What would change the host: a request, its fields, the field that is named, and what the refusal says changes the host.
+# What would change the host: a request, its fields, the field that is named, and what the refusal
+# says changes the host.
 CHANGES = (
     ("add", {"name": "b"}, "request", "add"),
     ("add", {}, "request", "add"),

@@ -1,10 +1,12 @@
-"""A client of a control socket that leaves answers unread, though no more than it may, and then reads them: again and again."""
+"""A client of a control socket that leaves answers unread, though no more than it may, and then
+reads them: again and again."""
 
 import json
 
 from hosts import Raw, eventually, say
 
-# Bytes of answers: more than a socket has room for, and no more than that and what the host keeps for a client.
+# Bytes of answers: more than a socket has room for, and no more than that and what the host keeps
+# for a client.
 BYTES = 320 << 10
 
 

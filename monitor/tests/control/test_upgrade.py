@@ -1,5 +1,5 @@
-"""An upgrade of a host whose guests live on: the next host goes on with the processes that there are, and shows which are of another
-version."""
+"""An upgrade of a host whose guests live on: the next host goes on with the processes that there
+are, and shows which are of another version."""
 
 import os
 

@@ -1,4 +1,5 @@
-"""What the client program makes of a status, of events and of keys: lines and what is shown, made of values alone."""
+"""What the client program makes of a status, of events and of keys: lines and what is shown, made
+of values alone."""
 
 import curses
 import types
@@ -43,7 +44,8 @@ def test_keys(key, before, guests, changed):
 
 
 class Clock:
-    """A terminal where keys come at their times, and the clock of a host that is looked at; `looks` are the times of the looks."""
+    """A terminal where keys come at their times, and the clock of a host that is looked at; `looks`
+    are the times of the looks."""
 
     def __init__(self, keys):
         self.now, self.keys, self.wait, self.looks = 0.0, [*keys], 0.0, []
@@ -70,7 +72,8 @@ class Clock:
         self.looks.append(round(self.now, 3))
 
 
-# Keys by their times, and when a host is looked at that is watched each second: a key is no reason to look, and a view that pauses doesn't.
+# Keys by their times, and when a host is looked at that is watched each second: a key is no reason
+# to look, and a view that pauses doesn't.
 LOOKS = (
     (((2.5, "q"),), [1, 2]),
     (((0.3, "s"), (0.6, "s"), (1.5, "s"), (2.5, "q")), [1, 2]),
@@ -130,9 +133,9 @@ def test_what_is_a_warning(fields, kind, below):
 
 def test_what_is_said_of_a_host():
     its = host(held=100, lent=200, missing=9, waiting=3, silent=2, uncooperative=1)
-    assert (
-        summary(its)
-        == "budget 480, held 100, lent 200, missing 9.0 MiB; 2 guests, 3 waiting, 2 silent, 1 uncooperative; version 1.2.3"
+    assert summary(its) == (
+        "budget 480, held 100, lent 200, missing 9.0 MiB; 2 guests, 3 waiting, 2 silent, 1 "
+        "uncooperative; version 1.2.3"
     )
     assert (
         state_line(its, Shown(sort="held", paused=True), "").text
@@ -145,7 +148,8 @@ def test_what_is_said_of_a_host():
 
 
 def test_bars_of_a_host():
-    """Of 600 MiB that guests were promised, in 30 characters: what is held, what is lent beside that, and the budget's mark."""
+    """Of 600 MiB that guests were promised, in 30 characters: what is held, what is lent beside
+    that, and the budget's mark."""
     (_, bar) = host_lines(
         host(budget=480, held=200, lent=300), [{"memory": 600 * MIB}], 32, Shown(blocks="#=. |")
     )

@@ -1,4 +1,5 @@
-"""How a guest's wait for memory ends: what followers are told, and what the host counts. Guests have 128 pages."""
+"""How a guest's wait for memory ends: what followers are told, and what the host counts. Guests
+have 128 pages."""
 
 import threading
 

@@ -19,7 +19,8 @@ pytestmark = pytest.mark.skipif(
 
 
 class Terminal:
-    """A terminal of 100 columns and 14 lines with a server of its own, in which the client program runs."""
+    """A terminal of 100 columns and 14 lines with a server of its own, in which the client program
+    runs."""
 
     def __init__(self, folder, control, *words, locale="C.UTF-8"):
         self.socket = f"{folder}/.tmux"
@@ -87,7 +88,8 @@ class Terminal:
 
 @pytest.fixture
 def opened(folder):
-    """Opens a terminal in which the client program watches a socket; it is closed at the end of the test."""
+    """Opens a terminal in which the client program watches a socket; it is closed at the end of the
+    test."""
     here = []
 
     def begin(*words, **options):
@@ -126,7 +128,8 @@ def test_guests_keys_and_sizes(host, arrive, terminal):
     host.ask("budget", bytes=156 * PAGE)
     eventually(lambda: host.guest("web-2")["target"] == 60 * PAGE)
     shows(terminal, "guest          held   loan target  spare  memory")
-    # Its 128 pages are the whole bar: 68 are held and kept, 60 of them it can spare, and the target leaves it 68.
+    # Its 128 pages are the whole bar: 68 are held and kept, 60 of them it can spare, and the target
+    # leaves it 68.
     shows(
         terminal,
         "web-2           0.5    0.5    0.2    0.2  ██████████████████████│▒▒▒▒▒▒▒▒▒▒▒▒▒▒▒▒▒▒]",

@@ -1,5 +1,5 @@
-"""A Dask scheduler and its workers: as processes of this machine, or each as if on a machine of its own, in a network namespace that a bridge
-ties to the others."""
+"""A Dask scheduler and its workers: as processes of this machine, or each as if on a machine of its
+own, in a network namespace that a bridge ties to the others."""
 
 import contextlib
 import os

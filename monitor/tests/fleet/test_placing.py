@@ -1,4 +1,5 @@
-"""Which host takes a guest, beside a model of the rule in a few lines; and what a fleet answers, beside the replays of its hosts."""
+"""Which host takes a guest, beside a model of the rule in a few lines; and what a fleet answers,
+beside the replays of its hosts."""
 
 import json
 import random
@@ -13,7 +14,8 @@ from planner import run
 
 
 def model(stays, hosts, frames, places):
-    """First fit: the first host with a place left whose guests, with this one, have no more than the frames. Who goes, goes first."""
+    """First fit: the first host with a place left whose guests, with this one, have no more than
+    the frames. Who goes, goes first."""
     here, placed, away = [{} for _ in range(hosts)], {}, []
     for at in sorted({it.start for it in stays.values()} | {it.end for it in stays.values()}):
         for its in here:
@@ -51,8 +53,9 @@ def test_first_fit_as_the_model(library, seed):
         )
 
 
-# Of 100 frames that may be promised: 60 and 40 fill the first host, 50 comes to the second one, and 30 as well. 60 goes, and 51 comes in its place
-# at the same moment; 20 comes beside 50 and 30, and 90 finds no host.
+# Of 100 frames that may be promised: 60 and 40 fill the first host, 50 comes to the second one, and
+# 30 as well. 60 goes, and 51 comes in its place at the same moment; 20 comes beside 50 and 30, and
+# 90 finds no host.
 WORKED_OUT = {
     0: Stay(60, 0, 5),
     1: Stay(40, 0, 9),
@@ -68,8 +71,9 @@ def test_worked_out(library):
     assert place(Promises(library, 2, 100, 64), WORKED_OUT) == ({0: [0, 1, 4], 1: [2, 3, 5]}, [6])
 
 
-# A guest of 100 pages that uses 10, then 80 from 10 on; one that uses 90, then 20 from 20 on (monitor/tests/plan/test_replay.py): on 150 pages one of
-# them waits for 10 s, and asks once more for what its last target lets go.
+# A guest of 100 pages that uses 10, then 80 from 10 on; one that uses 90, then 20 from 20 on
+# (monitor/tests/plan/test_replay.py): on 150 pages one of them waits for 10 s, and asks once more
+# for what its last target lets go.
 TWO = """guest,seconds,size,used
 {0}a,0,409600,40960
 {0}b,0,409600,368640
@@ -81,7 +85,8 @@ TWO = """guest,seconds,size,used
 
 
 def test_hosts_of_a_fleet_are_replayed_as_hosts_alone(shared, tmp_path):
-    """Six such guests on hosts of 150 pages that promise 200: three hosts are alike. A fourth one isn't wanted."""
+    """Six such guests on hosts of 150 pages that promise 200: three hosts are alike. A fourth one
+    isn't wanted."""
     path = tmp_path / "day.csv"
     path.write_text(
         TWO.format("x-") + "".join(TWO.format(it).partition("\n")[2] for it in ("y-", "z-"))
@@ -117,7 +122,8 @@ def test_hosts_of_a_fleet_are_replayed_as_hosts_alone(shared, tmp_path):
 
 
 def test_the_largest_promise_serves(shared, tmp_path):
-    """Both guests on 170 pages wait for nothing. Their 200 pages may be promised from 1.18 times the budget on: below that one finds no host."""
+    """Both guests on 170 pages wait for nothing. Their 200 pages may be promised from 1.18 times
+    the budget on: below that one finds no host."""
     path = tmp_path / "day.csv"
     path.write_text(TWO.format(""))
     words = (

@@ -1,5 +1,6 @@
-"""Where the days of a fleet are replayed: on one process or four, on a Dask scheduler, and on one whose workers are in network namespaces, one of
-them killed amid. The answer is the same, byte by byte. And how far it is, which standard error says."""
+"""Where the days of a fleet are replayed: on one process or four, on a Dask scheduler, and on one
+whose workers are in network namespaces, one of them killed amid. The answer is the same, byte by
+byte. And how far it is, which standard error says."""
 
 import io
 import os
@@ -87,8 +88,8 @@ def test_a_scheduler_of_this_machine(shared, wanted, tmp_path):
 @pytest.mark.timeout(900)
 @pytest.mark.skipif(lacks() != "", reason=lacks())
 def test_a_worker_that_is_killed_amid(shared, tmp_path):
-    """The scheduler and the client are in one namespace, three workers each in their own. One is killed as a tenth is done, with what it has
-    replayed and replays: the others do that anew."""
+    """The scheduler and the client are in one namespace, three workers each in their own. One is
+    killed as a tenth is done, with what it has replayed and replays: the others do that anew."""
     wanted = run(*LARGE, "--library", shared)
     with Machines(tmp_path, f"vb{os.getpid()}") as machines:
         machines.tie(4)
@@ -119,7 +120,8 @@ def test_a_scheduler_that_is_not_there(shared):
     assert time.monotonic() - begin < 20
 
 
-# What somebody at the address of a scheduler says to each connection: nothing, or what is nothing of Dask's.
+# What somebody at the address of a scheduler says to each connection: nothing, or what is nothing
+# of Dask's.
 STRANGERS = {"mute": b"", "speaks otherwise": b"HTTP/1.1 400 Bad Request\r\n\r\n" * 10}
 
 
@@ -131,9 +133,9 @@ def test_somebody_who_is_no_scheduler(shared, words):
         threading.Thread(target=take_all, args=(server, words), daemon=True).start()
         address = f"tcp://127.0.0.1:{server.getsockname()[1]}"
         said = run(*SMALL, "--library", shared, "--scheduler", address, status=3)
-    assert (
-        said
-        == f"bigvasta: --scheduler: who answers at {address} doesn't speak as a Dask scheduler, in 10 s\n"
+    assert said == (
+        f"bigvasta: --scheduler: who answers at {address} doesn't speak as a Dask scheduler, "
+        "in 10 s\n"
     )
     assert time.monotonic() - begin < 30
 
@@ -182,9 +184,9 @@ def test_a_worker_without_the_planner(shared, tmp_path):
         address = machines.scheduler("127.0.0.1", free_port())
         machines.work(address, [()], client=str(tmp_path))
         said = run(*SMALL, "--library", shared, "--scheduler", address, status=2)
-        assert (
-            said
-            == "bigvasta: --scheduler: a worker lacks the module bigvasta: it needs the packages that this machine has\n"
+        assert said == (
+            "bigvasta: --scheduler: a worker lacks the module bigvasta: it needs the packages "
+            "that this machine has\n"
         )
 
 

@@ -1,5 +1,6 @@
-"""Coverage-guided fuzzing of a guest's process (fuzz_guest.c) and of a lender (fuzz_lender.c), by clang's libFuzzer with the checks of addresses and
-of undefined behaviour. Each begins with the inputs of its corpus. In the end a table says which part of the branches of each file all inputs
+"""Coverage-guided fuzzing of a guest's process (fuzz_guest.c) and of a lender (fuzz_lender.c), by
+clang's libFuzzer with the checks of addresses and of undefined behaviour. Each begins with the
+inputs of its corpus. In the end a table says which part of the branches of each file all inputs
 have taken together; of those with a star they have to take 90 in 100."""
 
 import base64
@@ -73,7 +74,8 @@ def keep(name, folder):
 
 
 def branches(program, folder, corpus):
-    """Returns for each file of the backends how many branches it has, and how many the inputs of a corpus take."""
+    """Returns for each file of the backends how many branches it has, and how many the inputs of a
+    corpus take."""
     profile = os.path.join(folder, "profile")
     run(
         program,
@@ -104,7 +106,8 @@ def branches(program, folder, corpus):
 
 
 def check_branches(name, taken):
-    """Prints which part of the branches was taken, and demands most of them of the files that count."""
+    """Prints which part of the branches was taken, and demands most of them of the files that
+    count."""
     counts, missing = FUZZERS[name], []
     for it, (count, covered) in sorted(taken.items()):
         share = 100 * covered / count

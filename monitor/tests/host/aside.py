@@ -16,7 +16,8 @@ def keep_alone(files):
 
 
 def do(act, files, writes):
-    """Does it with these files alone, and writes that it begins, and its numbers; returns the status of the process that does so."""
+    """Does it with these files alone, and writes that it begins, and its numbers; returns the
+    status of the process that does so."""
     try:
         keep_alone({0, 1, 2, writes, *files})
         os.write(writes, json.dumps(act(lambda: os.write(writes, b"\n"))).encode())
@@ -27,7 +28,8 @@ def do(act, files, writes):
 
 
 class Aside:
-    """What a process does that has these files of the test's. It calls what it is given once all is ready for it, and returns numbers."""
+    """What a process does that has these files of the test's. It calls what it is given once all is
+    ready for it, and returns numbers."""
 
     def __init__(self, act, files=()):
         self.reads, writes = os.pipe()

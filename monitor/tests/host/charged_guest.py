@@ -1,9 +1,10 @@
-"""A guest in a process of its own, so that its memory is charged to the cgroup in which it begins. It obeys lines on its standard input,
-and answers each by a line.
+"""A guest in a process of its own, so that its memory is charged to the cgroup in which it begins.
+It obeys lines on its standard input, and answers each by a line.
 
     charged_guest.py FOLDER NAME
 
-    give FIRST COUNT [MOST]    puts these of its pages into its balloon, by requests of at most MOST (256) pages; `done`
+    give FIRST COUNT [MOST]    puts these of its pages into its balloon, by requests of at most MOST
+                               (256) pages; `done`
     take FIRST COUNT [MOST]    takes them out of it; `done`, once that is granted
     write FIRST COUNT          writes into each; `done`
     check FIRST COUNT          `right`, or the first page that hasn't what was last written into it

@@ -25,7 +25,8 @@ PROGRAMS = (
 
 @pytest.fixture(scope="session")
 def plain():
-    """The lender's program as it is installed, beside that of its guests; or one that the environment names."""
+    """The lender's program as it is installed, beside that of its guests; or one that the
+    environment names."""
     return os.environ.get("HOST_PROGRAM") or linux_kit.built("plain/vhost_user_host")
 
 
@@ -71,7 +72,8 @@ def come():
 
 @pytest.fixture
 def beside(lend):
-    """A lender, a client at work, and what tells by how much the host delays it while something is done."""
+    """A lender, a client at work, and what tells by how much the host delays it while something is
+    done."""
     lender = lend(64, "--floor", "0")
     client = Client(lender.add("worker"), lambda: "")
     client.start()

@@ -1,4 +1,5 @@
-"""A run of a host whose guests' processes are killed while balloons move: other processes go on, and Linux notices nothing."""
+"""A run of a host whose guests' processes are killed while balloons move: other processes go on,
+and Linux notices nothing."""
 
 import os
 import signal
@@ -68,7 +69,10 @@ def anew_run(bench):
         )
         demand(
             0 < killer.inflates < killer.killed,
-            f"{killer.inflates} of {killer.killed} processes were killed amid inflates, and the others amid deflates",
+            (
+                f"{killer.inflates} of {killer.killed} processes were killed amid inflates, and "
+                "the others amid deflates"
+            ),
         )
         town.ended.clear()
         finish(town)
@@ -78,4 +82,7 @@ def anew_run(bench):
             [it.guest.why() for it in town.members] == said,
             f"a VMM says {[it.guest.why() for it in town.members]}",
         )
-        return f"{killer.killed} processes killed, {killer.inflates} amid inflates; {checked} sums right, {pages_moved(town)} pages moved"
+        return (
+            f"{killer.killed} processes killed, {killer.inflates} amid inflates; {checked} sums "
+            f"right, {pages_moved(town)} pages moved"
+        )

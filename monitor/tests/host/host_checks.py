@@ -1,4 +1,5 @@
-"""What tests demand of a host of many guests: the rule of targets, worked out once more, and a host at rest."""
+"""What tests demand of a host of many guests: the rule of targets, worked out once more, and a host
+at rest."""
 
 import time
 
@@ -11,7 +12,8 @@ REST_LIMIT, WRONG_LIMIT = 20, 8
 # What Linux does meanwhile: MiB by which two words for one thing may differ.
 SLACK = 2
 
-# Seconds of a period of the host, with what a look takes; and in which a guest gives what it is asked for.
+# Seconds of a period of the host, with what a look takes; and in which a guest gives what it is
+# asked for.
 PERIOD, GIVEN_IN = 0.25, 5
 
 
@@ -24,7 +26,8 @@ def eventually(condition, words, limit=REST_LIMIT):
 
 
 def rule(needs, frames):
-    """Returns the targets for guests with these pages and spares, and by how much they are short."""
+    """Returns the targets for guests with these pages and spares, and by how much they are
+    short."""
     lack = max(0, sum(pages for pages, _ in needs) - frames)
     short = max(0, lack - sum(spare for _, spare in needs))
     lack, targets = lack - short, [0] * len(needs)
@@ -35,8 +38,9 @@ def rule(needs, frames):
 
 
 def most_of(share, floor):
-    """Returns what a guest may be asked for while its old target serves: what it can spare, and an eighth of the floor. Of one that is silent,
-    or took pages itself just now, it is no more than what is in its balloon; of one that waits for pages what it can spare.
+    """Returns what a guest may be asked for while its old target serves: what it can spare, and an
+    eighth of the floor. Of one that is silent, or took pages itself just now, it is no more than
+    what is in its balloon; of one that waits for pages what it can spare.
     """
     ballooned = min(share["ballooned"], share["pages"])
     limits = {
@@ -75,7 +79,8 @@ def check_decision(said, shares):
 
 
 def check_decisions(town):
-    """Demands that each decision since the last time is what the rule says; returns how many there were."""
+    """Demands that each decision since the last time is what the rule says; returns how many there
+    were."""
     decisions = town.host.decisions()
     for said, shares in decisions:
         check_decision(said, shares)
@@ -87,18 +92,23 @@ def finish(town):
     killed = town.finish()
     demand(
         killed == 0,
-        f"{killed} lines of the guests' kernels: {[it.killed()[:1] for it in town.members if it.guest]}",
+        (
+            f"{killed} lines of the guests' kernels: "
+            f"{[it.killed()[:1] for it in town.members if it.guest]}"
+        ),
     )
     check_decisions(town)
 
 
 def window(sample):
-    """Returns the seconds in which what guests took isn't known to the host yet: a period, and as long as a guest didn't tell."""
+    """Returns the seconds in which what guests took isn't known to the host yet: a period, and as
+    long as a guest didn't tell."""
     return PERIOD + sample.silent
 
 
 def growth(samples, of=sum):
-    """Returns by how many MiB at most what the host holds grew before it knew of it, or one guest's part of it."""
+    """Returns by how many MiB at most what the host holds grew before it knew of it, or one guest's
+    part of it."""
     most = 0.0
     for number, it in enumerate(samples):
         before = [
@@ -118,8 +128,9 @@ def growth(samples, of=sum):
 
 
 def check_excess(samples, budget):
-    """Demands that no more is held above the budget than guests are short by, are still to give, and took before the host knew of it; returns the
-    most that is. What guests have outside of their balloons, less the budget, is by the rule what they are short by, with what of their targets
+    """Demands that no more is held above the budget than guests are short by, are still to give,
+    and took before the host knew of it; returns the most that is. What guests have outside of their
+    balloons, less the budget, is by the rule what they are short by, with what of their targets
     isn't in their balloons yet."""
     most, excess = growth(samples), 0.0
     for number, it in enumerate(samples):
@@ -132,13 +143,17 @@ def check_excess(samples, budget):
         excess = max(excess, over)
         demand(
             over <= max(before) + most,
-            f"{over:.1f} MiB above the budget, short by and still to give {max(before):.1f}, growth {most:.1f}",
+            (
+                f"{over:.1f} MiB above the budget, short by and still to give {max(before):.1f}, "
+                f"growth {most:.1f}"
+            ),
         )
     return excess
 
 
 def check_given(samples):
-    """Demands that each guest gives what it is asked for in time; returns the most seconds for which one was below its target."""
+    """Demands that each guest gives what it is asked for in time; returns the most seconds for
+    which one was below its target."""
     most, since = 0.0, {}
     for it in samples:
         for guest, owes in enumerate(it.owes):
@@ -159,7 +174,8 @@ def pages_moved(town):
 
 
 def unrest(town, budget, floor):
-    """Returns what isn't at rest yet: targets that aren't reached or too few, or a guest without its floor. None: all is."""
+    """Returns what isn't at rest yet: targets that aren't reached or too few, or a guest without
+    its floor. None: all is."""
     seen = town.host.guests()
     members = [it for it in town.members if it.guest]
     lack = sum(seen[it.name]["pages"] for it in members) - budget * PAGES_PER_MIB
@@ -169,9 +185,15 @@ def unrest(town, budget, floor):
     for it in members:
         # The host goes by what a guest calls available, of which some holds files that Linux drops.
         if it.guest.available_mib() < floor - SLACK:
-            return f"{it.name} has {it.guest.available_mib():.1f} MiB available, and its floor is {floor}"
+            return (
+                f"{it.name} has {it.guest.available_mib():.1f} MiB available, and its floor is "
+                f"{floor}"
+            )
         if seen[it.name]["ballooned"] != seen[it.name]["target"]:
-            return f"{it.name} has {seen[it.name]['ballooned']} pages in its balloon, and its target is {seen[it.name]['target']}"
+            return (
+                f"{it.name} has {seen[it.name]['ballooned']} pages in its balloon, and its target "
+                f"is {seen[it.name]['target']}"
+            )
     return None
 
 
@@ -193,8 +215,8 @@ def await_rest(town, budget, floor=12, limit=REST_LIMIT):
 
 
 def check_spares(town, floor=12):
-    """Demands that what guests can spare is what they call available themselves and have in the balloon, less the floor, and that
-    the host counts what their memory files hold."""
+    """Demands that what guests can spare is what they call available themselves and have in the
+    balloon, less the floor, and that the host counts what their memory files hold."""
     seen, held = town.host.guests(), sum(town.sample().held)
     counted = town.host.counters()["held_kib"] / 1024
     demand(

@@ -1,5 +1,6 @@
-"""Days of a strict host whose lender is killed again and again, and its guests' processes too: a later lender goes on with the guests, and no
-look finds them above the budget, not even while no lender is there."""
+"""Days of a strict host whose lender is killed again and again, and its guests' processes too: a
+later lender goes on with the guests, and no look finds them above the budget, not even while no
+lender is there."""
 
 import os
 import random
@@ -13,11 +14,12 @@ from host_checks import eventually, finish, pages_moved
 from host_strict import BUDGET, DAY, LEFT, MEMORY, look, outside
 from linux_kit import demand
 
-# Seconds between two ends of the lender on the day of the run; those for which the host then has none; looks at what the guests hold then.
+# Seconds between two ends of the lender on the day of the run; those for which the host then has
+# none; looks at what the guests hold then.
 EVERY, AWAY, LOOKS = 5, 0.5, 5
 
-# Seconds between two ends on a day of hours, of the lender and of a process, at most; and in which what was killed has gone on, on a machine
-# that has other work.
+# Seconds between two ends on a day of hours, of the lender and of a process, at most; and in which
+# what was killed has gone on, on a machine that has other work.
 LONG_EVERY, PROCESS_EVERY, GOES_ON_IN = 90, 30, 120
 
 # Counters of a lender, which the next one counts anew.
@@ -56,7 +58,8 @@ class Town(linux_host.Town):
             self.lenders += 1
 
     def start_next(self):
-        """Starts a lender in the folder of the one before, whose guests it has to find, each where it was."""
+        """Starts a lender in the folder of the one before, whose guests it has to find, each where
+        it was."""
         _, program, folder, budget, options, environment = self.words
         old = self.host
         os.rename(old.log, f"{old.log}.{self.lenders}")
@@ -80,7 +83,8 @@ class Town(linux_host.Town):
 
 
 class Killer(threading.Thread):
-    """Has something killed at times; `act` is done each time, after as many seconds as `rest` says."""
+    """Has something killed at times; `act` is done each time, after as many seconds as `rest`
+    says."""
 
     def __init__(self, town, rest, act):
         super().__init__(daemon=True)
@@ -111,14 +115,17 @@ def check_looks(town, budget):
     above = [it for it in held if it > budget]
     demand(
         not above,
-        f"{len(above)} of {len(held)} looks above the budget, by {max(above, default=0) - budget:.1f} MiB",
+        (
+            f"{len(above)} of {len(held)} looks above the budget, by "
+            f"{max(above, default=0) - budget:.1f} MiB"
+        ),
     )
     return max(held)
 
 
 def day(bench, seconds, rest, others=None):
-    """A day on which the lender is killed each time that `rest` has passed, and a process each time that `others` has; returns the town's
-    figures."""
+    """A day on which the lender is killed each time that `rest` has passed, and a process each time
+    that `others` has; returns the town's figures."""
     guests, budget = bench.crowd(4, BUDGET)
     with bench.town(budget, ("--strict",), kind=Town) as town:
         town.settle_in(guests, MEMORY)
@@ -156,9 +163,18 @@ def figures(town, most, waits):
         town.lenders > 0 and counted["grants"] > 0 and checked > 0,
         f"{town.lenders} lenders killed, {checked} sums: {counted}",
     )
-    looks = f"{len(town.samples)} looks and {len(town.alone)} without a lender, 0 above, peak {most:.0f} of {town.budget} MiB"
-    killed = f"{town.lenders} lenders killed, away for {town.away / town.lenders:.2f} s each, {town.processes} processes"
-    work = f"{counted['grants']} grants, {pages_moved(town)} pages moved, {counted['decisions']} decisions, {checked} sums right"
+    looks = (
+        f"{len(town.samples)} looks and {len(town.alone)} without a lender, 0 above, peak "
+        f"{most:.0f} of {town.budget} MiB"
+    )
+    killed = (
+        f"{town.lenders} lenders killed, away for {town.away / town.lenders:.2f} s each, "
+        f"{town.processes} processes"
+    )
+    work = (
+        f"{counted['grants']} grants, {pages_moved(town)} pages moved, {counted['decisions']} "
+        f"decisions, {checked} sums right"
+    )
     return f"{looks}; {killed}; {work}; {sum(waits)} seconds of waits"
 
 

@@ -1,5 +1,5 @@
-"""A guest that reads all its memory past its driver, within a limit of the kernel's, which is a tmpfs's size or a cgroup's memory: nobody else is
-hurt."""
+"""A guest that reads all its memory past its driver, within a limit of the kernel's, which is a
+tmpfs's size or a cgroup's memory: nobody else is hurt."""
 
 import functools
 import os
@@ -16,10 +16,12 @@ MEMORY, BUDGET, DAY = 256, 480, 10
 # The budget of a pair while the rogue guest has to give: both couldn't have come on that.
 SMALL_BUDGET = 300
 
-# MiB of the rogue guest beside its loan. In a tmpfs: what its kernel keeps, and doesn't hand over; in a cgroup its processes' own memory, too.
+# MiB of the rogue guest beside its loan. In a tmpfs: what its kernel keeps, and doesn't hand over;
+# in a cgroup its processes' own memory, too.
 OVERHEADS = {"tmpfs": 16, "cgroup": 64}
 
-# MiB that each of the others fills, so that the rogue guest has to give, and that it wants itself later; seconds in which that is done.
+# MiB that each of the others fills, so that the rogue guest has to give, and that it wants itself
+# later; seconds in which that is done.
 SQUEEZE, HONEST, DONE_IN = 100, 40, 60
 
 
@@ -38,7 +40,8 @@ def loan_of(town, name):
 
 
 def squeeze(town, rogue, limit, overhead):
-    """Has the other guests want memory until the rogue one has given most of its own, and its limit follows."""
+    """Has the other guests want memory until the rogue one has given most of its own, and its limit
+    follows."""
     if len(town.members) == 2:
         town.host.demand(f"budget {SMALL_BUDGET}")
     for it in town.members:
@@ -92,7 +95,10 @@ def rogue_run(bench, kind):
             ended = read_all(rogue, limit)
             town.members.remove(rogue)
             rogue.kill()
-            return f"it held {held >> 8} of {most >> 8} MiB of {MEMORY}, and ended by: {ended}; {others_go_on(town, budget)}"
+            return (
+                f"it held {held >> 8} of {most >> 8} MiB of {MEMORY}, and ended by: {ended}; "
+                f"{others_go_on(town, budget)}"
+            )
     finally:
         limit.end()
 

@@ -1,5 +1,5 @@
-"""Where the kernel limits what a guest holds: a tmpfs that has its memory file alone, and a cgroup, of the version that has this machine's
-memory. Both are for root."""
+"""Where the kernel limits what a guest holds: a tmpfs that has its memory file alone, and a cgroup,
+of the version that has this machine's memory. Both are for root."""
 
 import contextlib
 import os
@@ -27,7 +27,8 @@ def run(*words):
 
 
 def of_second_version():
-    """Whether cgroups of the second version have limits of memory here, and some more may be made."""
+    """Whether cgroups of the second version have limits of memory here, and some more may be
+    made."""
     try:
         with open(f"{SECOND}/cgroup.subtree_control", encoding="ascii") as its:
             return "memory" in its.read().split() and os.access(SECOND, os.W_OK)

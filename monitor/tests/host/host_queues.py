@@ -1,4 +1,5 @@
-"""A run of a host without any Linux: queues that are long, or that nobody kicks; seats that are taken away; who goes amid a message."""
+"""A run of a host without any Linux: queues that are long, or that nobody kicks; seats that are
+taken away; who goes amid a message."""
 
 import os
 import struct
@@ -45,7 +46,8 @@ def is_used(client, number, count):
 
 
 def long_queue(town):
-    """What a notice leaves on a queue is served at once, and not at the next look, which is a minute away."""
+    """What a notice leaves on a queue is served at once, and not at the next look, which is a
+    minute away."""
     client = comes(town, size=MOST_CHAINS)
     for head in range(MOST_CHAINS):
         client.describe(DEFLATE, head, BUFFERS, 4)
@@ -108,7 +110,8 @@ def seats_that_go(town):
 
 
 def who_goes_amid_a_message(town):
-    """The files that came with half a message are closed: with the process that has them, and not with the host."""
+    """The files that came with half a message are closed: with the process that has them, and not
+    with the host."""
     path = town.host.add("half")
     files = lambda process: len(os.listdir(f"/proc/{process}/fd"))
     before = files(town.host.process.pid)
@@ -168,7 +171,8 @@ def channel_that_nobody_reads(town):
 
 
 def next_one_at_a_seat(town):
-    """Who comes to a seat tells as many statistics as the one before, and takes as many pages back by itself."""
+    """Who comes to a seat tells as many statistics as the one before, and takes as many pages back
+    by itself."""
     path = town.host.add("seat")
     for _ in range(2):
         client = Talker(path, town.host.why, 60)
@@ -189,7 +193,8 @@ def next_one_at_a_seat(town):
 
 
 def memory_once_more(town):
-    """A guest that has its frames keeps them as it hands its memory over again, though there are none for another one."""
+    """A guest that has its frames keeps them as it hands its memory over again, though there are
+    none for another one."""
     client = Talker(f"{town.host.folder}/seat", town.host.why, 60)
     becomes(town, {"pages": 128}, "seat")
     town.host.demand("budget 0")

@@ -1,4 +1,5 @@
-"""A run of a guest on a strict host that reboots, and whose kernel panics, beside others at work."""
+"""A run of a guest on a strict host that reboots, and whose kernel panics, beside others at
+work."""
 
 import random
 import threading
@@ -9,8 +10,9 @@ from host_strict import MEMORY, look
 from linux_host import LEFT
 from linux_kit import demand
 
-# MiB for three guests of which two work; the lives of the third, of which there are half as many under emulation, and the MiB that it fills in
-# each; the most seconds of the work, which ends with those lives.
+# MiB for three guests of which two work; the lives of the third, of which there are half as many
+# under emulation, and the MiB that it fills in each; the most seconds of the work, which ends with
+# those lives.
 BUDGET, LIVES, MOST_FILL, LONGEST_DAY = 560, 8, 90, 600
 
 # The budget of a pair, and the MiB of a floor.
@@ -39,15 +41,17 @@ class Lives(threading.Thread):
 
 
 def limit_of(town, budget):
-    """Returns the MiB that all may use together: what leaves the one that reboots all its memory, which it wants at once then. Where the others wait for
-    more than is left, all would wait for good."""
+    """Returns the MiB that all may use together: what leaves the one that reboots all its memory,
+    which it wants at once then. Where the others wait for more than is left, all would wait for
+    good."""
     return (
         budget - MEMORY - FLOOR - LEFT * (len(town.members) - 1) + town.used_mib(town.members[-1:])
     )
 
 
 def reboots_run(bench):
-    """Two guests at work beside one that reboots and panics: none of them loses a byte, and no look finds more than the budget."""
+    """Two guests at work beside one that reboots and panics: none of them loses a byte, and no look
+    finds more than the budget."""
     guests, budget = bench.crowd(3, BUDGET)
     budget = budget if len(guests) > 2 else PAIR_BUDGET
     with bench.town(budget, ("--strict",), kind=Town) as town:
@@ -70,4 +74,7 @@ def reboots_run(bench):
         went = count if bench.vmm.reboots_anew else count // 2
         seen = tuple(counters[it] for it in ("gone", "admitted", "refused"))
         demand(seen == (went, len(guests) + went, 0), f"{count} lives ended: {counters}")
-        return f"{count} lives ended, half by a panic; {len(town.samples)} looks, 0 above, peak {most:.0f} MiB; {sum(waits)} seconds of waits"
+        return (
+            f"{count} lives ended, half by a panic; {len(town.samples)} looks, 0 above, peak "
+            f"{most:.0f} MiB; {sum(waits)} seconds of waits"
+        )

@@ -1,34 +1,45 @@
-"""The runs of a host that lends several Linux guests more memory than it has, and of such a host with clients that aren't Linux. Under
-QEMU there are two guests at a time, on a host with 360 MiB. The runs:
+"""The runs of a host that lends several Linux guests more memory than it has, and of such a host
+with clients that aren't Linux. Under QEMU there are two guests at a time, on a host with 360 MiB.
+The runs:
 
     lines     command lines, and what the host answers to lines
     spares    what a guest can spare, by its statistics and its balloon, worked out by hand
     seats     what a seat keeps of a guest whose rings stop, and forgets once it has gone
-    queues    long queues, queues that nobody kicks, seats that are taken away, who goes amid a message
+    queues    long queues, queues that nobody kicks, seats that are taken away, who goes amid a
+              message
     worked    three clients that aren't Linux, whose targets are worked out by hand
     many      the same for 64 clients
-    marks     the pages in a guest's balloon as its memory comes and goes, beside a set that is kept here
+    marks     the pages in a guest's balloon as its memory comes and goes, beside a set that is kept
+              here
     tells     who gives, what a floor changes, and what of a deflate was taken
-    files     a host that has no files left, that is ended by a signal, and of whose clients there is much to say
-    shift-N   four guests at work on a host with 560 MiB, who use together what there is less 60 MiB at most: three days,
-              in the last of which guests and host notify each other by events, not by messages
-    greedy    four guests who want more than there is: the host says by how much it is short, and holds no more than that
+    files     a host that has no files left, that is ended by a signal, and of whose clients there
+              is much to say
+    shift-N   four guests at work on a host with 560 MiB, who use together what there is less 60 MiB
+              at most: three days, in the last of which guests and host notify each other by events,
+              not by messages
+    greedy    four guests who want more than there is: the host says by how much it is short, and
+              holds no more than that
     strict    a day that fits on a strict host: at no look do they hold more than the budget
     bare      the first of the days without balloons: it goes over the budget
     rest      what the targets are once nothing moves, and once a guest has gone
-    lives     a guest that is killed while its balloon is filled, and comes back; one that doesn't answer
+    lives     a guest that is killed while its balloon is filled, and comes back; one that doesn't
+              answer
     anew      guests at work whose processes are killed a hundred times, amid inflates and deflates
     killed    a strict day on which the lender is killed every 5 seconds
-    upgrades  a strict day on which the lender and guests' processes become programs of another version, ten times
+    upgrades  a strict day on which the lender and guests' processes become programs of another
+              version, ten times
     reboots   a guest that reboots and panics, beside two at work
     wants     four guests that all want 150 MiB at once, on a strict host that can't give it
     cache     three guests that can let go page cache alone
-    rogue-X   a guest that reads all its memory past its driver, beside two at work: within a tmpfs, and within a cgroup
+    rogue-X   a guest that reads all its memory past its driver, beside two at work: within a tmpfs,
+              and within a cgroup
     full      a guest for whom there is no room; a budget that is too small for a while
-    trash     clients that break rules, hang in mid-message, or cut their memory off, beside guests at work
+    trash     clients that break rules, hang in mid-message, or cut their memory off, beside guests
+              at work
 
-After each run: kept bytes have their sums, no process was killed, the guests' kernels find no fault, and each decision that
-the host has logged is what the rule says of its needs, worked out once more here. Every wait has a limit.
+After each run: kept bytes have their sums, no process was killed, the guests' kernels find no
+fault, and each decision that the host has logged is what the rule says of its needs, worked out
+once more here. Every wait has a limit.
 """
 
 import functools
@@ -76,13 +87,15 @@ DAY, LONGEST_DAY = 40, 160
 # Of this many looks one may be above the budget.
 LOOKS_FOR_ONE = 200
 
-# The budget of a pair of guests, in MiB. As the second comes, the first has to spare what is missing, and more isn't there then.
+# The budget of a pair of guests, in MiB. As the second comes, the first has to spare what is
+# missing, and more isn't there then.
 OF_A_PAIR = 360
 
 # MiB by which a budget is less than what guests use, with their floors.
 TOO_LITTLE = 20
 
-# Runs that an emulator can't have: it takes more memory itself than its guest, so that a cgroup would limit the wrong one.
+# Runs that an emulator can't have: it takes more memory itself than its guest, so that a cgroup
+# would limit the wrong one.
 OF_UML_ALONE = ("rogue-cgroup",)
 
 # Each wrong host, and the run that has to fail for it.
@@ -116,7 +129,10 @@ def shift_run(bench, seed):
         )
         demand(pages_moved(town) > 0, "no page moved")
         peak = max(sum(it.held) for it in town.samples)
-        return f"peak {peak:.0f} of {budget} MiB, {len(above)} of {looks} looks above, {pages_moved(town)} pages moved"
+        return (
+            f"peak {peak:.0f} of {budget} MiB, {len(above)} of {looks} looks above, "
+            f"{pages_moved(town)} pages moved"
+        )
 
 
 def greedy_run(bench):
@@ -134,7 +150,10 @@ def greedy_run(bench):
         short = max(it.short for it in town.samples)
         above = len(town.above())
         looks = f"{above} of {len(town.samples)} looks above, by {excess:.0f} MiB at most"
-        return f"short {shorts} times, by {short:.0f} MiB at most; {looks}; a guest is below its target for {below:.1f} seconds at most"
+        return (
+            f"short {shorts} times, by {short:.0f} MiB at most; {looks}; a guest is below its "
+            f"target for {below:.1f} seconds at most"
+        )
 
 
 def bare_run(bench):
@@ -160,7 +179,8 @@ def bare_run(bench):
 
 
 def want_a_little(town, budget):
-    """A guest whose balloon has all that it could spare needs less than its floor: it gets it, and doesn't take it itself."""
+    """A guest whose balloon has all that it could spare needs less than its floor: it gets it, and
+    doesn't take it itself."""
     seen = town.host.guests()
     member = max(town.members, key=lambda it: seen[it.name]["target"])
     left = (seen[member.name]["spare"] - seen[member.name]["target"]) // PAGES_PER_MIB
@@ -209,7 +229,8 @@ def rest_run(bench):
 
 
 def kill_in_mid_inflate(town):
-    """Kills the guest of least target while its balloon is filled with nearly all that it can spare; returns it."""
+    """Kills the guest of least target while its balloon is filled with nearly all that it can
+    spare; returns it."""
     seen = town.host.guests()
     victim = min(town.members, key=lambda it: seen[it.name]["target"])
     before, target = seen[victim.name]["ballooned"], seen[victim.name]["spare"] * 9 // 10
@@ -227,7 +248,8 @@ def kill_in_mid_inflate(town):
 
 
 def lives_run(bench):
-    """A guest that is killed in mid-inflate and comes back, and one that doesn't answer for a while."""
+    """A guest that is killed in mid-inflate and comes back, and one that doesn't answer for a
+    while."""
     guests, budget = bench.crowd(3, 480)
     with bench.town(budget) as town:
         town.settle_in(guests, MEMORY)
@@ -273,7 +295,8 @@ def silence(town, victim, others):
 
 
 def full_run(bench):
-    """A guest for whom there is no room is refused until another one goes; so is a budget that is too small told."""
+    """A guest for whom there is no room is refused until another one goes; so is a budget that is
+    too small told."""
     guests, budget = bench.crowd(3, 480)
     with bench.town(budget) as town:
         town.settle_in(guests, MEMORY)
@@ -370,11 +393,13 @@ class Bench:
         self.vmm.demand_room(4 * MEMORY)
 
     def crowd(self, count, budget):
-        """Returns the names of `count` guests, and their budget; those of a pair, where the VMM has no more at a time."""
+        """Returns the names of `count` guests, and their budget; those of a pair, where the VMM has
+        no more at a time."""
         return (names(count), budget) if count <= self.vmm.most_guests else (names(2), OF_A_PAIR)
 
     def town(self, budget, options=(), checked=False, uncounted=False, kind=linux_host.Town):
-        """Returns a host without guests: with the compiler's checks, or one that ends where it counts a guest's whole set; a town of this kind."""
+        """Returns a host without guests: with the compiler's checks, or one that ends where it
+        counts a guest's whole set; a town of this kind."""
         self.count += 1
         of = (
             "wrong-plain"

@@ -1,5 +1,5 @@
-"""Runs of a host without any Linux: what a guest can spare by its statistics, worked out by hand, and what its seat keeps and
-forgets. Its guests are clients of 128 pages, in two regions."""
+"""Runs of a host without any Linux: what a guest can spare by its statistics, worked out by hand,
+and what its seat keeps and forgets. Its guests are clients of 128 pages, in two regions."""
 
 import os
 import struct
@@ -40,7 +40,8 @@ def becomes(town, wanted, name="a"):
 
 
 def spares_run(bench):
-    """What a guest can spare, of 128 pages, while the host asks nobody: its period is longer than the run."""
+    """What a guest can spare, of 128 pages, while the host asks nobody: its period is longer than
+    the run."""
     with bench.town(1, ("--floor", "0", "--period", "60000"), checked=True) as town:
         client = Talker(town.host.add("a"), town.host.why, 60)
         becomes(town, {"free": 60, "spare": 60, "answers": 1, "ballooned": 0})
@@ -65,7 +66,8 @@ def spares_run(bench):
         client.free = 2**52 - 1
         client.tell_again(town)
         becomes(town, {"free": 128, "spare": 128})
-        # A floor of 256 pages leaves nothing; without a figure for free pages, what is ballooned can be spared.
+        # A floor of 256 pages leaves nothing; without a figure for free pages, what is ballooned
+        # can be spared.
         town.host.demand("floor 1")
         becomes(town, {"spare": 0})
         client.tag = TOTAL_MEMORY
@@ -133,7 +135,8 @@ def plugged_again(town, client):
 
 
 def memory_by_regions(town, client):
-    """A guest's pages are those of its regions; the set of ballooned ones grows with them, and keeps what it has."""
+    """A guest's pages are those of its regions; the set of ballooned ones grows with them, and
+    keeps what it has."""
     client.negotiate(protocol=OFFERED)
     region(client, 0, ADD_MEM_REG)
     for number in range(4):
@@ -153,8 +156,8 @@ def memory_by_regions(town, client):
 
 
 def reminded_by_its_balloon(town, client):
-    """A guest is reminded of its target while its balloon, by the set, is off it: whatever it says of that itself. One that
-    doesn't answer isn't reminded any longer."""
+    """A guest is reminded of its target while its balloon, by the set, is off it: whatever it says
+    of that itself. One that doesn't answer isn't reminded any longer."""
     town.host.demand("a target 5")
     before = told(town)
     time.sleep(1)
@@ -203,7 +206,8 @@ def told(town):
 
 
 def room_for_more(town):
-    """Guests come, and their memory grows, while a guest of 128 pages is there on 256 frames; returns them."""
+    """Guests come, and their memory grows, while a guest of 128 pages is there on 256 frames;
+    returns them."""
     third = Client(town.host.add("b"), town.host.why)
     third.negotiate(protocol=OFFERED)
     for number in (0, 1):
@@ -248,7 +252,10 @@ def seats_run(bench):
         reminded_by_its_balloon(town, client)
         client.leave()
         nothing = dict.fromkeys(
-            "here ready pages held_kib ballooned target free spare answers inflated taken statistics".split(),
+            (
+                "here ready pages held_kib ballooned target free spare answers inflated taken "
+                "statistics"
+            ).split(),
             0,
         )
         becomes(town, nothing)
@@ -257,7 +264,8 @@ def seats_run(bench):
         plugged_again(town, second)
         memory_by_regions(town, second)
         becomes(town, {"answers": 0, "spare": 1, "statistics": 0, "target": 0})
-        # It counts for what it holds, since it never tells its statistics: all its pages from now on.
+        # It counts for what it holds, since it never tells its statistics: all its pages from now
+        # on.
         for file in second.files:
             os.posix_fallocate(file, 0, os.fstat(file).st_size)
         becomes(town, {"held_kib": 4 * 128})

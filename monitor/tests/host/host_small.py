@@ -1,5 +1,5 @@
-"""Runs of a host without any Linux: what it answers to lines, and targets that are worked out by hand. Its guests are clients
-of 128 pages."""
+"""Runs of a host without any Linux: what it answers to lines, and targets that are worked out by
+hand. Its guests are clients of 128 pages."""
 
 import os
 import select
@@ -125,7 +125,8 @@ def told_three_times(client):
 
 
 def decisions_are_kept(town):
-    """Each change of the budget is a decision; of more than 512 since the last `log` the last ones are there."""
+    """Each change of the budget is a decision; of more than 512 since the last `log` the last ones
+    are there."""
     town.host.decisions()
     for mib in range(7, 7 + 600):
         town.host.demand(f"budget {mib}")
@@ -185,7 +186,8 @@ def targets_of(town):
 
 
 def targets_become(town, clients, wanted):
-    """Answers all questions until the targets are these, and for a while after that, in which they have to stay so."""
+    """Answers all questions until the targets are these, and for a while after that, in which they
+    have to stay so."""
 
     def targets():
         for it in clients:
@@ -304,7 +306,8 @@ def short_by_hand(town, clients):
 
 
 def many_run(bench):
-    """64 guests of 128 pages, who can spare 60 each, on 5,120 frames: 3,072 are missing, which are 51 times 60 and 12."""
+    """64 guests of 128 pages, who can spare 60 each, on 5,120 frames: 3,072 are missing, which are
+    51 times 60 and 12."""
     with bench.town(40, ("--floor", "0"), checked=True) as town:
         clients = [Talker(town.host.add(f"guest-{it}"), town.host.why, 60) for it in range(64)]
         targets_become(town, clients, 64 * (0,))

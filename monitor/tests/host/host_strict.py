@@ -1,5 +1,6 @@
-"""A day of a host that is strict: what is lent to guests never passes the budget, none of their processes is killed, and a replay of what they
-asked for and gave grants the same, within the time between two looks."""
+"""A day of a host that is strict: what is lent to guests never passes the budget, none of their
+processes is killed, and a replay of what they asked for and gave grants the same, within the time
+between two looks."""
 
 from host_checks import eventually, finish, pages_moved
 from linux_guest import PAGES_PER_MIB
@@ -11,7 +12,8 @@ MEMORY, BUDGET, DAY = 256, 560, 40
 
 
 def outside(town):
-    """Returns the MiB of each guest's file that it hasn't handed over: its kernel keeps them, and they aren't in the budget."""
+    """Returns the MiB of each guest's file that it hasn't handed over: its kernel keeps them, and
+    they aren't in the budget."""
     seen = town.host.guests()
     return [it.memory - seen[it.name]["pages"] / PAGES_PER_MIB for it in town.members]
 
@@ -24,7 +26,8 @@ def look(town, waits):
 
 
 def compare(bench, recorder):
-    """Demands that a replay of the recorded day grants the same; returns how far the two are apart at most, in seconds."""
+    """Demands that a replay of the recorded day grants the same; returns how far the two are apart
+    at most, in seconds."""
     try:
         from bigvasta.plan import checking, lending, library
     except ImportError:
@@ -62,5 +65,8 @@ def strict_run(bench):
             grants > 0 and pages_moved(town) > 0,
             f"{grants} grants, {pages_moved(town)} pages moved: nothing was lent",
         )
-        said = f"{len(town.samples)} looks, 0 above, peak {most:.0f} of {budget} MiB; {grants} grants, {sum(waits)} seconds of waits"
+        said = (
+            f"{len(town.samples)} looks, 0 above, peak {most:.0f} of {budget} MiB; {grants} "
+            f"grants, {sum(waits)} seconds of waits"
+        )
         return f"{said}; the replay grants the same, {apart:.1f} s apart"

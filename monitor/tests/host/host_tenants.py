@@ -1,5 +1,6 @@
-"""Runs of a host without any Linux: the pages in a guest's balloon as its memory comes and goes, beside a set that is kept here;
-what is told of taken pages; and a host that has no files left. Its guests are clients of 128 pages."""
+"""Runs of a host without any Linux: the pages in a guest's balloon as its memory comes and goes,
+beside a set that is kept here; what is told of taken pages; and a host that has no files left. Its
+guests are clients of 128 pages."""
 
 import os
 import random
@@ -47,8 +48,8 @@ def served(client, number, pages):
 
 
 def marks_by_chance(town, kept):
-    """What is in the balloon, beside a set that is kept here: pages go in, out, in again, and with their region; the other one, where
-    the rings are, stays."""
+    """What is in the balloon, beside a set that is kept here: pages go in, out, in again, and with
+    their region; the other one, where the rings are, stays."""
     client = Client(f"{town.host.folder}/a", town.host.why)
     client.region, other = kept, 1 - kept
     client.negotiate(protocol=OFFERED)
@@ -84,8 +85,8 @@ def marks_by_chance(town, kept):
 
 
 def memory_that_stays(town):
-    """The same memory keeps its pages in the balloon as it is handed over once more; memory elsewhere has none, nor has memory
-    where a hole was that somebody named."""
+    """The same memory keeps its pages in the balloon as it is handed over once more; memory
+    elsewhere has none, nor has memory where a hole was that somebody named."""
     client = Client(f"{town.host.folder}/a", town.host.why)
     client.start()
     served(client, INFLATE, [PAGES, PAGES + 63, OF_REGION[0][63]])
@@ -112,7 +113,8 @@ def memory_that_stays(town):
 
 
 def set_of_a_large_memory(town):
-    """One page in the balloon of a memory that ends at 64 GiB: a thousand messages take no longer for it."""
+    """One page in the balloon of a memory that ends at 64 GiB: a thousand messages take no longer
+    for it."""
     client = Client(f"{town.host.folder}/a", town.host.why)
     client.negotiate(protocol=OFFERED)
     region(client, 0, ADD_MEM_REG)
@@ -194,7 +196,8 @@ def deflate_over_the_target(town):
 
 
 def who_does_not_answer(bench):
-    """A guest that doesn't answer any longer can spare what is in its balloon, whatever it said before."""
+    """A guest that doesn't answer any longer can spare what is in its balloon, whatever it said
+    before."""
     with bench.town(5, ("--floor", "0", "--period", "50"), checked=True) as town:
         client = Talker(town.host.add("a"), town.host.why, 60)
         served(client, INFLATE, list(range(PAGES, PAGES + 10)))
@@ -216,7 +219,8 @@ def tells_run(bench):
 
 
 def no_file_left(town):
-    """A host that has no file left says so and rests; who is served is served, and who waits comes once there is one."""
+    """A host that has no file left says so and rests; who is served is served, and who waits comes
+    once there is one."""
     client = Client(town.host.add("a"), town.host.why)
     client.start()
     path, process = town.host.add("b"), town.host.process.pid
@@ -254,7 +258,8 @@ def break_a_rule(town, path):
 
 
 def lines_of_a_client(town):
-    """Who comes again and again, and breaks a rule each time, has five lines a second of the clock, and one that says that there are more."""
+    """Who comes again and again, and breaks a rule each time, has five lines a second of the clock,
+    and one that says that there are more."""
     path, before = town.host.add("c"), os.path.getsize(town.host.log)
     time.sleep(1 - time.monotonic() % 1)
     begin = time.monotonic()
@@ -315,7 +320,8 @@ def ends_by_signals(bench):
 
 
 def files_run(bench):
-    """A host without files, with clients that have too much to be said of, and one that is ended."""
+    """A host without files, with clients that have too much to be said of, and one that is
+    ended."""
     ends_by_signals(bench)
     with bench.town(5, ("--floor", "0", "--period", "60000", "--lines", "5"), checked=True) as town:
         no_file_left(town)

@@ -1,5 +1,6 @@
-"""A strict day of a host that is upgraded again and again: by `bigvasta upgrade` the lender and its guests' processes become the programs that are
-installed now, whose version is another each time. Linux and its VMM notice nothing."""
+"""A strict day of a host that is upgraded again and again: by `bigvasta upgrade` the lender and its
+guests' processes become the programs that are installed now, whose version is another each time.
+Linux and its VMM notice nothing."""
 
 import time
 
@@ -85,4 +86,7 @@ def upgrades_run(bench):
         )
         demand(counted["grants"] > 0 and checked > len(guests), f"{checked} sums: {counted}")
         looks = f"{len(town.samples)} looks, 0 above, peak {most:.0f} of {budget} MiB"
-        return f"{town.upgrades} upgrades; {looks}; {counted['grants']} grants, {pages_moved(town)} pages moved, {checked} sums right"
+        return (
+            f"{town.upgrades} upgrades; {looks}; {counted['grants']} grants, {pages_moved(town)} "
+            f"pages moved, {checked} sums right"
+        )

@@ -1,5 +1,5 @@
-"""Runs of guests that want more than there is: four that all want 150 MiB at once, on a strict host that can't give it; and three whose memory is
-full of what Linux can let go at once."""
+"""Runs of guests that want more than there is: four that all want 150 MiB at once, on a strict host
+that can't give it; and three whose memory is full of what Linux can let go at once."""
 
 import threading
 import time
@@ -10,14 +10,16 @@ from linux_guest import PAGES_PER_MIB
 from linux_host import Member
 from linux_kit import Fault, demand
 
-# What each of four guests wants at once, in MiB. With what Linux and kept bytes take, 55 to 70 MiB, that is 205 to 220 each: 560 MiB have room for
-# two, or for a part of what each wants. All four have it with 840. A pair under QEMU wants as much of its budget.
+# What each of four guests wants at once, in MiB. With what Linux and kept bytes take, 55 to 70 MiB,
+# that is 205 to 220 each: 560 MiB have room for two, or for a part of what each wants. All four
+# have it with 840. A pair under QEMU wants as much of its budget.
 WANTED, ALL_HAVE_IT = 150, 840
 
 # Seconds in which all wait and nobody is granted anything, and MiB by which the budget grows then.
 STALLS, GROWS = 3, 64
 
-# MiB of files that each of three guests reads, and the budget on which that is too much; a pair's is two thirds of it.
+# MiB of files that each of three guests reads, and the budget on which that is too much; a pair's
+# is two thirds of it.
 CACHE, CACHE_BUDGET, CACHE_MEMORY = 150, 400, 256
 
 # Seconds in which a target is reached.
@@ -25,7 +27,8 @@ REACHED_IN = 60
 
 
 class Want(threading.Thread):
-    """A guest that wants memory at once, and frees it once it has had it for a moment and is let (`free`)."""
+    """A guest that wants memory at once, and frees it once it has had it for a moment and is let
+    (`free`)."""
 
     def __init__(self, member, free):
         super().__init__(daemon=True)
@@ -45,7 +48,8 @@ class Want(threading.Thread):
 
 
 def stalled(town, wants):
-    """Looks until a guest has what it wants, or until all that haven't wait for the same for a while; whether they do."""
+    """Looks until a guest has what it wants, or until all that haven't wait for the same for a
+    while; whether they do."""
     count, since = sum(it.has for it in wants), time.monotonic()
     grants, waited = town.host.counters()["grants"], False
     while time.monotonic() - since < STALLS and sum(it.has for it in wants) == count:
@@ -67,7 +71,8 @@ def check_within(town, begin, budget):
 
 
 def wants_run(bench):
-    """Four guests that want 150 MiB at once wait, and none of their processes is killed; all are served, one after the other, as there is room."""
+    """Four guests that want 150 MiB at once wait, and none of their processes is killed; all are
+    served, one after the other, as there is room."""
     guests, budget = bench.crowd(4, BUDGET)
     first, most, begin, free = budget, budget * ALL_HAVE_IT // BUDGET, 0, threading.Event()
     with bench.town(budget, ("--strict",)) as town:
@@ -96,7 +101,10 @@ def wants_run(bench):
             "a guest waits for good",
         )
         finish(town)
-        return f"all {len(guests)} waited on {first} MiB, and were served in turn with {budget}; {town.host.counters()['grants']} grants"
+        return (
+            f"all {len(guests)} waited on {first} MiB, and were served in turn with {budget}; "
+            f"{town.host.counters()['grants']} grants"
+        )
 
 
 def read_files(member):
@@ -115,7 +123,8 @@ def disk_of(folder):
 
 
 def cache_run(bench):
-    """Three guests whose page cache is all that they could let go give it: their targets are reached."""
+    """Three guests whose page cache is all that they could let go give it: their targets are
+    reached."""
     guests, _ = bench.crowd(3, CACHE_BUDGET)
     budget = CACHE_BUDGET * len(guests) // 3
     with bench.town(len(guests) * CACHE_MEMORY) as town:
@@ -140,4 +149,7 @@ def cache_run(bench):
         demand(held <= budget, f"{held:.0f} MiB are held of {budget}")
         finish(town)
         given = " ".join(str(it["ballooned"] // PAGES_PER_MIB) for it in seen.values())
-        return f"{len(guests)} guests with {CACHE} MiB of page cache each give {given} MiB; {held:.0f} of {budget} MiB are held"
+        return (
+            f"{len(guests)} guests with {CACHE} MiB of page cache each give {given} MiB; "
+            f"{held:.0f} of {budget} MiB are held"
+        )

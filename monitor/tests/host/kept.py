@@ -1,4 +1,5 @@
-"""What a guest's process keeps for the next one (monitor/backends/guest/kept.h): its fields by the headers, and their values in the memfd of a process."""
+"""What a guest's process keeps for the next one (monitor/backends/guest/kept.h): its fields by the
+headers, and their values in the memfd of a process."""
 
 import functools
 import glob
@@ -60,7 +61,8 @@ def structs():
 
 
 def leaves(struct, name="", expression="", arrays=()):
-    """Yields each field below a struct: its name, its type, its C expression, and those of the arrays of structs that it is in."""
+    """Yields each field below a struct: its name, its type, its C expression, and those of the
+    arrays of structs that it is in."""
     for of, declared in structs()[struct]:
         own, count = re.match(r"(\w+)(?:\[(.*)\])?", declared).groups()
         inner, here = of.removeprefix("struct "), f"{expression}.{own}"
@@ -76,16 +78,21 @@ def leaves(struct, name="", expression="", arrays=()):
 
 
 def layout_program():
-    """Returns a C program that says where each field lies, how large it is, and how many there are of it with which distance."""
+    """Returns a C program that says where each field lies, how large it is, and how many there are
+    of it with which distance."""
     lines = []
     for name, of, expression, arrays in leaves("kept"):
-        at = f"(size_t)&((struct kept *)0)->{expression[1:]}, sizeof ((struct kept *)0)->{expression[1:]}"
+        at = (
+            f"(size_t)&((struct kept *)0)->{expression[1:]}, sizeof ((struct kept "
+            f"*)0)->{expression[1:]}"
+        )
         steps = [
             f"sizeof ((struct kept *)0)->{it[1:]}[0], sizeof ((struct kept *)0)->{it[1:]}"
             for it in arrays
         ]
         lines.append(
-            f'printf("{name} {of.split()[0]}{" %zu" * (2 + 2 * len(steps))}\\n", {", ".join([at, *steps])});'
+            f'printf("{name} {of.split()[0]}{" %zu" * (2 + 2 * len(steps))}\\n", '
+            f'{", ".join([at, *steps])});'
         )
     return (
         '#include "kept.h"\n#include <stdio.h>\nint main(void) {\n'
@@ -96,7 +103,8 @@ def layout_program():
 
 @functools.cache
 def layout():
-    """Returns the place of each field: its type, its offset, its size, and the distance and the whole size of each array that it is in."""
+    """Returns the place of each field: its type, its offset, its size, and the distance and the
+    whole size of each array that it is in."""
     with tempfile.TemporaryDirectory() as folder:
         program = f"{folder}/layout"
         words = [
@@ -119,7 +127,8 @@ def layout():
 
 
 def short(name):
-    """Returns a field's name: of a state without `states`, as the one that counts is meant; of all else with `kept`."""
+    """Returns a field's name: of a state without `states`, as the one that counts is meant; of all
+    else with `kept`."""
     return name.removeprefix("states.") if name.startswith("states.") else f"kept.{name}"
 
 
@@ -166,7 +175,8 @@ class Kept:
             return next(map(int, children.read().split()), None)
 
     def kill(self, lender):
-        """Kills the process, and waits until the next one has kept what it goes on with. The lender stands still meanwhile: it says nothing."""
+        """Kills the process, and waits until the next one has kept what it goes on with. The lender
+        stands still meanwhile: it says nothing."""
         stop(lender.process.pid) if lender.is_there() else None
         stop(self.process)
         turns = self["kept.turns"]
@@ -226,8 +236,8 @@ class Life:
         self.is_used(INFLATE, count)
 
     def tells(self, count):
-        """Tells statistics for this time, 100 pages are free, and 90 available; the next ones are asked for in vain. Those that are held the next process
-        hears again."""
+        """Tells statistics for this time, 100 pages are free, and 90 available; the next ones are
+        asked for in vain. Those that are held the next process hears again."""
         self.client.write(
             BUFFERS + PAGE, struct.pack("<HQHQ", FREE, 100 * PAGE, AVAILABLE, 90 * PAGE)
         )

@@ -1,4 +1,5 @@
-"""A guest's process that a test plays: it tells the lender what the test wants, and notes what it is told."""
+"""A guest's process that a test plays: it tells the lender what the test wants, and notes what it
+is told."""
 
 import ctypes
 import os
@@ -11,7 +12,8 @@ from tenants import eventually
 
 PAGES_PER_KIB = 4
 
-# What a lender and a process say to each other (monitor/backends/host/message.h), which stays from version to version.
+# What a lender and a process say to each other (monitor/backends/host/message.h), which stays from
+# version to version.
 VERSION, ORDER_LOOK, ORDER_TARGET, ORDER_GRANT, ORDER_LEAVE, TELL_REPORT, WAIT_ROOM = (
     1,
     1,
@@ -66,7 +68,8 @@ class Message(ctypes.Structure):
 
 
 class Listens:
-    """The socket where a lender finds a guest's process. Another process listens there, of this user: that is the one which the lender knows."""
+    """The socket where a lender finds a guest's process. Another process listens there, of this
+    user: that is the one which the lender knows."""
 
     def __init__(self, folder, name, user=None):
         self.socket = socket.socket(socket.AF_UNIX, socket.SOCK_SEQPACKET)
@@ -105,8 +108,9 @@ class Listens:
 
 
 class Played(threading.Thread):
-    """The process of a strict guest, which an earlier lender might have started; these numbers are in its first report. Its reports have a target once
-    it has heard that, where `hears` says so. It `listens` already where its lender finds it as that begins.
+    """The process of a strict guest, which an earlier lender might have started; these numbers are
+    in its first report. Its reports have a target once it has heard that, where `hears` says so. It
+    `listens` already where its lender finds it as that begins.
     """
 
     def __init__(self, lender, name, hears=False, listens=None, **its):

@@ -1,4 +1,5 @@
-"""A lender for tests, and guests that answer it: clients of 128 pages, which tell what they are set to."""
+"""A lender for tests, and guests that answer it: clients of 128 pages, which tell what they are set
+to."""
 
 import contextlib
 import os
@@ -11,7 +12,8 @@ import linux_host
 from vhost_client import BUFFERS, DEFLATE, INFLATE, PAGE, REGIONS, STATISTICS, Client
 from waiting import PATIENCE, eventually
 
-# Tags of statistics (VIRTIO 1.1, 5.5.6.3), and the first pages of a client's regions: the first region has its rings.
+# Tags of statistics (VIRTIO 1.1, 5.5.6.3), and the first pages of a client's regions: the first
+# region has its rings.
 FREE, AVAILABLE = 4, 6
 PAGES_OF_ALL, PAGES = (it[0] // PAGE for it in REGIONS)
 
@@ -46,7 +48,8 @@ class Lender(linux_host.Host):
 
 
 class Guest(threading.Thread):
-    """A guest whose driver answers each question by these figures, and obeys its target, as Linux does."""
+    """A guest whose driver answers each question by these figures, and obeys its target, as Linux
+    does."""
 
     def __init__(self, lender, name, figures, obeys=True, folder=None, client=Client):
         super().__init__(daemon=True)

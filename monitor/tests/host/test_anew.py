@@ -1,4 +1,5 @@
-"""A guest's process that ends amid its work, and another one that goes on with it on the same client, which notices nothing."""
+"""A guest's process that ends amid its work, and another one that goes on with it on the same
+client, which notices nothing."""
 
 import os
 import random
@@ -29,7 +30,8 @@ WIDE = ("--floor", "0", "--period", "100", "--step", "0")
 # Places where a process is cut off: more and fewer than these are come by.
 LEAST_CUTS, MOST_CUTS = 300, 1500
 
-# How often a process is killed, within how many seconds from when it begins to be busy, and the pages that go into a balloon and out of it meanwhile.
+# How often a process is killed, within how many seconds from when it begins to be busy, and the
+# pages that go into a balloon and out of it meanwhile.
 KILLS = 100
 KILL_WITHIN = 0.01
 GIVEN = [*range(PAGES_OF_ALL + 28, PAGES_OF_ALL + 64), *range(PAGES, PAGES + 64)]
@@ -53,7 +55,8 @@ def is_told(client, number):
 
 
 def serve(client, number, requests):
-    """Has requests of pages served, all at once: each is used once, in order, and the driver is told."""
+    """Has requests of pages served, all at once: each is used once, in order, and the driver is
+    told."""
     begun = client.available[number]
     for place, pages in enumerate(requests):
         head, buffer = (begun + place) % SIZE, BUFFERS + (number * SIZE + place) * 256
@@ -102,7 +105,8 @@ def live(client, begin):
 
 BEGINS = {"messages": Client.start, "events": Client.start_by_events}
 
-# What a strict guest is granted in such a life: its memory, at once or in two parts, and two deflates.
+# What a strict guest is granted in such a life: its memory, at once or in two parts, and two
+# deflates.
 GRANTS = {Client.start: 3, Client.start_by_events: 4}
 
 
@@ -138,13 +142,15 @@ def cut_everywhere(lender, begin, places, strict):
 @pytest.mark.parametrize("strict, each", (((), 5), (("--strict",), 1)), ids=("at-once", "strict"))
 @pytest.mark.parametrize("way", BEGINS)
 def test_a_process_that_is_cut_off_anywhere(lend, cutting, way, strict, each):
-    # A strict guest's process does what another one does, and more: of the other's places some are enough.
+    # A strict guest's process does what another one does, and more: of the other's places some are
+    # enough.
     lender = lend(64, *WIDE, *strict, "--lines", "10000", "--program", cutting)
     place = cut_everywhere(lender, BEGINS[way], range(1, MOST_CUTS, each), strict)
     assert place and place > LEAST_CUTS, f"{place} places"
 
 
-# How a client stops all queues: Linux disables them, QEMU asks where each goes on, and before that tells of a reset.
+# How a client stops all queues: Linux disables them, QEMU asks where each goes on, and before that
+# tells of a reset.
 STOPS = {
     "disabled": lambda client: [client.enable(number, 0) for number in range(4)],
     "asked": lambda client: [client.stop_ring(number) for number in range(4)],

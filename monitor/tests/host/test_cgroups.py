@@ -1,5 +1,5 @@
-"""Limits by `memory.max` of cgroups of the second version, with guests in processes of their own, whose memory is charged there. The kernel
-kills who passes its limit, and nobody else."""
+"""Limits by `memory.max` of cgroups of the second version, with guests in processes of their own,
+whose memory is charged there. The kernel kills who passes its limit, and nobody else."""
 
 import os
 import select
@@ -14,7 +14,8 @@ from linux_guest import Lines
 from tenants import eventually, go_on, stop, writer_of
 from test_strict import STRICT, lent, waits_of
 
-# MiB of the budget, of a guest, and beside its loan: less than a guest has in its balloon, and more than its process has itself.
+# MiB of the budget, of a guest, and beside its loan: less than a guest has in its balloon, and more
+# than its process has itself.
 BUDGET, GUEST, BESIDE = 96, 32, 16
 PAGES_PER_MIB = 256
 ALL = GUEST * PAGES_PER_MIB
@@ -83,7 +84,8 @@ class Seat:
         return self.lender.guests()[self.name]["overhead"]
 
     def follows(self, pages):
-        """Waits until this number of pages is lent to it, and its limit is that and what is beside."""
+        """Waits until this number of pages is lent to it, and its limit is that and what is
+        beside."""
         self.lender.become(self.name, lent=pages, limit=pages + self.beside(), waits="nothing")
         assert self.its.pages() == pages + self.beside()
 
@@ -168,7 +170,8 @@ def test_nothing_is_granted_before_the_limit_is_raised(seats):
 
 
 def test_who_takes_pages_unasked_hits_its_own_limit(seats):
-    """It writes into pages that it gave, past its driver: it is killed, its end is named, and its limit stays for who comes next."""
+    """It writes into pages that it gave, past its driver: it is killed, its end is named, and its
+    limit stays for who comes next."""
     lender, a, b = seats
     for it in (a, b):
         assert it.guest.ask(f"give 0 {GIVEN}") == "done"
@@ -200,7 +203,8 @@ def test_an_overhead_below_what_is_in_use_costs_its_own_process(seats):
 
 
 def test_a_limit_that_is_not_there_is_named_and_found_again(seats):
-    """The cgroup above takes the limits away, and gives them back: the guest waits meanwhile, and nobody else does."""
+    """The cgroup above takes the limits away, and gives them back: the guest waits meanwhile, and
+    nobody else does."""
     lender, a, b = seats
     assert a.guest.ask(f"give 0 {GIVEN}") == "done"
     a.follows(ALL - GIVEN)

@@ -1,4 +1,5 @@
-"""Where a later lender finds a guest's process: no other user does, and neither end takes another user's for the other (a lender: test_later_states.py)."""
+"""Where a later lender finds a guest's process: no other user does, and neither end takes another
+user's for the other (a lender: test_later_states.py)."""
 
 import os
 import shutil

@@ -1,4 +1,5 @@
-"""What a host of 64 idle guests takes: their processes' memory, and the processors' time of all together. `-rP` prints the figures."""
+"""What a host of 64 idle guests takes: their processes' memory, and the processors' time of all
+together. `-rP` prints the figures."""
 
 import select
 import time
@@ -10,8 +11,8 @@ from tenants import process_of
 # KiB that a guest's process may have for itself, and a part of one processor for all.
 MOST_KIB, MOST_SHARE = 1536, 0.02
 
-# Guests, each asked once a second as it rests, which it does after two seconds; and the part of the answers without which the machine is too
-# busy to say what they take.
+# Guests, each asked once a second as it rests, which it does after two seconds; and the part of the
+# answers without which the machine is too busy to say what they take.
 GUESTS, ASKED, RESTED, SECONDS, MOST_ANSWERS = 64, 1, 4, 10, 0.9
 
 
@@ -51,7 +52,8 @@ def test_sixty_four_idle_guests(lend):
     ]
     most = max(map(private_kib, processes))
     print(
-        f"{GUESTS} guests, {answered / took:.0f} answers a second: at most {most} KiB each, the lender {private_kib(lender.process.pid)}"
+        f"{GUESTS} guests, {answered / took:.0f} answers a second: at most {most} KiB each, the "
+        f"lender {private_kib(lender.process.pid)}"
     )
     print(f"of a processor: {100 * sum(shares):.2f}% in all, the lender {100 * shares[0]:.2f}%")
     for it in guests:
@@ -59,6 +61,7 @@ def test_sixty_four_idle_guests(lend):
     assert most <= MOST_KIB
     if answered < MOST_ANSWERS * GUESTS * ASKED * took:
         pytest.skip(
-            f"{answered / took:.0f} of {GUESTS * ASKED} answers a second: the machine is too busy for what they take"
+            f"{answered / took:.0f} of {GUESTS * ASKED} answers a second: the machine is too busy "
+            "for what they take"
         )
     assert sum(shares) <= MOST_SHARE

@@ -1,6 +1,7 @@
-"""Days of a strict host whose guests are simulated (days/): each of their steps takes a moment, at random a long one, in a time of their own, so
-that a day takes a second. The lender is the program as it is. At no step have guests more than the budget; and where what they want fits,
-nobody waits for good. DAYS in the environment is how many days of each kind there are."""
+"""Days of a strict host whose guests are simulated (days/): each of their steps takes a moment, at
+random a long one, in a time of their own, so that a day takes a second. The lender is the program
+as it is. At no step have guests more than the budget; and where what they want fits, nobody waits
+for good. DAYS in the environment is how many days of each kind there are."""
 
 import os
 import subprocess
@@ -17,8 +18,9 @@ pytestmark = pytest.mark.timeout(0)
 
 
 class Day(NamedTuple):
-    """Guests of 244 MiB, one of which may reboot after each of its works, and MiB for all; by how many MiB what they want passes what fits, how many
-    times as long as usually their steps take, and whether the lender is killed every 10 seconds at most.
+    """Guests of 244 MiB, one of which may reboot after each of its works, and MiB for all; by how
+    many MiB what they want passes what fits, how many times as long as usually their steps take,
+    and whether the lender is killed every 10 seconds at most.
     """
 
     guests: int
@@ -29,8 +31,9 @@ class Day(NamedTuple):
     killed: int = 0
 
 
-# The last numbers are of works that are done on a day, at least, and of the first day: a lender that lends a guest again by the last target that its
-# process has heard, which its driver is still to read, doesn't survive day 25 of `killed`.
+# The last numbers are of works that are done on a day, at least, and of the first day: a lender
+# that lends a guest again by the last target that its process has heard, which its driver is still
+# to read, doesn't survive day 25 of `killed`.
 KINDS = {
     "shift": (Day(4, 560), 700, 1),
     "two": (Day(2, 300), 300, 1),

@@ -1,5 +1,6 @@
-"""Tests of a host of many guests, one of whose clients sends each message in each size, in each order, and at random: the
-most that it does is end its own connection, while another client is served, and nothing is left of it."""
+"""Tests of a host of many guests, one of whose clients sends each message in each size, in each
+order, and at random: the most that it does is end its own connection, while another client is
+served, and nothing is left of it."""
 
 import os
 import struct
@@ -55,7 +56,8 @@ MESSAGES, SEATS = int(os.environ.get("MESSAGES", 10**6)), 8
 # MiB that the host's process may grow by while it serves a million messages.
 GROWTH = 24
 
-# Each message as QEMU's document has it: its body, and which files come beside it (regions by 0 and 1, an event, a socket).
+# Each message as QEMU's document has it: its body, and which files come beside it (regions by 0 and
+# 1, an event, a socket).
 USER = REGIONS[0][1]
 REGION = struct.pack("<QQQQ", REGIONS[0][0], PAGES_OF_REGION * PAGE, USER, 0)
 WORD, STATE = struct.pack("<Q", 0), struct.pack("<II", 0, 0)
@@ -88,7 +90,8 @@ WELL = {
     GET_STATUS: (b"", ()),
 }
 
-# A table may have more room than it has regions, as virtio_uml sends it; a region that goes may have its file with it.
+# A table may have more room than it has regions, as virtio_uml sends it; a region that goes may
+# have its file with it.
 LONGER, MAY_HAVE_A_FILE = {SET_MEM_TABLE}, {REM_MEM_REG}
 ANSWERED = {
     GET_FEATURES,
@@ -151,7 +154,8 @@ class Seats:
         self.event, self.socket = os.eventfd(0, os.EFD_NONBLOCK), self.well.own.fileno()
 
     def close(self):
-        """Ends all; returns the host's status, and what it said that isn't about a client that was refused."""
+        """Ends all; returns the host's status, and what it said that isn't about a client that was
+        refused."""
         self.host.process.stdout.close()
         status = self.host.close()
         self.well.leave()
@@ -237,7 +241,8 @@ def all_seats(tmp_path_factory):
 
 @pytest.fixture
 def seats(all_seats):
-    """The same: after each test the client that is well is served, and the host has no file more than before."""
+    """The same: after each test the client that is well is served, and the host has no file more
+    than before."""
     before = all_seats.held()
     yield all_seats
     all_seats.serves()

@@ -1,5 +1,6 @@
-"""What one client did to all others while one process served them: each is tried beside a guest at work, whose rounds go on meanwhile. The
-host delays none of them by more than 5 ms, however busy the machine is (delays.py)."""
+"""What one client did to all others while one process served them: each is tried beside a guest at
+work, whose rounds go on meanwhile. The host delays none of them by more than 5 ms, however busy the
+machine is (delays.py)."""
 
 import array
 import os
@@ -29,7 +30,8 @@ from vhost_client import (
 )
 from waiting import PATIENCE
 
-# What a process sends to the lender (message.h): the number of a report, and where a message has its kind and the guest's pages.
+# What a process sends to the lender (message.h): the number of a report, and where a message has
+# its kind and the guest's pages.
 TELL_REPORT, KIND_AT, PAGES_AT = 9, 4, 48
 
 # Where memory may end, at most.
@@ -275,8 +277,9 @@ def test_words_and_answers_that_nobody_reads(unread):
 
 
 def flood(path, seconds, begins):
-    """Is a guest's process that somebody has taken over: each of its reports says that the memory has changed. Returns how many it sent until
-    there was no room, how many in all, and the seconds that it took."""
+    """Is a guest's process that somebody has taken over: each of its reports says that the memory
+    has changed. Returns how many it sent until there was no room, how many in all, and the seconds
+    that it took."""
     with socket.socket(socket.AF_UNIX, socket.SOCK_SEQPACKET) as listener:
         listener.bind(path), listener.listen()
         begins()

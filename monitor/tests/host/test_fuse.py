@@ -1,4 +1,5 @@
-"""A client's files on a file system of its own, which withholds the answer to a close: its own guest's process waits for it, and nobody else."""
+"""A client's files on a file system of its own, which withholds the answer to a close: its own
+guest's process waits for it, and nobody else."""
 
 import importlib.util
 import os

@@ -12,7 +12,10 @@ ALL, LEFT, LOOKED = 128, 78, 1
 
 @pytest.mark.xfail(
     strict=True,
-    reason="a guest that begins anew may touch pages before they are lent to it: then what it holds isn't compared",
+    reason=(
+        "a guest that begins anew may touch pages before they are lent to it: then what it holds "
+        "isn't compared"
+    ),
 )
 def test_a_guest_whose_queues_are_stopped_counts_with_what_it_holds(lend, come):
     lender = lend(1, *STRICT)

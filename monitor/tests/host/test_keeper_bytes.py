@@ -8,8 +8,8 @@ from vhost_client import GET_CONFIG, Client
 
 WIDE = ("--floor", "0", "--period", "100", "--step", "0")
 
-# The number of the memfd in the keeper, and where there are in it: two bytes that say whether the installed program is to go on; and, by how many
-# bytes had been read, from where they are counted.
+# The number of the memfd in the keeper, and where there are in it: two bytes that say whether the
+# installed program is to go on; and, by how many bytes had been read, from where they are counted.
 KEPT_FILE, RENEWS, COUNTED_FROM = 190, 16, 32
 
 
@@ -21,7 +21,8 @@ def configuration(client):
 
 
 def test_a_keeper_takes_any_byte_for_whether(lend, checked):
-    """A process that was taken over writes what is no truth value, and has the count of its client's bytes be used up: its guest alone ends."""
+    """A process that was taken over writes what is no truth value, and has the count of its
+    client's bytes be used up: its guest alone ends."""
     lender = lend(64, *WIDE, program=checked)
     client = Client(lender.add("a"), lambda: lender.said()[-4:])
     client.start()

@@ -1,5 +1,6 @@
-"""What a guest's process keeps (monitor/backends/guest/kept.h): the process is killed right after a field has changed, and the next one goes on with
-that very value. The lender stands still meanwhile, so that it says nothing again."""
+"""What a guest's process keeps (monitor/backends/guest/kept.h): the process is killed right after a
+field has changed, and the next one goes on with that very value. The lender stands still meanwhile,
+so that it says nothing again."""
 
 import os
 import socket
@@ -43,12 +44,14 @@ QUIET = (
     f"{FEATURES | POISON:x}",
 )
 
-# Where `actual` and `poison_val` are in the configuration (VIRTIO 1.1, 5.5.4), and what is written there.
+# Where `actual` and `poison_val` are in the configuration (VIRTIO 1.1, 5.5.4), and what is written
+# there.
 ACTUAL_AT, POISON_AT, POISON_VALUE = 4, 12, 0xA1B2C3D4
 
 QUEUES_USED, ON = range(4), [1, 1, 1, 1, 0]
 
-# Fields that another test is for: which state counts, what an upgrade finds, and what is between two steps of a message.
+# Fields that another test is for: which state counts, what an upgrade finds, and what is between
+# two steps of a message.
 ELSEWHERE = {
     "kept.counts": ("test_anew.py", "old-state"),
     "kept.renews": (
@@ -64,7 +67,8 @@ ELSEWHERE = {
     "outcome": ("test_anew.py", "handles-twice"),
 }
 
-# What is 0 for each guest of these tests: a kick is an eventfd, no memory has huge pages, and the set has words for all pages.
+# What is 0 for each guest of these tests: a kick is an eventfd, no memory has huge pages, and the
+# set has words for all pages.
 ZEROS = ("rings.kick.is_socket", "counters.waiting", "counters.unmarked")
 
 
@@ -117,7 +121,8 @@ def step(names):
 
 
 @step(
-    "kept.layout kept.bytes kept.ended_by kept.turns notes.serial notes.ready_then told.features told.protocol told.status told.owned told.negotiated"
+    "kept.layout kept.bytes kept.ended_by kept.turns notes.serial notes.ready_then told.features "
+    "told.protocol told.status told.owned told.negotiated"
 )
 def a_driver_is_ready(life):
     life.comes()
@@ -142,7 +147,8 @@ def a_driver_is_ready(life):
 
 
 @step(
-    "rings.table rings.avail rings.used rings.size rings.placed rings.based rings.enabled rings.started rings.runs"
+    "rings.table rings.avail rings.used rings.size rings.placed rings.based rings.enabled "
+    "rings.started rings.runs"
 )
 def rings_run(life):
     life.comes()
@@ -153,7 +159,8 @@ def rings_run(life):
 
 
 @step(
-    "rings.kick.file rings.call.file rings.fault.file rings.kick.is_socket rings.call.is_socket rings.fault.is_socket"
+    "rings.kick.file rings.call.file rings.fault.file rings.kick.is_socket rings.call.is_socket "
+    "rings.fault.is_socket"
 )
 def queues_have_files(life):
     life.comes()
@@ -172,7 +179,8 @@ def a_client_and_a_lender_are_there(life):
 
 
 @step(
-    "regions.place.guest regions.place.user regions.place.size regions.place.offset region_count set_words notes.pages notes.wait"
+    "regions.place.guest regions.place.user regions.place.size regions.place.offset region_count "
+    "set_words notes.pages notes.wait"
 )
 def memory_comes(life):
     life.comes()
@@ -295,7 +303,8 @@ def features_are_refused(life):
 
 @step("notes.lost")
 def the_lender_reads_nothing(life):
-    """Each refusal is a message to it, and so is each page that comes; there is no room for hundreds."""
+    """Each refusal is a message to it, and so is each page that comes; there is no room for
+    hundreds."""
     life.client.negotiate(FEATURES, QEMU_PROTOCOL), life.client.add_memory()
     stop(life.lender.process.pid)
     for _ in range(100):
@@ -310,7 +319,8 @@ def the_lender_reads_nothing(life):
 
 @step("seen notes.channel")
 def no_lender_is_there(life):
-    """Each second a process without a lender looks at `actual`, by which it tells whether its driver moves."""
+    """Each second a process without a lender looks at `actual`, by which it tells whether its
+    driver moves."""
     life.comes()
     life.writes(ACTUAL_AT, 10)
     life.lender.kill()

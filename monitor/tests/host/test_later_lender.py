@@ -12,7 +12,8 @@ from waiting import PATIENCE
 
 QUICK = ("--floor", "0", "--period", "100", "--step", "0")
 
-# Seconds in which the guests of an earlier lender tell what they have, less those that a busy machine takes.
+# Seconds in which the guests of an earlier lender tell what they have, less those that a busy
+# machine takes.
 TOLD_IN = 4
 
 
@@ -114,8 +115,9 @@ def test_a_process_that_ends_while_no_lender_is_there_leaves_its_seat(lend, come
 
 @pytest.fixture
 def stuck(lend, come):
-    """A later lender of a full strict host, one of whose guests can't tell what it has, as its process stands still; and the other guests. Of 256
-    frames a has 68, b, which stands still, 60, and c 128."""
+    """A later lender of a full strict host, one of whose guests can't tell what it has, as its
+    process stands still; and the other guests. Of 256 frames a has 68, b, which stands still, 60,
+    and c 128."""
     first = lend(1, *QUICK, "--strict")
     a, b = (come(first, it, {FREE: 100}) for it in "ab")
     a.give(list(range(PAGES, PAGES + 60))), b.give(

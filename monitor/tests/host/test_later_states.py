@@ -1,4 +1,5 @@
-"""A later lender over each state of a guest, and over terms, budgets and targets that aren't the earlier one's."""
+"""A later lender over each state of a guest, and over terms, budgets and targets that aren't the
+earlier one's."""
 
 import os
 import re
@@ -110,7 +111,8 @@ class Before:
             it.leave()
 
 
-# Each state of a guest, and each wait: how it comes, and what the next lender shows: the state, the wait, and the pages that are lent and in the balloon.
+# Each state of a guest, and each wait: how it comes, and what the next lender shows: the state, the
+# wait, and the pages that are lent and in the balloon.
 STATES = {
     "GUEST_ABSENT": (lambda it: None, ("absent", "nothing", 0, 0)),
     "GUEST_COMING": (Before.comes, ("coming", "nothing", 0, 0)),
@@ -126,7 +128,8 @@ STATES = {
 
 
 def shown(lender):
-    """Returns the state of the guest a, for what it waits, and its pages that are lent and in its balloon."""
+    """Returns the state of the guest a, for what it waits, and its pages that are lent and in its
+    balloon."""
     its = seen(lender)
     return its["state"], its["waits_for"], its["loan"] // 4096, its["ballooned"] // 4096
 
@@ -137,7 +140,8 @@ def test_each_state_has_its_later_lender():
 
 @pytest.mark.parametrize("state", STATES)
 def test_a_later_lender_goes_on_with_a_guest_in_each_state(lend, come, state):
-    """It has no more frames than the earlier one: who waits goes on to wait, until there is room."""
+    """It has no more frames than the earlier one: who waits goes on to wait, until there is
+    room."""
     begin, wanted = STATES[state]
     before = Before(lend, come)
     begin(before)
@@ -309,7 +313,8 @@ def test_a_later_lender_admits_nobody_before_all_have_told_what_they_have(lend, 
 
 
 def test_a_folder_keeps_what_is_no_guests(lend, tmp_path_factory):
-    """A file is no socket, and what an earlier lender has begun to keep of a guest is in nobody's way."""
+    """A file is no socket, and what an earlier lender has begun to keep of a guest is in nobody's
+    way."""
     folder = tmp_path_factory.mktemp("l")
     for it in ("+b", "a"):
         (folder / it).write_text("x")
@@ -321,8 +326,9 @@ def test_a_folder_keeps_what_is_no_guests(lend, tmp_path_factory):
     assert [(folder / it).read_text() for it in ("+b", "a")] == ["x", "x"]
 
 
-# A guest that has 4096 pages, of which 3000 are in its balloon, and is asked for 2560: those that are missing of 6144 frames, as another one has 4096, and
-# a third one 512, all of which are in its balloon.
+# A guest that has 4096 pages, of which 3000 are in its balloon, and is asked for 2560: those that
+# are missing of 6144 frames, as another one has 4096, and a third one 512, all of which are in its
+# balloon.
 FRAMES, MEMORY, BALLOONED, TARGET, EARLIER, SURPLUS = 6144, 4096, 3000, 2560, 2000, 512
 
 
@@ -334,7 +340,8 @@ FRAMES, MEMORY, BALLOONED, TARGET, EARLIER, SURPLUS = 6144, 4096, 3000, 2560, 20
 def test_an_adopted_driver_that_obeys_an_earlier_target_has_what_it_may_take(
     lend, tmp_path_factory, obeyed, ahead
 ):
-    """All that there is room for, up to what the earlier target leaves; and, once it has read the last one, what that leaves."""
+    """All that there is room for, up to what the earlier target leaves; and, once it has read the
+    last one, what that leaves."""
     folder, begin = str(tmp_path_factory.mktemp("l")), time.monotonic()
     listens = [Listens(folder, it) for it in "abc"]
     lender = lend(FRAMES // 256, *STRICT, folder=folder)

@@ -1,4 +1,5 @@
-"""A guest's process that somebody has taken over, and that lies: the lender ends its service, and lends to the others as before."""
+"""A guest's process that somebody has taken over, and that lies: the lender ends its service, and
+lends to the others as before."""
 
 import contextlib
 import os
@@ -72,7 +73,8 @@ def test_the_first_report_to_a_later_lender_is_bounded(lend):
 
 
 def terms_after(lend, lender, kept=None):
-    """Returns a guest's terms by the next lender, to which its process tells others; where the folder has other ones `kept`, by these."""
+    """Returns a guest's terms by the next lender, to which its process tells others; where the
+    folder has other ones `kept`, by these."""
     link, channel = f"{lender.folder}/=a", f"{lender.folder}/.channels/a"
     lender.kill()
     os.unlink(channel)

@@ -1,5 +1,6 @@
-"""Limits that the kernel enforces: the size of a tmpfs that has a guest's memory, and a cgroup, of the version that this machine has, both
-real. A limit is raised before its guest has pages, and lowered after they came."""
+"""Limits that the kernel enforces: the size of a tmpfs that has a guest's memory, and a cgroup, of
+the version that this machine has, both real. A limit is raised before its guest has pages, and
+lowered after they came."""
 
 import errno
 import os
@@ -169,7 +170,8 @@ def test_a_guest_cannot_pass_its_limit(lend, come, tmp_path):
 
 
 def test_who_takes_pages_unasked_is_named(lend, come):
-    """It has no limit: its balloon doesn't count any longer, and the others are asked for what is missing."""
+    """It has no limit: its balloon doesn't count any longer, and the others are asked for what is
+    missing."""
     lender = lend(1, "--floor", "0", "--period", "100", "--step", "0")
     guests = [come(lender, it, {FREE: 100}, "overhead=0") for it in "abc"]
     for it in guests:

@@ -1,5 +1,6 @@
-"""A limit while it is written, after it couldn't be, and over a change of its client or of the term: a guest has no page that the kernel doesn't allow
-it, and what was known of an earlier guest's limit isn't known of the next one's."""
+"""A limit while it is written, after it couldn't be, and over a change of its client or of the
+term: a guest has no page that the kernel doesn't allow it, and what was known of an earlier guest's
+limit isn't known of the next one's."""
 
 import os
 import socket
@@ -104,7 +105,8 @@ def test_the_next_client_has_its_limit_written_before_it_has_room(one):
 
 
 def test_what_is_answered_for_an_earlier_client_is_none_of_the_next_ones(one):
-    """The limit of a client that goes is still to be written, and can't be: its next client has its own tries alone."""
+    """The limit of a client that goes is still to be written, and can't be: its next client has its
+    own tries alone."""
     lender, a, _, its = one
     writer = writer_of(lender, "a")
     stop(writer)
@@ -199,9 +201,9 @@ def test_the_kernel_says_why_a_limit_cannot_be_written(lend, come, tmp_path):
         a.give(GIVEN[:50])
         eventually(lambda: failures(lender) >= 1)
         assert (
-            f"a: its limit {its.term} can't be set to {LEFT * 4} KiB: tmpfs: Too small a size for current use"
-            in lender.said()
-        )
+            f"a: its limit {its.term} can't be set to {LEFT * 4} KiB: tmpfs: Too small a size "
+            "for current use"
+        ) in lender.said()
         os.unlink(other.name)
         lender.become("a", limit=LEFT)
     finally:

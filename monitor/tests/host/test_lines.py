@@ -1,4 +1,5 @@
-"""Who comes first on a strict host: deflates come before new lives of guests. Guests have 128 pages."""
+"""Who comes first on a strict host: deflates come before new lives of guests. Guests have 128
+pages."""
 
 import time
 
@@ -11,7 +12,8 @@ from vhost_client import DEFLATE, PAGE
 
 @pytest.fixture
 def given(lend, come):
-    """A host with two guests, which have given 50 and 60 pages; and what sets its budget to these pages."""
+    """A host with two guests, which have given 50 and 60 pages; and what sets its budget to these
+    pages."""
     lender = lend(1, *STRICT)
     a, b = (come(lender, it, {FREE: 100}) for it in "ab")
     a.give(GIVEN[:50]), b.give(GIVEN[:60])
@@ -21,7 +23,8 @@ def given(lend, come):
 
 
 def begin_anew(guest):
-    """A guest's driver ends, to which nothing is lent ahead then though its target falls, and begins anew, which may have to wait."""
+    """A guest's driver ends, to which nothing is lent ahead then though its target falls, and
+    begins anew, which may have to wait."""
     guest.ended.set(), guest.join()
     for number in range(4):
         assert guest.client.enable(number, 0) == bytes(8)
@@ -43,8 +46,8 @@ def test_a_new_life_waits_for_what_was_in_the_balloon(given):
 
 
 def test_a_deflate_passes_a_new_life(given):
-    """A driver in a deflate can give no pages, for which the new life of another guest waits: so the deflate comes first, where there is room for
-    it."""
+    """A driver in a deflate can give no pages, for which the new life of another guest waits: so
+    the deflate comes first, where there is room for it."""
     lender, a, b, set_budget = given
     set_budget(160)  # 146 are lent
     begins = begin_anew(a)
@@ -63,7 +66,8 @@ def test_a_deflate_passes_a_new_life(given):
 
 
 def test_who_waits_for_pages_that_nobody_can_give_is_named_once(given):
-    """There is no room for the deflate either: each waits for the other, and only a larger budget helps, or the end of one."""
+    """There is no room for the deflate either: each waits for the other, and only a larger budget
+    helps, or the end of one."""
     lender, a, b, set_budget = given
     set_budget(150)  # 146 are lent
     begins = begin_anew(a)
@@ -93,8 +97,9 @@ def test_who_waits_for_pages_that_nobody_can_give_is_named_once(given):
 
 
 def test_what_was_given_for_an_earlier_target_is_taken_back_at_once(given):
-    """A target falls while the driver's request for the one before is on its way. The driver takes back what is beyond its target now: it doesn't
-    wait for these pages, though another guest does, since it could give none meanwhile."""
+    """A target falls while the driver's request for the one before is on its way. The driver takes
+    back what is beyond its target now: it doesn't wait for these pages, though another guest does,
+    since it could give none meanwhile."""
     lender, a, b, set_budget = given
     a.figures, b.figures = {FREE: 30}, {FREE: 0}
     set_budget(146)
@@ -118,8 +123,8 @@ def test_what_was_given_for_an_earlier_target_is_taken_back_at_once(given):
 
 
 def test_what_is_lent_for_an_earlier_target_is_lent_for_a_moment_alone(given):
-    """A target falls, and rises again before the driver hears it. What was lent for it is free for others soon, also where the target falls again by a
-    few pages, for which there is no room."""
+    """A target falls, and rises again before the driver hears it. What was lent for it is free for
+    others soon, also where the target falls again by a few pages, for which there is no room."""
     lender, a, b, set_budget = given
     a.figures, b.figures = {FREE: 0}, {FREE: 0}
     set_budget(146)

@@ -1,4 +1,5 @@
-"""Hosts whose event loop is wrong on purpose (tests/mutants/wrong_loop.c): each is refused by the test that is for it, and that alone is run."""
+"""Hosts whose event loop is wrong on purpose (tests/mutants/wrong_loop.c): each is refused by the
+test that is for it, and that alone is run."""
 
 import os
 
@@ -6,7 +7,8 @@ import linux_kit
 import pytest
 from mutants import demand_refused
 
-# Each wrong event loop, and the test that has to refuse it; tests/vhost_user has others, by the backend of one guest.
+# Each wrong event loop, and the test that has to refuse it; tests/vhost_user has others, by the
+# backend of one guest.
 LOOPS = {
     "late-removal": "test_processes.py::test_the_lender_has_no_file_of_a_client",
     "old-number": "test_processes.py::test_who_comes_once_another_has_gone_is_heard_by_files_of_the_same_numbers",

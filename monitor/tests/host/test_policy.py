@@ -1,4 +1,5 @@
-"""What guests are asked for, by the figures that they tell and their terms. Each is of 128 pages; numbers are worked out by hand."""
+"""What guests are asked for, by the figures that they tell and their terms. Each is of 128 pages;
+numbers are worked out by hand."""
 
 import time
 
@@ -40,7 +41,8 @@ def test_what_a_guest_can_spare_goes_by_available_memory(lend, come, figures, sp
 
 
 def test_page_cache_is_taken(lend, come):
-    # Three guests of 128 pages, with 110 in their page cache and 4 free, on 256: all that is missing is asked for.
+    # Three guests of 128 pages, with 110 in their page cache and 4 free, on 256: all that is
+    # missing is asked for.
     lender = lend(1, *QUICK)
     for name in ("a", "b"):
         come(lender, name, {FREE: 4, AVAILABLE: 110})
@@ -49,7 +51,8 @@ def test_page_cache_is_taken(lend, come):
     assert lender.counters()["short"] == 0
 
 
-# The terms of a, b and c, who can each spare 100 of 128 pages on a budget of 256: 128 pages are missing.
+# The terms of a, b and c, who can each spare 100 of 128 pages on a budget of 256: 128 pages are
+# missing.
 TERMS = (
     (("", "", ""), {"a": 100, "b": 28, "c": 0}),
     (("priority=2", "priority=1", ""), {"a": 0, "b": 28, "c": 100}),
@@ -128,7 +131,8 @@ def test_a_silent_guest_counts_for_what_it_holds(lend, come):
     lender.become("a", ballooned=0, held_kib=4 * 20)
     a.answers = False
     lender.become("a", answers=0)
-    # It holds 20 pages of its 128. So there is room on 256 pages for two guests that need 128 each, of whom one can spare 20.
+    # It holds 20 pages of its 128. So there is room on 256 pages for two guests that need 128 each,
+    # of whom one can spare 20.
     come(lender, "b", {FREE: 20})
     come(lender, "c", {FREE: 0})
     become(lender, {"a": 0, "b": 20, "c": 0})

@@ -1,5 +1,6 @@
-"""Targets that change before a guest's driver obeys them, on a strict host. A test plays the guests' processes, which say which target a driver has
-read. Each of these guests is silent: it can spare what is in its balloon, and no more."""
+"""Targets that change before a guest's driver obeys them, on a strict host. A test plays the
+guests' processes, which say which target a driver has read. Each of these guests is silent: it can
+spare what is in its balloon, and no more."""
 
 import struct
 import time
@@ -11,16 +12,19 @@ from tenants import FREE
 from test_strict import GIVEN, STRICT, lent
 from vhost_client import GET_CONFIG, PAGE
 
-# Frames of the host, which the first guest has at the beginning; pages of a request of Linux's; and those for which the second one waits.
+# Frames of the host, which the first guest has at the beginning; pages of a request of Linux's; and
+# those for which the second one waits.
 ALL, OF_REQUEST, WANTED = 4096, 256, 3000
 
-# Seconds for which a driver that reads no target may obey an earlier one, and in which one that reads targets has read the last; and more than these.
+# Seconds for which a driver that reads no target may obey an earlier one, and in which one that
+# reads targets has read the last; and more than these.
 LINGERS, LATER = 3, 3.5
 
 
 @pytest.fixture
 def play(lend):
-    """Plays the process of a guest that has all frames, and has put none into its balloon, or these; another one waits for room."""
+    """Plays the process of a guest that has all frames, and has put none into its balloon, or
+    these; another one waits for room."""
     played = []
     lender = lend(ALL * PAGE >> 20, *STRICT)
 
@@ -36,8 +40,10 @@ def play(lend):
 
 @pytest.mark.parametrize("reads", (True, False), ids=("reads", "doesn't"))
 def test_a_driver_takes_back_what_it_gave_before_it_read_a_target(play, reads):
-    """A driver at full speed inflates ten times before it reads that it is to give less. As it gives, it can spare more: so its target rises again, and
-    it obeys one between. It waits for none of the pages that it takes back by that. A driver that reads no target obeys what its process has heard.
+    """A driver at full speed inflates ten times before it reads that it is to give less. As it
+    gives, it can spare more: so its target rises again, and it obeys one between. It waits for none
+    of the pages that it takes back by that. A driver that reads no target obeys what its process
+    has heard.
     """
     a = play(target=ALL, hears=reads, **({"obeyed": ALL + 1} if reads else {}))
     a.lender.become("a", asked=0)
@@ -55,7 +61,8 @@ def test_a_driver_takes_back_what_it_gave_before_it_read_a_target(play, reads):
 
 
 def test_a_driver_that_reads_no_target_has_a_moment(play):
-    """Its target rises while it takes pages by the one before. Once its process has heard that, one request of Linux's may be on its way."""
+    """Its target rises while it takes pages by the one before. Once its process has heard that, one
+    request of Linux's may be on its way."""
     a = play(ballooned=3 * OF_REQUEST)
     a.lender.become("a", asked=3 * OF_REQUEST, lent=ALL)
     time.sleep(LATER)
@@ -81,7 +88,8 @@ def test_a_driver_that_reads_no_target_has_a_moment(play):
 
 @pytest.mark.parametrize("reads", (True, False), ids=("reads", "doesn't"))
 def test_a_process_tells_what_its_driver_has_read(lend, come, reads):
-    """What was lent ahead stays lent until the driver of a guest that reads targets has read the one that rose, or hasn't for a while."""
+    """What was lent ahead stays lent until the driver of a guest that reads targets has read the
+    one that rose, or hasn't for a while."""
     lender = lend(1, *STRICT)
     a, _ = (come(lender, it, {FREE: 100}) for it in "ab")
     read = lambda: a.client.send(GET_CONFIG, struct.pack("<III", 0, 8, 0) + bytes(8))

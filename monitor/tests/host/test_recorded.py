@@ -1,5 +1,6 @@
-"""A strict host's day, recorded by its metrics, beside a replay of it by `bigvasta plan --check`: guests have 128 pages, and want more and less of them at
-random. Then the same day as wrong hosts would have had it."""
+"""A strict host's day, recorded by its metrics, beside a replay of it by `bigvasta plan --check`:
+guests have 128 pages, and want more and less of them at random. Then the same day as wrong hosts
+would have had it."""
 
 import json
 import time
@@ -15,11 +16,13 @@ from recording import LOOK_EVERY, Recorder
 from tenants import FREE, eventually
 from test_strict import STRICT, Driver
 
-# The MiB of the budget, one after the other, and for how many seconds each: on the second one all wait, but for what stays lent to them for a while.
+# The MiB of the budget, one after the other, and for how many seconds each: on the second one all
+# wait, but for what stays lent to them for a while.
 BUDGETS = ((1, 4), (0, 9), (1, 4))
 DAY = sum(seconds for _, seconds in BUDGETS)
 
-# Looks for which a wrong host lets a guest wait longer: 3 seconds. Looks before the budget is raised at which one guest of two is granted its pages.
+# Looks for which a wrong host lets a guest wait longer: 3 seconds. Looks before the budget is
+# raised at which one guest of two is granted its pages.
 LATE, EARLY = round(3 / LOOK_EVERY), 10
 
 LOAN, ASKED, GRANTED, WAITING = LENDING
@@ -75,7 +78,8 @@ class Day:
             pair[1] = str(int(pair[1]) + difference)
 
     def looks(self, guest):
-        """Returns the looks before the budget is raised at which a guest waits for what it is granted then."""
+        """Returns the looks before the budget is raised at which a guest waits for what it is
+        granted then."""
         granted = self.number(GRANTED, guest, self.raised - 1)
         return [
             it
@@ -84,7 +88,8 @@ class Day:
         ]
 
     def waited(self, guest):
-        """Returns for how many looks a guest has waited as the budget is raised, and for how many seconds."""
+        """Returns for how many looks a guest has waited as the budget is raised, and for how many
+        seconds."""
         return len(self.looks(guest)), self.number(WAITING, guest, self.raised - 1)
 
     def wait_longer(self, guest):
@@ -93,14 +98,16 @@ class Day:
             pair[1] = repr(float(pair[1]) + 0.05)
 
     def wait(self, guest, looks):
-        """Has a guest wait from when the budget is raised on, for this number of looks, as it did until then."""
+        """Has a guest wait from when the budget is raised on, for this number of looks, as it did
+        until then."""
         for values in (self.series[metric, guest] for metric in LENDING):
             text = values[self.raised - 1][1]
             for pair in values[self.raised : self.raised + looks]:
                 pair[1] = text
 
     def grant(self, guest, room):
-        """Has a guest be granted what it waits for before the budget is raised, and before the host granted it: the budget is as large as this room then."""
+        """Has a guest be granted what it waits for before the budget is raised, and before the host
+        granted it: the budget is as large as this room then."""
         begin, last = self.raised - EARLY, self.raised - 1
         asked, granted = (int(self.number(it, guest, last)) for it in (ASKED, GRANTED))
         end = next(
@@ -129,7 +136,8 @@ def demand_wrong_hosts_named(path, library):
 
 
 def demand_order(path, library):
-    """Demands that a budget which has room for one of two guests that wait is for the one who has waited longest, and for no other."""
+    """Demands that a budget which has room for one of two guests that wait is for the one who has
+    waited longest, and for no other."""
     day = Day(path)
     last = day.raised - 1
     first, second = sorted("ab", key=day.waited, reverse=True)

@@ -5,7 +5,8 @@ import time
 import pytest
 from tenants import FREE, PAGES, go_on, process_of, stop
 
-# Seconds of a period, those in which a guest that does nothing has come to rest, and those of a look at one that rests.
+# Seconds of a period, those in which a guest that does nothing has come to rest, and those of a
+# look at one that rests.
 PERIOD, RESTED, LOOK = 0.05, 1.5, 4
 
 
@@ -59,7 +60,8 @@ def test_a_guest_at_rest_that_falls_silent_is_told_from_its_process(resting, com
 
 
 def follows(lender, budget, target):
-    """Sets a budget; returns the seconds until the guest's process has told that it has heard its new target."""
+    """Sets a budget; returns the seconds until the guest's process has told that it has heard its
+    new target."""
     begin = time.monotonic()
     lender.demand(f"budget {budget}")
     lender.become("a", asked=target, target=target)

@@ -1,4 +1,5 @@
-"""The runs of a host (host_runs.py says which they are), and hosts that are wrong on purpose (tests/mutants/wrong_host.c)."""
+"""The runs of a host (host_runs.py says which they are), and hosts that are wrong on purpose
+(tests/mutants/wrong_host.c)."""
 
 import pytest
 from host_killed import hours_run

@@ -9,8 +9,9 @@ import linux_kit
 import pytest
 from tenants import FREE, eventually, process_of, status_of
 
-# Calls that a process makes as it serves a guest, whatever their arguments, and with arguments that are all 0. Of all numbers that a kernel of these
-# years knows, and of some more, each other one ends it.
+# Calls that a process makes as it serves a guest, whatever their arguments, and with arguments that
+# are all 0. Of all numbers that a kernel of these years knows, and of some more, each other one
+# ends it.
 ALLOWED = set(
     """accept4 recvmsg recvfrom poll ppoll getsockopt read write preadv2 splice setitimer close munmap madvise fallocate fstatfs fstat
     readlink readlinkat brk mremap clock_gettime gettimeofday getrandom rt_sigaction rt_sigprocmask rt_sigreturn restart_syscall futex exit
@@ -29,7 +30,8 @@ X32 = 1 << 30
 # The process that makes the call, as sandbox_calls.c has it; and one that isn't there.
 OWN, NOBODY = -(1 << 63), 0x7FFFFFFE
 
-# A call by its name and its number, arguments before the one that counts, values of that one with which it comes back, and others that end it.
+# A call by its name and its number, arguments before the one that counts, values of that one with
+# which it comes back, and others that end it.
 AT_EMPTY_PATH, LARGE = 0x1000, 1 << 32
 COMMANDS = {fcntl.F_GETFL, fcntl.F_SETFL, fcntl.F_ADD_SEALS}
 BY_ARGUMENT = (
@@ -64,7 +66,8 @@ from waiting import PATIENCE
 
 @pytest.fixture(scope="module")
 def outcomes(tmp_path_factory):
-    """Makes calls in the sandbox, by their numbers with arguments; returns what came of each: its name, and by the name of which call it ended."""
+    """Makes calls in the sandbox, by their numbers with arguments; returns what came of each: its
+    name, and by the name of which call it ended."""
     lines_file = tmp_path_factory.mktemp("sandbox") / "lines"
 
     def made(calls):
@@ -127,7 +130,8 @@ def test_a_process_has_the_files_that_it_was_handed_and_no_other(lend, come):
         if it.startswith(("socket:", "pipe:", "anon_inode:[signalfd]", "/memfd:", "/dev/null"))
     ]
     assert sorted(known) == sorted(links)
-    # Its client, its lender, a later lender, and the channel of its client; both ends of the way by which answers go.
+    # Its client, its lender, a later lender, and the channel of its client; both ends of the way by
+    # which answers go.
     counts = [len([it for it in links if it.startswith(kind)]) for kind in ("socket:", "pipe:")]
     assert counts == [4, 2] and len({it for it in links if it.startswith("pipe:")}) == 1, links
 

@@ -1,4 +1,5 @@
-"""A host that is strict: what guests want waits until it is lent, and what is lent never passes the budget. Guests have 128 pages."""
+"""A host that is strict: what guests want waits until it is lent, and what is lent never passes the
+budget. Guests have 128 pages."""
 
 import random
 import threading
@@ -106,7 +107,8 @@ def test_a_deflate_waits_for_its_grant(two):
 
 
 def test_a_deflate_of_no_page_needs_no_grant(two):
-    """All of its numbers are past the end of memory: they are skipped, and nothing is asked for. The next deflate is held as any other."""
+    """All of its numbers are past the end of memory: they are skipped, and nothing is asked for.
+    The next deflate is held as any other."""
     lender, (a, _) = two
     a.give(GIVEN[:50])
     lender.become("a", ballooned=50, lent=78)
@@ -122,8 +124,8 @@ def test_a_deflate_of_no_page_needs_no_grant(two):
 
 
 def test_what_was_lent_ahead_stays_for_a_moment(two):
-    """A driver may just take pages that it was told to, and hears meanwhile that it is to take none: they stay lent for half a second, and no
-    longer."""
+    """A driver may just take pages that it was told to, and hears meanwhile that it is to take
+    none: they stay lent for half a second, and no longer."""
     lender, (a, _) = two
     lender.demand("budget 0")
     lender.become("a", target=100)
@@ -161,14 +163,16 @@ def test_a_deflate_waits_until_another_guest_gives(two):
 
 
 def test_what_a_target_lets_go_is_lent_before_it_is_asked_for(two, come):
-    """A guest that deflates since it was told to doesn't wait for others that asked before: it couldn't give any pages meanwhile."""
+    """A guest that deflates since it was told to doesn't wait for others that asked before: it
+    couldn't give any pages meanwhile."""
     lender, (a, b) = two
     others = []
     comes = Later(lambda: others.append(come(lender, "c", {FREE: 32})))
     eventually(lambda: [lender.guests()[it]["target"] for it in "ab"] == [100, 28])
     a.give(GIVEN[:100]), b.give(GIVEN[:28])
     comes.ends()
-    # With 16 pages as a floor a can spare 84, b 28 and c 16: just what is missing. For the 16 that a is to take there is no room yet.
+    # With 16 pages as a floor a can spare 84, b 28 and c 16: just what is missing. For the 16 that
+    # a is to take there is no room yet.
     a.figures[FREE], b.figures[FREE] = 0, 16
     with Connection(f"{lender.folder}/.control") as it:
         it.ask("floor", bytes=16 * PAGE)
@@ -303,7 +307,8 @@ def test_the_next_lender_grants_what_waits(two, lend):
 
 
 class Driver(threading.Thread):
-    """A driver that wants more and less memory, at random: it waits for each deflate, as Linux does."""
+    """A driver that wants more and less memory, at random: it waits for each deflate, as Linux
+    does."""
 
     def __init__(self, guest, seed, until):
         super().__init__(daemon=True)

@@ -1,4 +1,5 @@
-"""What one turn of the lender's loop takes, whatever clients of its sockets do: its processor time, and how many processes it starts."""
+"""What one turn of the lender's loop takes, whatever clients of its sockets do: its processor time,
+and how many processes it starts."""
 
 import contextlib
 import json
@@ -14,10 +15,12 @@ from waiting import PATIENCE, patience_from_now
 # Guests, clients of the status socket, and the answers that are waited for.
 GUESTS, CLIENTS, ANSWERS = 64, 256, 4000
 
-# The place of the longest durations that a turn may take, 5 ms; and of all turns the part that may take longer, as the machine is busy.
+# The place of the longest durations that a turn may take, 5 ms; and of all turns the part that may
+# take longer, as the machine is busy.
 MOST_PLACE, MOST_PART = 1, 0.01
 
-# Processes that may be started at once, and in a second; the seconds for which all clients come and go.
+# Processes that may be started at once, and in a second; the seconds for which all clients come and
+# go.
 AHEAD, A_SECOND, FLAPPING = 64, 50, 3
 
 
@@ -61,7 +64,8 @@ def clients_that_ask(lender, request):
 
 
 def read_lines(clients, wanted, request=b""):
-    """Returns how many lines were read, once these have come, and how many of them differ; each client asks again at once."""
+    """Returns how many lines were read, once these have come, and how many of them differ; each
+    client asks again at once."""
     rests, lines, seen, end = dict.fromkeys(clients, b""), 0, set(), patience_from_now()
     while lines < wanted and time.monotonic() < end:
         for it in select.select(clients, [], [], PATIENCE)[0]:
@@ -112,7 +116,8 @@ def test_events_of_all_guests_are_told_to_all_followers_in_short_turns(lend):
 
 @contextlib.contextmanager
 def come_at_once(lender, names):
-    """Clients come while the lender stands still, and somebody asks for its status; what is in that."""
+    """Clients come while the lender stands still, and somebody asks for its status; what is in
+    that."""
     stop(lender.process.pid)
     eventually(lambda: status_of(lender.process.pid)["State"].startswith("T"))
     clients = [connect(lender, it) for it in (".control", *names)]

@@ -1,5 +1,5 @@
-"""A seat over its clients: who comes next begins with nothing of the one before; who is leaving keeps its place; and who has just as many pages as
-there are has room."""
+"""A seat over its clients: who comes next begins with nothing of the one before; who is leaving
+keeps its place; and who has just as many pages as there are has room."""
 
 import pytest
 from played import WAIT_ROOM, Played
@@ -13,7 +13,8 @@ LOOSE = tuple(it for it in STRICT if it != "--strict")
 # The frames of a MiB, pages of a guest, and guests that may be leaving at once.
 FRAMES, ALL, MOST_GUESTS = 256, 128, 64
 
-# What a seat keeps of its clients: how many came, and what the host couldn't write. Times differ, and what processes count themselves.
+# What a seat keeps of its clients: how many came, and what the host couldn't write. Times differ,
+# and what processes count themselves.
 KEPT, DIFFER = ("clients", "limit_failures"), (
     "name",
     "socket",
@@ -32,7 +33,8 @@ SLOW = ("--period", "6000")
 
 
 def shown(lender, name):
-    """Returns all that a lender says of a guest, by a line and by its control socket, but for what differs or is kept."""
+    """Returns all that a lender says of a guest, by a line and by its control socket, but for what
+    differs or is kept."""
     line = lender.guests()[name]
     its = next(it for it in lender.status()["guests"] if it["name"] == name)
     return {
@@ -66,7 +68,8 @@ def live(lender, come, strict):
 
 @pytest.mark.parametrize("options", (STRICT, LOOSE), ids=("strict", "loose"))
 def test_who_comes_next_has_nothing_of_the_client_before(lend, come, options):
-    """Each number is that of a client at a new seat, from when it comes until it has told its statistics."""
+    """Each number is that of a client at a new seat, from when it comes until it has told its
+    statistics."""
     lender = lend(4, *options, *SLOW)
     lender.demand("add a overhead=0 most=0"), lender.demand("add new overhead=0 most=0")
     live(lender, come, options == STRICT)

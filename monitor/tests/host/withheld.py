@@ -1,4 +1,5 @@
-"""A FUSE file system of one file, `file`, whose FLUSH is withheld: who closes it waits, until the end of standard input.
+"""A FUSE file system of one file, `file`, whose FLUSH is withheld: who closes it waits, until the
+end of standard input.
 
     withheld.py FOLDER
 

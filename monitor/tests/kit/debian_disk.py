@@ -1,5 +1,6 @@
-"""The disk of a machine of its own: a Debian 13 with systemd, a kernel with cgroups of the second version, and what tests of a host want
-there. It is made once, in the cache of this repository, and no machine writes to it."""
+"""The disk of a machine of its own: a Debian 13 with systemd, a kernel with cgroups of the second
+version, and what tests of a host want there. It is made once, in the cache of this repository, and
+no machine writes to it."""
 
 import glob
 import hashlib
@@ -32,7 +33,8 @@ PACKAGES = (
     "python3-pytest-timeout",
 )
 
-# The port by which commands come, the folder of what comes with a machine on a disk of its own, and the program there that runs commands.
+# The port by which commands come, the folder of what comes with a machine on a disk of its own, and
+# the program there that runs commands.
 PORT, FOLDER = "commands", "/srv/machine"
 AGENT = "source/monitor/tests/machine/agent.py"
 UNIT = f"""[Unit]
@@ -128,7 +130,8 @@ def demand_disk():
 
 
 def made_in():
-    """Returns the folder of the cache that has a disk of these packages and units, if it was made."""
+    """Returns the folder of the cache that has a disk of these packages and units, if it was
+    made."""
     mark = hashlib.sha256(repr((PACKAGES, UNIT, UNWANTED, SIZE)).encode()).hexdigest()[:12]
     return os.path.join(CACHE, f"{SUITE}-{mark}")
 

@@ -1,4 +1,5 @@
-"""A machine of its own under QEMU, with Debian 13, systemd and cgroups of the second version, in which commands are run."""
+"""A machine of its own under QEMU, with Debian 13, systemd and cgroups of the second version, in
+which commands are run."""
 
 import json
 import os
@@ -15,7 +16,8 @@ from linux_vmms import Qemu, accelerator, fetched_qemu
 # MiB and processors of the machine.
 MEMORY, PROCESSORS = 1024, 2
 
-# Seconds in which something has to go on: a boot says more on its console, a command prints a line. The machine may be emulated, beside other work.
+# Seconds in which something has to go on: a boot says more on its console, a command prints a line.
+# The machine may be emulated, beside other work.
 QUIET = 600
 
 # The most seconds of a command, whatever it prints.
@@ -28,7 +30,8 @@ WORDS = "root=/dev/vda rw console=ttyS0 panic=-1 no_timer_check systemd.show_sta
 
 
 def program():
-    """Returns the words that begin a command of QEMU: of the one that is installed, or of one that is fetched."""
+    """Returns the words that begin a command of QEMU: of the one that is installed, or of one that
+    is fetched."""
     installed = shutil.which("qemu-system-x86_64")
     return [installed] if installed else fetched_qemu(Qemu.debian)
 
@@ -50,7 +53,8 @@ def pack(path, files):
 
 
 class Machine:
-    """A machine that is booted with these files, and has ended at the end. Its folder has what it said: by its port, and on its console."""
+    """A machine that is booted with these files, and has ended at the end. Its folder has what it
+    said: by its port, and on its console."""
 
     def __init__(self, folder, files):
         self.folder, self.console = folder, f"{folder}/console"
@@ -129,7 +133,8 @@ class Machine:
             return last_line(console.read())
 
     def line(self, what):
-        """Returns the next line of the port. What is said on the console meanwhile is progress, too."""
+        """Returns the next line of the port. What is said on the console meanwhile is progress,
+        too."""
         seen, end = 0, time.monotonic() + QUIET
         while b"\n" not in self.rest:
             now = os.path.getsize(self.console) if os.path.exists(self.console) else 0
@@ -159,7 +164,8 @@ class Machine:
         return it, lines
 
     def run(self, words, what, hear=lambda _: None):
-        """Runs shell words there, which have to end with status 0, and returns what they printed."""
+        """Runs shell words there, which have to end with status 0, and returns what they
+        printed."""
         status, lines = self.tried(words, what, hear)
         if status != 0:
             raise Fault(f"{what}: status {status}: {' | '.join(lines[-LINES:])}")

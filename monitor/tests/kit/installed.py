@@ -20,12 +20,14 @@ def version():
 
 
 def older_program():
-    """Builds the programs of a host as they were in an older version; returns the path of the host's."""
+    """Builds the programs of a host as they were in an older version; returns the path of the
+    host's."""
     return linux_kit.built("older/vhost_user_host")
 
 
 def install(program, folder):
-    """Puts the programs of a host in the place of those that are there; returns the path of the host's."""
+    """Puts the programs of a host in the place of those that are there; returns the path of the
+    host's."""
     os.makedirs(folder, exist_ok=True)
     for name in ("vhost_user_host", "vhost_user_balloon"):
         shutil.copy(os.path.join(os.path.dirname(program), name), f"{folder}/{name}.new")

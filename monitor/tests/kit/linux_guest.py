@@ -1,4 +1,5 @@
-"""Debian's own Linux on a balloon of this repository: a guest, its device, and what may be asked of them."""
+"""Debian's own Linux on a balloon of this repository: a guest, its device, and what may be asked of
+them."""
 
 import os
 import select
@@ -13,7 +14,8 @@ from waiting import PATIENCE, patience_from_now
 
 PAGES_PER_MIB = 256
 
-# Seconds of a boot where limits are what they say; a guest whose boot takes longer has more time for the rest, too.
+# Seconds of a boot where limits are what they say; a guest whose boot takes longer has more time
+# for the rest, too.
 USUAL_BOOT = 10
 
 
@@ -75,7 +77,8 @@ class Backend:
                 raise Fault(f"the backend doesn't answer {line!r}: {self.why() or fault}") from None
 
     def in_parts(self, first, last):
-        """Writes two parts of lines, with a rest between them; returns as many answers as there are lines."""
+        """Writes two parts of lines, with a rest between them; returns as many answers as there are
+        lines."""
         with self.lock:
             for part in (first, last):
                 self.process.stdin.write(part)
@@ -166,7 +169,8 @@ class Guest:
                 said.append(self.lines.next(end))
             except Fault as fault:
                 raise Fault(
-                    f"{fault} at its boot{self.how_it_ended()}: {' / '.join([*said[-3:], *filter(None, [self.why()])])}"
+                    f"{fault} at its boot{self.how_it_ended()}: "
+                    f"{' / '.join([*said[-3:], *filter(None, [self.why()])])}"
                 ) from None
         if said[-1] != "READY":
             raise Unbound(
@@ -176,7 +180,8 @@ class Guest:
             self.held = self.memory_file()
 
     def memory_file(self):
-        """Opens the file that is the guest's memory: it has no name, but the guest's process has it open."""
+        """Opens the file that is the guest's memory: it has no name, but the guest's process has it
+        open."""
         folder = f"/proc/{self.process.pid}/fd"
         for name in os.listdir(folder):
             try:
@@ -236,7 +241,8 @@ class Guest:
         return tuple(int(words[name].split()[0]) / 1024 for name in ("MemTotal", "MemFree"))
 
     def close(self):
-        """Has it power off; kills its processes where it doesn't. Returns whether it powered off itself."""
+        """Has it power off; kills its processes where it doesn't. Returns whether it powered off
+        itself."""
         self.let_go()
         try:
             self.begin("exit")
@@ -303,11 +309,13 @@ class Machine:
             raise Fault(f"the backend answers a target of {mib} MiB: {answer}")
 
     def end_of(self, limit):
-        """Returns when a wait of this limit ends, by the monotonic clock: it is longer under emulation, and where the boot was slow."""
+        """Returns when a wait of this limit ends, by the monotonic clock: it is longer under
+        emulation, and where the boot was slow."""
         return time.monotonic() + limit * self.patience
 
     def settle(self, limit):
-        """Waits until `actual` is the target; returns the seconds, or None where the limit came first."""
+        """Waits until `actual` is the target; returns the seconds, or None where the limit came
+        first."""
         begin, end = time.monotonic(), self.end_of(limit)
         while time.monotonic() < end:
             counters = self.backend.counters()

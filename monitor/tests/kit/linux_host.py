@@ -1,5 +1,5 @@
-"""Guests with Debian's own Linux on one host that lends them more memory than it has: the host's process, the guests' work,
-and what the host holds meanwhile."""
+"""Guests with Debian's own Linux on one host that lends them more memory than it has: the host's
+process, the guests' work, and what the host holds meanwhile."""
 
 import os
 import random
@@ -50,7 +50,8 @@ class Host(Backend):
         )
 
     def close(self):
-        """Ends it, and all guests' service; returns its status, or None where it had to be killed."""
+        """Ends it, and all guests' service; returns its status, or None where it had to be
+        killed."""
         try:
             self.process.stdin.write(b"quit\n")
         except OSError:
@@ -112,7 +113,8 @@ class Host(Backend):
         return pairs(self.ask("counters").split())
 
     def decisions(self):
-        """Returns the decisions since the last time: what was decided, and the shares of the guests in it."""
+        """Returns the decisions since the last time: what was decided, and the shares of the guests
+        in it."""
         found = []
         for line in self.ask_lines("log"):
             head, *shares = line.split(" | ")
@@ -145,8 +147,9 @@ class Ledger:
 
 
 class Sample(NamedTuple):
-    """What the host holds at one time, in MiB, what it lends and asks for, what each guest waits for, if it waits, the seconds for which
-    one of them hasn't told its statistics, and how much each guest is still to give."""
+    """What the host holds at one time, in MiB, what it lends and asks for, what each guest waits
+    for, if it waits, the seconds for which one of them hasn't told its statistics, and how much
+    each guest is still to give."""
 
     seconds: float
     held: tuple
@@ -172,7 +175,8 @@ class Town:
         return self
 
     def __exit__(self, _kind, fault, _trace):
-        """Ends all guests, and the host, which has to end well: it has no fault of its own, and has lost no memory."""
+        """Ends all guests, and the host, which has to end well: it has no fault of its own, and has
+        lost no memory."""
         self.ended.set()
         for it in self.members:
             it.close()
@@ -182,14 +186,16 @@ class Town:
             raise Fault(f"the host ends with status {status}: {self.host.why()}")
 
     def settle_in(self, names, memory):
-        """Boots guests of these names, one after the other, as each has to find room beside those before it."""
+        """Boots guests of these names, one after the other, as each has to find room beside those
+        before it."""
         for name in names:
             member = Member(self.host, self.vmm, name, memory)
             self.members.append(member)
             member.boot()
 
     def used_mib(self, members=None):
-        """Returns the MiB that all guests, or these, use now: what is neither free nor in a balloon."""
+        """Returns the MiB that all guests, or these, use now: what is neither free nor in a
+        balloon."""
         seen = self.host.guests()
         return sum(
             (seen[it.name]["pages"] - seen[it.name]["ballooned"]) / PAGES_PER_MIB - it.free_mib()
@@ -197,7 +203,8 @@ class Town:
         )
 
     def work(self, member, chance, ledger, end):
-        """A guest's day: it fills files of random sizes, keeps them for a while, and frees them again."""
+        """A guest's day: it fills files of random sizes, keeps them for a while, and frees them
+        again."""
         try:
             while time.monotonic() < end and not self.ended.is_set():
                 mib = chance.randint(LEAST_FILL, min(MOST_FILL, (member.memory - LINUX) * 4 // 5))
@@ -252,7 +259,8 @@ class Town:
             self.ended.wait(LOOK_EVERY)
 
     def live(self, seconds, seed, limit=None, every=None, workers=None):
-        """Lets all guests, or these, work for `seconds` seconds, by this seed, and use no more than `limit` MiB together."""
+        """Lets all guests, or these, work for `seconds` seconds, by this seed, and use no more than
+        `limit` MiB together."""
         ledger, end = Ledger(limit), time.monotonic() + seconds
         if limit is not None:
             ledger.take(self.used_mib())

@@ -1,4 +1,5 @@
-"""Has monitor/Makefile build daemons over the library, as they are installed or as tests want them."""
+"""Has monitor/Makefile build daemons over the library, as they are installed or as tests want
+them."""
 
 import fcntl
 import os
@@ -32,7 +33,8 @@ def choose(reference):
 
 
 def make(folder, *names, **words):
-    """Makes files of this folder of monitor's by the Makefile, one run at a time, and returns their paths."""
+    """Makes files of this folder of monitor's by the Makefile, one run at a time, and returns their
+    paths."""
     need("cc", "gcc libc6-dev")
     paths = [os.path.join(folder, it) for it in names]
     command = [
@@ -68,14 +70,15 @@ def core_of():
     if not os.path.exists(path):
         where = os.path.relpath(path, ROOT)
         raise Missing(
-            f"{where} isn't there: rt lib in crates/vb_c makes it, VB_LIB=FILE names another, LIB=reference does without"
+            f"{where} isn't there: rt lib in crates/vb_c makes it, VB_LIB=FILE names another, "
+            "LIB=reference does without"
         )
     return path
 
 
 def build(*names):
-    """Builds programs, KIND/NAME, or libvb.so over the library that decides, and returns their paths. The Makefile has each kind; a host's
-    program comes with that of its guests' processes."""
+    """Builds programs, KIND/NAME, or libvb.so over the library that decides, and returns their
+    paths. The Makefile has each kind; a host's program comes with that of its guests' processes."""
     core = core_of()
     return (
         make("out/reference", *names)

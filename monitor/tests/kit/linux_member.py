@@ -14,8 +14,9 @@ KEPT = 10
 
 
 class Member:
-    """A guest of a host: Linux with a balloon, and the bytes that it keeps; its memory may be in a folder of its own, it may have a disk, and
-    its process may begin as others (`before` is their words)."""
+    """A guest of a host: Linux with a balloon, and the bytes that it keeps; its memory may be in a
+    folder of its own, it may have a disk, and its process may begin as others (`before` is their
+    words)."""
 
     def __init__(self, host, vmm, name, memory, terms="", place=None, disk=None, before=()):
         self.host, self.vmm, self.name, self.memory, self.place = host, vmm, name, memory, place

@@ -1,4 +1,5 @@
-"""Fetches Debian's packages for a guest into a cache of this repository: nothing is installed, and the machine's own lists stay."""
+"""Fetches Debian's packages for a guest into a cache of this repository: nothing is installed, and
+the machine's own lists stay."""
 
 import glob
 import os
@@ -9,7 +10,8 @@ import subprocess
 ROOT = os.path.realpath(os.path.join(os.path.dirname(__file__), "../../.."))
 CACHE = os.path.join(ROOT, ".cache", "linux")
 
-# Where packages of another Debian than the machine's come from, and the seconds in which it has to answer each of two requests.
+# Where packages of another Debian than the machine's come from, and the seconds in which it has to
+# answer each of two requests.
 MIRROR = "http://deb.debian.org/debian"
 ANSWERS_IN = 2
 
@@ -47,8 +49,8 @@ def keyring():
 
 
 def apt_of(suite):
-    """Returns the environment in which apt-get knows the packages of another Debian, by lists of its own in the cache; the
-    machine's own where none is named."""
+    """Returns the environment in which apt-get knows the packages of another Debian, by lists of
+    its own in the cache; the machine's own where none is named."""
     if suite is None:
         return None
     folder = os.path.join(CACHE, f"apt-{suite}")
@@ -83,8 +85,8 @@ def apt_of(suite):
 
 
 def fetch(name, packages, suite=None):
-    """Returns a folder of the cache with these packages of this machine's Debian unpacked, or of another one; `packages` says
-    which, the first time, by apt-get's environment."""
+    """Returns a folder of the cache with these packages of this machine's Debian unpacked, or of
+    another one; `packages` says which, the first time, by apt-get's environment."""
     if suite is not None and not suite.isalnum():
         raise Missing(f"{suite!r} is no name of a Debian: bookworm, trixie or sid")
     root = os.path.join(CACHE, f"{name}-{suite}" if suite else name)
@@ -106,7 +108,8 @@ def fetch(name, packages, suite=None):
         archives = glob.glob(os.path.join(part, "*.deb"))
         if ran.returncode != 0 or len(archives) < len(wanted):
             raise Missing(
-                f"apt-get download {wanted[0]} ..: {last_line(ran.stderr)}: apt-get update, on Debian for amd64"
+                f"apt-get download {wanted[0]} ..: {last_line(ran.stderr)}: apt-get update, on "
+                "Debian for amd64"
             )
         for archive in archives:
             subprocess.run(["dpkg-deb", "-x", archive, part], check=True)
@@ -122,7 +125,8 @@ def fetch(name, packages, suite=None):
 
 
 def one_of(root, *names):
-    """Returns the file of a package that is at one of these places: which, depends on the Debian."""
+    """Returns the file of a package that is at one of these places: which, depends on the
+    Debian."""
     for name in names:
         found = glob.glob(os.path.join(root, name))
         if found:
@@ -131,7 +135,8 @@ def one_of(root, *names):
 
 
 def fetch_uml(suite=None):
-    """Returns a folder with User Mode Linux and a busybox for its guest; one of another Debian has its C library, too."""
+    """Returns a folder with User Mode Linux and a busybox for its guest; one of another Debian has
+    its C library, too."""
     return fetch(
         "uml", lambda _: ["user-mode-linux", "busybox-static", *(["libc6"] if suite else [])], suite
     )
@@ -157,7 +162,8 @@ def kernel_packages(environment):
     kernel = sorted(set(re.findall(r"(?m)^linux-(?:image|binary|modules)-\d\S*", said)))
     if not kernel:
         raise Missing(
-            "apt-cache knows no linux-image-cloud-amd64, whose kernel a guest of QEMU boots: apt-get update, on amd64"
+            "apt-cache knows no linux-image-cloud-amd64, whose kernel a guest of QEMU boots: "
+            "apt-get update, on amd64"
         )
     return [*kernel, "busybox-static"]
 
@@ -168,7 +174,8 @@ def fetch_kernel(suite=None):
 
 
 def wanted_by(package, environment):
-    """Returns a package and all that it wants besides, as apt-get knows them where nothing is installed."""
+    """Returns a package and all that it wants besides, as apt-get knows them where nothing is
+    installed."""
     words = ["apt-get", "install", "-s", "--no-install-recommends", package]
     ran = subprocess.run(words, capture_output=True, text=True, env=environment)
     packages = [it.split()[1] for it in ran.stdout.splitlines() if it.startswith("Inst ")]
@@ -185,7 +192,8 @@ def fetch_qemu(suite):
 
 
 def rust_vmm_crates():
-    """Returns a folder with the sources of rust-vmm's crates for vhost-user, and of all that they are made of: the machine's, or Debian 13's."""
+    """Returns a folder with the sources of rust-vmm's crates for vhost-user, and of all that they
+    are made of: the machine's, or Debian 13's."""
     if glob.glob(f"/{CRATES}/vhost-user-backend-[0-9]*"):
         return f"/{CRATES}"
     crates = lambda environment: [

@@ -1,4 +1,5 @@
-"""The VMMs of a Linux with a balloon, each with what differs: its device's backend, its command, and how it is told to act."""
+"""The VMMs of a Linux with a balloon, each with what differs: its device's backend, its command,
+and how it is told to act."""
 
 import fcntl
 import glob
@@ -28,13 +29,15 @@ from qmp import Qmp
 # A guest's command line, whatever it runs under.
 KERNEL_WORDS = ("rdinit=/init", "panic=-1", "loglevel=1")
 
-# How guest and device notify each other, and the backend's option for that. QEMU's notifications are events in each case.
+# How guest and device notify each other, and the backend's option for that. QEMU's notifications
+# are events in each case.
 FORMS = {"messages": (), "events": ("--events",)}
 
 # KVM answers this request by this version (linux/kvm.h).
 KVM_GET_API_VERSION, KVM_API_VERSION = 0xAE00, 12
 
-# How many times as long as under User Mode Linux a wait may take under emulation, at least, on a machine that has other work.
+# How many times as long as under User Mode Linux a wait may take under emulation, at least, on a
+# machine that has other work.
 EMULATED = 5
 
 # The guests that are emulated beside each other in a run of a host: each takes a processor.
@@ -48,9 +51,10 @@ LAST_PROXY = 10
 
 
 class Shape(NamedTuple):
-    """What a guest is started with: its MiB, its processors, more words of its kernel's command line, the MiB that may be plugged
-    in besides, what QEMU is told of its device's queues (how many there are, and the descriptors of each), the file of a disk that it reads
-    alone, and the folder where QEMU has its memory."""
+    """What a guest is started with: its MiB, its processors, more words of its kernel's command
+    line, the MiB that may be plugged in besides, what QEMU is told of its device's queues (how many
+    there are, and the descriptors of each), the file of a disk that it reads alone, and the folder
+    where QEMU has its memory."""
 
     memory: int
     processors: int = 1
@@ -68,12 +72,14 @@ def demand_shared_room(memory):
     free = room.f_bavail * room.f_frsize >> 20
     if free < memory:
         raise Missing(
-            f"/dev/shm has {free} MiB free, and {memory} are wanted for guests: mount -o remount,size={memory + 64}M /dev/shm"
+            f"/dev/shm has {free} MiB free, and {memory} are wanted for guests: mount -o "
+            f"remount,size={memory + 64}M /dev/shm"
         )
 
 
 def takes_any_kernel():
-    """Whether KVM has a processor with virtualization under it: one without takes only kernels that are made for it."""
+    """Whether KVM has a processor with virtualization under it: one without takes only kernels that
+    are made for it."""
     with open("/proc/cpuinfo", encoding="utf-8") as file:
         flags = next((it.split() for it in file if it.startswith("flags")), ())
     return "vmx" in flags or "svm" in flags
@@ -101,7 +107,8 @@ def build_more_registers(folder):
 
 
 def accelerator():
-    """Returns QEMU's word for KVM where the machine's answers and takes any kernel, else for its own emulation."""
+    """Returns QEMU's word for KVM where the machine's answers and takes any kernel, else for its
+    own emulation."""
     try:
         with open("/dev/kvm", "rb+", buffering=0) as device:
             answers = fcntl.ioctl(device, KVM_GET_API_VERSION) == KVM_API_VERSION
@@ -116,7 +123,8 @@ class OverSocket:
     backend = "vhost_user_balloon"
 
     def connect(self, folder):
-        """Returns what the backend and the guest are told of each other, and their files: none here."""
+        """Returns what the backend and the guest are told of each other, and their files: none
+        here."""
         path = os.path.join(folder, "socket")
         return (path, ()), (path, ())
 
@@ -164,7 +172,8 @@ class Uml(OverSocket):
         ]
 
     def environment(self):
-        """Returns the guest's environment: its memory is in /dev/shm, but where one of these names another folder."""
+        """Returns the guest's environment: its memory is in /dev/shm, but where one of these names
+        another folder."""
         return {
             name: it for name, it in os.environ.items() if name not in ("TMPDIR", "TMP", "TEMP")
         } | self.preloaded
@@ -183,8 +192,9 @@ class Uml(OverSocket):
 
 
 def can_create(program, device):
-    """Whether a QEMU can create a device. It is asked for that one: for a list of all it loads each module, also those of another QEMU that is
-    installed, which end it. The device's options alone don't say that it may be created."""
+    """Whether a QEMU can create a device. It is asked for that one: for a list of all it loads each
+    module, also those of another QEMU that is installed, which end it. The device's options alone
+    don't say that it may be created."""
     said = subprocess.run([*program, "-device", f"{device},help"], capture_output=True, text=True)
     if said.returncode < 0:
         raise Missing(f"{program[0]}: {last_line(said.stderr)}")
@@ -199,8 +209,9 @@ def can_create(program, device):
 
 
 class Emulator:
-    """QEMU, and a machine whose device isn't said. A class of it says which devices do (`devices`), whose QEMU is fetched where the
-    one that is installed has none of them (`debian`), and what its kernel is told besides (`kernel_words`).
+    """QEMU, and a machine whose device isn't said. A class of it says which devices do (`devices`),
+    whose QEMU is fetched where the one that is installed has none of them (`debian`), and what its
+    kernel is told besides (`kernel_words`).
     """
 
     patience, most_guests = EMULATED, MOST_EMULATED
@@ -219,7 +230,8 @@ class Emulator:
         self.initramfs = make_initramfs(folder, busybox_of(files), modules)
 
     def find(self):
-        """Returns the words that begin a command of a QEMU that has one of the devices, and which."""
+        """Returns the words that begin a command of a QEMU that has one of the devices, and
+        which."""
         installed = shutil.which("qemu-system-x86_64")
         device = installed and self.device_of([installed])
         if device:
@@ -280,7 +292,8 @@ class Emulator:
 
 
 def fetched_qemu(debian):
-    """Returns the words that begin a command of a fetched QEMU: its own loader, libraries, modules and files of its machine."""
+    """Returns the words that begin a command of a fetched QEMU: its own loader, libraries, modules
+    and files of its machine."""
     root = fetch_qemu(debian)
     libraries = [os.path.join(root, it, "x86_64-linux-gnu") for it in ("usr/lib", "lib")]
     files = [
@@ -312,7 +325,8 @@ class Qemu(OverSocket, Emulator):
         return accelerator()
 
     def device_words(self, shape):
-        """Returns the device by its names, as QEMU's command line and its control socket have them."""
+        """Returns the device by its names, as QEMU's command line and its control socket have
+        them."""
         queues = {"num_vqs": shape.queues, "vq_size": shape.queue_size}
         return {
             "driver": self.device,
@@ -357,7 +371,8 @@ class Qemu(OverSocket, Emulator):
 
 
 class QemuProxy(Emulator):
-    """QEMU whose device is a PCI function in another process: its messages come by a pair of sockets."""
+    """QEMU whose device is a PCI function in another process: its messages come by a pair of
+    sockets."""
 
     backend = "pci_proxy_balloon"
     forms, has_control = ("messages",), False
@@ -366,13 +381,15 @@ class QemuProxy(Emulator):
     kernel_words = ("console=ttyS0", "irqpoll", "nolapic_timer", "nohz=off")
 
     def find(self):
-        """Returns the words that begin a command of QEMU, and the device; says where a driver would end QEMU by a signal."""
+        """Returns the words that begin a command of QEMU, and the device; says where a driver would
+        end QEMU by a signal."""
         found, device = super().find()
         said = subprocess.run([*found, "--version"], capture_output=True, text=True).stdout
         version = re.search(r"version (\d+)\.[\d.]+", said)
         if version and int(version[1]) > LAST_PROXY:
             raise Missing(
-                f"{found[0]} is of {version[0]}, whose {device} ends by a signal: QEMU 7 to {LAST_PROXY} is wanted, or --vmm qemu"
+                f"{found[0]} is of {version[0]}, whose {device} ends by a signal: QEMU 7 to "
+                f"{LAST_PROXY} is wanted, or --vmm qemu"
             )
         return found, device
 
@@ -398,7 +415,8 @@ VMMS = {"uml": Uml, "qemu": Qemu, "qemu-proxy": QemuProxy}
 
 
 def vmm_of(name, folder, suite=None):
-    """Returns what makes guests of this VMM, with the kernel of this machine's Debian, or of another one."""
+    """Returns what makes guests of this VMM, with the kernel of this machine's Debian, or of
+    another one."""
     if name not in VMMS:
         raise Fault(f"{name!r} is no VMM: {', '.join(VMMS)}")
     return VMMS[name](folder, suite)

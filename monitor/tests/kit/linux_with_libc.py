@@ -1,4 +1,5 @@
-"""Runs a program of another Debian with that one's C library, which is put in the place of the machine's in mounts of its own.
+"""Runs a program of another Debian with that one's C library, which is put in the place of the
+machine's in mounts of its own.
 
     python3 linux_with_libc.py LOADER LIBRARY PROGRAM WORDS..
 """
@@ -25,7 +26,8 @@ def demand(answer, what):
 
 
 def leave_mounts():
-    """Gets mounts of its own; who isn't root gets them beside a name space of users in which it is the same user."""
+    """Gets mounts of its own; who isn't root gets them beside a name space of users in which it is
+    the same user."""
     user, group = os.geteuid(), os.getegid()
     if user == 0 and LIBC.unshare(NEW_MOUNTS) == 0:
         return
@@ -57,5 +59,6 @@ if __name__ == "__main__":
         main(*sys.argv[1:])
     except OSError as fault:
         sys.exit(
-            f"a kernel of another Debian wants mounts of its own: {fault.filename}: {fault.strerror}"
+            f"a kernel of another Debian wants mounts of its own: {fault.filename}: "
+            f"{fault.strerror}"
         )

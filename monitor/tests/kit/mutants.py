@@ -1,4 +1,5 @@
-"""Programs that are wrong on purpose: each is refused by the test that is for it, and that alone is run."""
+"""Programs that are wrong on purpose: each is refused by the test that is for it, and that alone is
+run."""
 
 import os
 import subprocess
@@ -20,7 +21,8 @@ LIMIT, WAIT = 280, 20
 
 
 def demand_refused(test, words=(), **environment):
-    """Demands that a test fails by a fault of the program that the environment names; returns the fault."""
+    """Demands that a test fails by a fault of the program that the environment names; returns the
+    fault."""
     ran = subprocess.run(
         [sys.executable, "-m", "pytest", "-q", "-n", "0", "--tb=short", *words, test],
         env=os.environ | environment | {"PATIENCE": str(WAIT)},

@@ -1,4 +1,5 @@
-"""A client of monitor/backends/pci_proxy_balloon.c in the place of QEMU: a machine with a guest's memory, whose driver is the test."""
+"""A client of monitor/backends/pci_proxy_balloon.c in the place of QEMU: a machine with a guest's
+memory, whose driver is the test."""
 
 import array
 import os
@@ -61,7 +62,8 @@ class Client:
         self.hand_over([(0, PAGES * PAGE, 0)])
 
     def hand_over(self, regions):
-        """Tells the backend of the memory: where each region begins in the guest, its bytes, and where it begins in the file."""
+        """Tells the backend of the memory: where each region begins in the guest, its bytes, and
+        where it begins in the file."""
         tables = [[it[part] for it in regions] + [0] * (8 - len(regions)) for part in range(3)]
         self.send(SYNC_MEMORY, struct.pack("<24Q", *sum(tables, [])), len(regions) * [self.memory])
 

@@ -1,4 +1,5 @@
-"""What the suites of the planner have in common: the library as a program of Python loads it, and the command `bigvasta plan`."""
+"""What the suites of the planner have in common: the library as a program of Python loads it, and
+the command `bigvasta plan`."""
 
 import os
 import subprocess

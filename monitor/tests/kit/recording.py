@@ -1,4 +1,5 @@
-"""Records a host's metrics, look by look, and hands them out as Prometheus does: as the answer of query_range, of which `bigvasta plan` makes a day."""
+"""Records a host's metrics, look by look, and hands them out as Prometheus does: as the answer of
+query_range, of which `bigvasta plan` makes a day."""
 
 import json
 import os
@@ -68,7 +69,8 @@ class Recorder(threading.Thread):
         self.join()
 
     def steps(self):
-        """Yields the looks in steps of one length: at each that which was the last one until then."""
+        """Yields the looks in steps of one length: at each that which was the last one until
+        then."""
         first, number = self.looks[0][0], 0
         for step in range(int((self.looks[-1][0] - first) / LOOK_EVERY) + 1):
             at = first + step * LOOK_EVERY

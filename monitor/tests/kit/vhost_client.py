@@ -1,5 +1,6 @@
-"""A vhost-user client that isn't Linux: it has memory of its own, with a hole in it, and writes into its rings whatever is
-wanted. It kicks and is called by messages, as virtio_uml, or by events, as QEMU."""
+"""A vhost-user client that isn't Linux: it has memory of its own, with a hole in it, and writes
+into its rings whatever is wanted. It kicks and is called by messages, as virtio_uml, or by events,
+as QEMU."""
 
 import array
 import os
@@ -32,7 +33,8 @@ GET_CONFIG, SET_CONFIG, RESET_DEVICE, VRING_KICK = 24, 25, 34, 35
 GET_MAX_MEM_SLOTS, ADD_MEM_REG, REM_MEM_REG, SET_STATUS, GET_STATUS = 36, 37, 38, 39, 40
 CONFIG_CHANGED, VRING_CALL = 2, 4
 
-# Protocol features: MQ, REPLY_ACK, BACKEND_REQ, CONFIG, RESET_DEVICE, INBAND_NOTIFICATIONS, CONFIGURE_MEM_SLOTS, STATUS.
+# Protocol features: MQ, REPLY_ACK, BACKEND_REQ, CONFIG, RESET_DEVICE, INBAND_NOTIFICATIONS,
+# CONFIGURE_MEM_SLOTS, STATUS.
 REPLY_ACK, BY_MESSAGES, STATUS = 1 << 3, 1 << 14, 1 << 16
 OFFERED = 0x1E229
 UML_PROTOCOL, QEMU_PROTOCOL = 0x4228, OFFERED & ~BY_MESSAGES
@@ -62,7 +64,8 @@ NO_NUMBERS = (
     "18446744073709551621",
 )
 
-# What may be in front of a line so that nothing of it is obeyed: more bytes than a line may have, or a byte 0.
+# What may be in front of a line so that nothing of it is obeyed: more bytes than a line may have,
+# or a byte 0.
 NO_LINES = (*("x" * it for it in (127, 128, 254, 255, 256, 257, 511, 512, 513)), "\0", "x\0")
 
 
@@ -72,7 +75,8 @@ def memory_file(folder, name):
 
 
 class Client:
-    """A vhost-user client with memory, in a folder where one is named; `why` says what its backend said last."""
+    """A vhost-user client with memory, in a folder where one is named; `why` says what its backend
+    said last."""
 
     regions, pages_of_region = REGIONS, PAGES_OF_REGION
 
@@ -110,7 +114,8 @@ class Client:
                 os.close(it)
 
     def receive(self, stream=None):
-        """Returns the request and the body of the next message; None where there is none any more."""
+        """Returns the request and the body of the next message; None where there is none any
+        more."""
         stream = stream or self.socket
         stream.settimeout(PATIENCE)
         head = stream.recv(12, socket.MSG_WAITALL)
@@ -211,8 +216,8 @@ class Client:
         return wanted
 
     def begin(self, protocol=UML_PROTOCOL):
-        """Begins a session, with a channel of its own: virtio_uml says so before all else, QEMU once protocol features are
-        negotiated."""
+        """Begins a session, with a channel of its own: virtio_uml says so before all else, QEMU
+        once protocol features are negotiated."""
         if self.begun:
             self.own.close(), self.theirs.close()
             self.own, self.theirs = socket.socketpair()
@@ -251,7 +256,8 @@ class Client:
                 raise AssertionError(self.why())
 
     def start_by_events(self, features=FEATURES, protocol=QEMU_PROTOCOL, bases=None):
-        """Does what QEMU does until the device is ready; with rings that go on at these indexes, or with new ones."""
+        """Does what QEMU does until the device is ready; with rings that go on at these indexes, or
+        with new ones."""
         self.negotiate(features, protocol)
         self.add_memory()
         self.go_on(bases)
@@ -303,7 +309,8 @@ class Client:
         self.write(at + 2, struct.pack("<H", self.available[number] & 0xFFFF))
 
     def kick(self, number):
-        """Kicks a queue: by its event, or by a message whose answer comes before anything is served."""
+        """Kicks a queue: by its event, or by a message whose answer comes before anything is
+        served."""
         if self.kicks[number] is not None:
             return os.eventfd_write(self.kicks[number], 1)
         return self.send(VRING_KICK, struct.pack("<II", number, 0))
@@ -331,20 +338,23 @@ class Client:
         ]
 
     def told(self, limit=PATIENCE):
-        """Returns the next thing that the backend tells: a queue's number, or None for the configuration."""
+        """Returns the next thing that the backend tells: a queue's number, or None for the
+        configuration."""
         if not select.select([self.own], [], [], limit)[0]:
             raise AssertionError(f"the backend tells nothing: {self.why()}")
         request, body = self.receive(self.own)
         return struct.unpack("<I", body[:4])[0] if request == VRING_CALL else None
 
     def called(self, number, limit=PATIENCE):
-        """Returns how often a queue was called by its event since the last time, and waits for the first."""
+        """Returns how often a queue was called by its event since the last time, and waits for the
+        first."""
         if not select.select([self.calls[number]], [], [], limit)[0]:
             return 0
         return os.eventfd_read(self.calls[number])
 
     def said(self, number, limit=PATIENCE):
-        """Returns the next bytes of a pipe by which a queue is called; none where nothing comes in time."""
+        """Returns the next bytes of a pipe by which a queue is called; none where nothing comes in
+        time."""
         return (
             os.read(self.calls[number], 8)
             if select.select([self.calls[number]], [], [], limit)[0]

@@ -1,4 +1,5 @@
-"""What tests demand of a client's backend: that a request is served, that none is, that the service ends with these words."""
+"""What tests demand of a client's backend: that a request is served, that none is, that the service
+ends with these words."""
 
 import struct
 import time

@@ -28,7 +28,8 @@ class Served(Client):
         super().__init__(self.path, self.backend.why)
 
     def restart(self, *options, killed=False):
-        """Starts another backend in the place of the one that there was, and waits until it listens."""
+        """Starts another backend in the place of the one that there was, and waits until it
+        listens."""
         if killed:
             os.kill(self.backend.process.pid, signal.SIGKILL)
         self.backend.close()
@@ -70,8 +71,8 @@ class Served(Client):
             return sum("memfd:region" in it for it in maps)
 
     def describe_all(self, number, size):
-        """Writes descriptors that stand by themselves, and entries of which each names the one of its place, and makes all
-        available. No interrupt is wanted."""
+        """Writes descriptors that stand by themselves, and entries of which each names the one of
+        its place, and makes all available. No interrupt is wanted."""
         for head in range(size):
             self.describe(number, head, BUFFERS, 4)
         self.write(self.table(number) + PAGE, struct.pack(f"<HH{size}H", 1, size, *range(size)))
@@ -89,7 +90,8 @@ class Served(Client):
         return True
 
     def are_served(self, numbers, count):
-        """Makes whole queues of `count` chains available, and kicks each once, all at a time: whether all are served, in time."""
+        """Makes whole queues of `count` chains available, and kicks each once, all at a time:
+        whether all are served, in time."""
         for it in numbers:
             self.describe_all(it, count)
         self.socket.sendall(
@@ -98,8 +100,8 @@ class Served(Client):
         return self.are_used(numbers, count)
 
     def served_by_a_kick(self, number, seconds):
-        """Kicks a queue once while another process makes each chain available again as soon as it is used, without a kick;
-        returns how many chains are served."""
+        """Kicks a queue once while another process makes each chain available again as soon as it
+        is used, without a kick; returns how many chains are served."""
         self.describe_all(number, SIZE)
         at = self.table(number) - REGIONS[self.region][0]
         used, available = (at + 2 * PAGE + 2) // 2, (at + PAGE + 2) // 2

@@ -3,7 +3,8 @@
 import os
 import time
 
-# Seconds after which any wait has failed: a machine may be busy, or emulated. Who tests programs that are wrong gives them fewer.
+# Seconds after which any wait has failed: a machine may be busy, or emulated. Who tests programs
+# that are wrong gives them fewer.
 PATIENCE = float(os.environ.get("PATIENCE", "300"))
 
 
@@ -13,7 +14,8 @@ def patience_from_now():
 
 
 def eventually(condition, what="", limit=None):
-    """Waits until a condition holds, for `limit` seconds at most (PATIENCE), and returns what it came to."""
+    """Waits until a condition holds, for `limit` seconds at most (PATIENCE), and returns what it
+    came to."""
     end = time.monotonic() + (limit or PATIENCE)
     while True:
         found = condition()

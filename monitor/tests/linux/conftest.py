@@ -1,4 +1,5 @@
-"""A Linux of Debian's own on a backend: the cases that the command line asks for, and what all of them share."""
+"""A Linux of Debian's own on a backend: the cases that the command line asks for, and what all of
+them share."""
 
 import pytest
 from linux_bench import ALL_RUNS, SHARED_RUNS, WRONG_DEVICES, Bench
@@ -34,7 +35,8 @@ def names_of(config):
 
 
 def cases(names, forms, seeds):
-    """Returns all runs: with a guest of each size, in each of the forms, which change places from run to run."""
+    """Returns all runs: with a guest of each size, in each of the forms, which change places from
+    run to run."""
     return [
         (name, memory, forms[(number + place + seed) % len(forms)], seed)
         for seed in seeds

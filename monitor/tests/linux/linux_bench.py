@@ -24,7 +24,8 @@ class Bench:
         self.vmm = vmm_of(vmm, folder, suite)
 
     def run(self, name, memory, form, seed, wrong=None):
-        """Runs one of the runs with a guest of its own; raises a fault where it fails. Returns words about it."""
+        """Runs one of the runs with a guest of its own; raises a fault where it fails. Returns
+        words about it."""
         self.count += 1
         folder = os.path.join(self.folder, f"run-{self.count}")
         run = ALL_RUNS[name]

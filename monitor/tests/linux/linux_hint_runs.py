@@ -1,14 +1,17 @@
-"""The runs of a Linux whose free page hints the host asks for, in rounds (VIRTIO 1.2, 5.5.6.6). What is hinted is discarded."""
+"""The runs of a Linux whose free page hints the host asks for, in rounds (VIRTIO 1.2, 5.5.6.6).
+What is hinted is discarded."""
 
 import time
 
 from linux_kit import demand
 from linux_runs import LEFT_FREE, REPORT_LIMIT, Run, audit, fill_memory, finish, keep
 
-# The driver hints blocks of 4 MiB: MiB of what is free that may lie in no whole block, or that it leaves to its kernel.
+# The driver hints blocks of 4 MiB: MiB of what is free that may lie in no whole block, or that it
+# leaves to its kernel.
 UNHINTED = 32
 
-# MiB of a hog, at least, and of the guests that have room for it; rounds that end amid, and the longest rest before an end, in seconds.
+# MiB of a hog, at least, and of the guests that have room for it; rounds that end amid, and the
+# longest rest before an end, in seconds.
 HOG, ROOMY, AMID, MOST_REST = 150, (320, 384), 8, 0.1
 
 # Without reports, which give the same memory back.
@@ -41,7 +44,10 @@ def holds(machine, most):
     held = machine.guest.held_mib()
     return (
         held <= most,
-        f"the host holds {held:.0f} MiB, and at most {most:.0f} are wanted: {machine.backend.counters()}",
+        (
+            f"the host holds {held:.0f} MiB, and at most {most:.0f} are wanted: "
+            f"{machine.backend.counters()}"
+        ),
     )
 
 
@@ -49,18 +55,23 @@ def hinted(machine):
     """Demands that pages were hinted; returns words about them."""
     counters = machine.backend.counters()
     demand(counters["hints_pages"] > 0, f"nothing was hinted: {counters}")
-    return f"{counters['hints_rounds']} rounds, {counters['hints_pages']} pages hinted, {counters['hints_late']} late"
+    return (
+        f"{counters['hints_rounds']} rounds, {counters['hints_pages']} pages hinted, "
+        f"{counters['hints_late']} late"
+    )
 
 
 def fill_and_free(machine):
-    """Fills the guest's memory and frees it again; returns the MiB that were filled, and the MiB that are free then."""
+    """Fills the guest's memory and frees it again; returns the MiB that were filled, and the MiB
+    that are free then."""
     filled = fill_memory(machine)
     machine.guest.do("free")
     return filled, machine.guest.memory_mib()[1]
 
 
 def hints_run(machine, _):
-    """A hog is freed, and a round brings its memory back to the host; after DONE the guest fills its memory again."""
+    """A hog is freed, and a round brings its memory back to the host; after DONE the guest fills
+    its memory again."""
     kept, said = keep(machine, "keep", machine.memory // 6), []
     for number in range(2):
         filled, free = fill_and_free(machine)

@@ -1,4 +1,5 @@
-"""The runs of a Linux in a machine that is stopped, reset and plugged by the control socket of its VMM, or that is larger."""
+"""The runs of a Linux in a machine that is stopped, reset and plugged by the control socket of its
+VMM, or that is larger."""
 
 import time
 
@@ -21,7 +22,8 @@ from linux_runs import (
 # Stops of the run `pause`; the longest rest before one, in seconds.
 STOPS, MOST_REST = 12, 0.15
 
-# Targets of the run `written`, and the pages of a request of Linux, after each of which it writes `actual`.
+# Targets of the run `written`, and the pages of a request of Linux, after each of which it writes
+# `actual`.
 WRITTEN, REQUEST = 8, 256
 
 # Tenths of what is free that are in the balloon when the device of the run `plug` is unplugged.
@@ -35,7 +37,8 @@ DIMM = 128
 # The descriptors of the largest queue.
 MOST_DESCRIPTORS = 1024
 
-# MiB of a guest whose memory goes on above 4 GiB, and the part of what is free that goes into its balloon: Linux keeps some of each zone.
+# MiB of a guest whose memory goes on above 4 GiB, and the part of what is free that goes into its
+# balloon: Linux keeps some of each zone.
 LARGE, MOST = 4096, 0.9
 
 
@@ -118,7 +121,8 @@ def written_run(machine, chance):
 
 
 def plug_again(machine):
-    """The device is unplugged, and the driver takes all pages out of its balloon; then it is plugged over the same connection."""
+    """The device is unplugged, and the driver takes all pages out of its balloon; then it is
+    plugged over the same connection."""
     machine.control.do("device_del", id="balloon")
     machine.control.await_event("DEVICE_DELETED", device="balloon")
     gone = (
@@ -130,8 +134,9 @@ def plug_again(machine):
 
 
 def plug_run(machine, _):
-    """With each of some balloons the machine is stopped and goes on, and the device is unplugged and plugged again: the balloon is
-    what it was, and the guest has as much less memory by its own word."""
+    """With each of some balloons the machine is stopped and goes on, and the device is unplugged
+    and plugged again: the balloon is what it was, and the guest has as much less memory by its own
+    word."""
     kept = keep(machine, "keep", machine.memory // 6)
     filled = fill_memory(machine)
     free_and_report(machine, filled)
@@ -193,7 +198,8 @@ def dimm_run(machine, _):
 
 
 def begin_anew(machine, how):
-    """Has the guest begin anew with pages in its balloon: its driver begins with none, and reaches the target."""
+    """Has the guest begin anew with pages in its balloon: its driver begins with none, and reaches
+    the target."""
     mib = machine.memory // 4
     inflate_filled(machine, mib)
     machine.control.do("set-action", reboot="reset")

@@ -1,4 +1,5 @@
-"""The runs of a Linux on a backend: what a guest is told to do, and what is demanded of its device and of the host's memory."""
+"""The runs of a Linux on a backend: what a guest is told to do, and what is demanded of its device
+and of the host's memory."""
 
 import time
 from collections.abc import Callable
@@ -7,13 +8,16 @@ from typing import NamedTuple
 from linux_guest import PAGES_PER_MIB
 from linux_kit import Fault, demand
 
-# The guests' MiB. With less than 256, Linux reports nothing: it wants 128 MiB free in a zone before it does.
+# The guests' MiB. With less than 256, Linux reports nothing: it wants 128 MiB free in a zone before
+# it does.
 SIZES = (256, 384)
 
-# Seconds in which a target is reached, in which a guest reports its free pages, and in which it moves some.
+# Seconds in which a target is reached, in which a guest reports its free pages, and in which it
+# moves some.
 TARGET_LIMIT, REPORT_LIMIT, MOVE_LIMIT = 60, 30, 10
 
-# The part that has to come back of what is inflated or reported; MiB that a hog leaves free, as Linux itself needs some.
+# The part that has to come back of what is inflated or reported; MiB that a hog leaves free, as
+# Linux itself needs some.
 COMES_BACK, LEFT_FREE = 0.9, 20
 
 # Targets of the run `churn`.
@@ -25,7 +29,8 @@ class DeviceFault(Fault):
 
 
 def audit(machine):
-    """Demands that the build for tests saw no fault in the device; returns how many entries it looked at."""
+    """Demands that the build for tests saw no fault in the device; returns how many entries it
+    looked at."""
     numbers, first = machine.backend.ask("audit").split(" first ", 1)
     words = numbers.split()[1:]
     numbers = dict(zip(words[0::2], map(int, words[1::2])))
@@ -49,7 +54,8 @@ def keep(machine, name, mib):
 
 
 def fill_memory(machine):
-    """Has the guest fill its memory, and notes what is no hole then; returns the MiB that were filled."""
+    """Has the guest fill its memory, and notes what is no hole then; returns the MiB that were
+    filled."""
     mib = int(machine.guest.memory_mib()[1]) - LEFT_FREE
     machine.guest.do(f"hog {mib}")
     machine.backend.ask("snapshot")
@@ -183,7 +189,8 @@ def unload_run(machine, _):
 
 
 def zeroed_run(machine, _):
-    """The kernel wants zeros in the pages that it frees: with PAGE_POISON it says so, and reports."""
+    """The kernel wants zeros in the pages that it frees: with PAGE_POISON it says so, and
+    reports."""
     kept = keep(machine, "keep", machine.memory // 6)
     filled = fill_memory(machine)
     free_and_report(machine, filled)
@@ -222,7 +229,8 @@ def compact_run(machine, _):
 
 
 class Run(NamedTuple):
-    """What is done in a run, with guests of which MiB, and what guest and backend are given besides."""
+    """What is done in a run, with guests of which MiB, and what guest and backend are given
+    besides."""
 
     do: Callable
     sizes: tuple = SIZES

@@ -1,4 +1,5 @@
-"""What the tools that boot a Linux say where something is missing: in one line, at once, without a Linux."""
+"""What the tools that boot a Linux say where something is missing: in one line, at once, without a
+Linux."""
 
 import os
 import socket
@@ -24,7 +25,8 @@ def program(folder, name, text):
 
 @pytest.fixture
 def boot(tmp_path):
-    """Boots a guest whose console says this, and goes on for a while; returns why it isn't ready, if it isn't."""
+    """Boots a guest whose console says this, and goes on for a while; returns why it isn't ready,
+    if it isn't."""
     guests = []
 
     def make(text):
@@ -52,7 +54,10 @@ def boot(tmp_path):
     (
         (
             "echo Linux; echo 'UNBOUND: 5 VQs requested/probe failed with error -22'",
-            "the guest boots, but its driver has no device: 5 VQs requested/probe failed with error -22",
+            (
+                "the guest boots, but its driver has no device: 5 VQs requested/probe failed with "
+                "error -22"
+            ),
         ),
         ("echo Linux; echo READY", None),
     ),
@@ -82,8 +87,9 @@ esac"""
 
 @pytest.fixture
 def qemu_of(tmp_path, monkeypatch):
-    """Puts a QEMU of this version and with this device first on the path, which answers one that would create it so, and ends by a signal where
-    it is to list all devices; returns its own path."""
+    """Puts a QEMU of this version and with this device first on the path, which answers one that
+    would create it so, and ends by a signal where it is to list all devices; returns its own
+    path."""
     monkeypatch.setenv("PATH", f"{tmp_path}:{os.environ['PATH']}")
     return lambda version, device, tried="No 'PCI' bus found": program(
         tmp_path,

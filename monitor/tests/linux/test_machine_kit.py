@@ -1,4 +1,5 @@
-"""What is said where a machine of its own can't be made, hangs or ends: in one line, in time, without a machine."""
+"""What is said where a machine of its own can't be made, hangs or ends: in one line, in time,
+without a machine."""
 
 import os
 import socket

@@ -1,8 +1,10 @@
-"""Runs what comes by a port of its machine, one command after the other, and tells what each prints, line by line, and its status.
+"""Runs what comes by a port of its machine, one command after the other, and tells what each
+prints, line by line, and its status.
 
     agent.py PORT
 
-A line of JSON comes, the words for a shell; lines of JSON go: each line that is printed, and at the end a number.
+A line of JSON comes, the words for a shell; lines of JSON go: each line that is printed, and at the
+end a number.
 """
 
 import json

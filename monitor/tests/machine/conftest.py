@@ -1,4 +1,5 @@
-"""A machine with systemd and cgroups of the second version, which is booted once, with this tree's programs in it."""
+"""A machine with systemd and cgroups of the second version, which is booted once, with this tree's
+programs in it."""
 
 import os
 import subprocess
@@ -16,7 +17,8 @@ SOURCES = ("monitor/tests", "client", "pytest.ini")
 
 @pytest.fixture(scope="session")
 def package(tmp_path_factory):
-    """A folder with the package of a host, and in one line why it isn't there; nothing where it is."""
+    """A folder with the package of a host, and in one line why it isn't there; nothing where it
+    is."""
     folder = str(tmp_path_factory.mktemp("package"))
     made = subprocess.run(
         [sys.executable, f"{ROOT}/tools/package-host", folder], capture_output=True, text=True
@@ -26,8 +28,8 @@ def package(tmp_path_factory):
 
 @pytest.fixture(scope="session")
 def files(request):
-    """What comes with the machine, by where it is there: sources, the programs of a host, those of an older version, and the package; or the
-    sources, and programs that are wrong."""
+    """What comes with the machine, by where it is there: sources, the programs of a host, those of
+    an older version, and the package; or the sources, and programs that are wrong."""
     sources = {f"source/{it}": os.path.join(ROOT, it) for it in SOURCES}
     if request.config.getoption("--wrong") is not None:
         return sources | {"programs": os.path.dirname(built("wrong-plain/vhost_user_host"))}

@@ -1,5 +1,6 @@
-"""What is done in the machine to the installed service, while a guest is at work whose memory is charged to the cgroup of its limit. After
-each step the guest is at work on the client that it had, and has read all bytes as they were written.
+"""What is done in the machine to the installed service, while a guest is at work whose memory is
+charged to the cgroup of its limit. After each step the guest is at work on the client that it had,
+and has read all bytes as they were written.
 
     service.py begin | processes | lender | restart | upgrade
 """
@@ -20,7 +21,8 @@ from waiting import PATIENCE, eventually
 HERE = os.path.dirname(os.path.realpath(__file__))
 HOST, GUEST, NAME = "bigvasta-host", "guest-web-1", "web-1"
 
-# Where the guest's answers are; the pages that go into its balloon and out of it in each turn, and those of a request.
+# Where the guest's answers are; the pages that go into its balloon and out of it in each turn, and
+# those of a request.
 ANSWERS, TURN, OF_REQUEST = f"/run/{GUEST}", 1024, 16
 
 # How often the guest's process is killed.
@@ -28,7 +30,10 @@ KILLS = 20
 
 # The guest's client, and its cgroup, whose limit the host's user may write.
 CGROUP = f"/sys/fs/cgroup/system.slice/{GUEST}.service"
-CLIENT = f"yes turn 0 {TURN} {OF_REQUEST} | python3 -B {HERE}/../host/charged_guest.py /run/bigvasta {NAME} > {ANSWERS}"
+CLIENT = (
+    f"yes turn 0 {TURN} {OF_REQUEST} | python3 -B {HERE}/../host/charged_guest.py /run/bigvasta "
+    f"{NAME} > {ANSWERS}"
+)
 
 
 def run(*words):
@@ -74,7 +79,8 @@ def its(name):
 
 
 def goes_on(before=None):
-    """Demands that the guest makes two turns more from now on, with all bytes right; says how many there are."""
+    """Demands that the guest makes two turns more from now on, with all bytes right; says how many
+    there are."""
     begun = len(answers())
     eventually(
         lambda: len(answers()) >= begun + 2,
@@ -151,7 +157,8 @@ def processes():
 
 
 def another_lender(act):
-    """Does something after which another lender is there, which goes on with the guest and its process."""
+    """Does something after which another lender is there, which goes on with the guest and its
+    process."""
     before, process, lender = goes_on(), guest()["process"], process_of(HOST)
     act(lender)
     eventually(lambda: process_of(HOST) not in (0, lender), "no other lender comes")
@@ -176,7 +183,8 @@ def restart():
 
 
 def upgrade():
-    """Puts the programs of the package in the place of older ones, and has the host and the guest be of them."""
+    """Puts the programs of the package in the place of older ones, and has the host and the guest
+    be of them."""
     before, process, lender, old = (
         goes_on(),
         guest()["process"],
@@ -186,7 +194,10 @@ def upgrade():
     run(
         "sh",
         "-c",
-        "dpkg-deb --fsys-tarfile /srv/machine/package/*.deb | tar -x -C / --wildcards './usr/bin/vhost_user_*'",
+        (
+            "dpkg-deb --fsys-tarfile /srv/machine/package/*.deb | tar -x -C / --wildcards "
+            "'./usr/bin/vhost_user_*'"
+        ),
     )
     new = run("vhost_user_host", "--version").split()[1]
     said = run("bigvasta", "upgrade")

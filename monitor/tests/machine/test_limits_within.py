@@ -1,5 +1,6 @@
-"""Tests of a host that want limits by cgroups of the second version. They run in a machine that has them, all at once; hosts that are wrong
-on purpose have to fail there by the test that is for them."""
+"""Tests of a host that want limits by cgroups of the second version. They run in a machine that has
+them, all at once; hosts that are wrong on purpose have to fail there by the test that is for
+them."""
 
 import os
 import re
@@ -40,7 +41,10 @@ def words_of(tests, **settings):
     }
     said = " ".join(f"{name}={it}" for name, it in settings.items())
     paths = " ".join(f"{HOST}/{it}" for it in tests)
-    return f"cd {FOLDER}/source && {said} python3 -m pytest -v --tb=short -o timeout={LIMIT} -k 'not tmpfs' --junitxml=/tmp/report {paths}"
+    return (
+        f"cd {FOLDER}/source && {said} python3 -m pytest -v --tb=short -o timeout={LIMIT} -k 'not "
+        f"tmpfs' --junitxml=/tmp/report {paths}"
+    )
 
 
 def cases(report):

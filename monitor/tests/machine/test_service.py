@@ -1,5 +1,6 @@
-"""The installed service under systemd, with a guest at work whose limit is `memory.max` of its own cgroup: processes are killed, started anew and
-upgraded, and the guest's client notices nothing (service.py says what is done, and what is demanded)."""
+"""The installed service under systemd, with a guest at work whose limit is `memory.max` of its own
+cgroup: processes are killed, started anew and upgraded, and the guest's client notices nothing
+(service.py says what is done, and what is demanded)."""
 
 import pytest
 from debian_disk import FOLDER
@@ -10,7 +11,8 @@ pytestmark = pytest.mark.timeout(0)
 
 @pytest.fixture(scope="module")
 def service(machine, package):
-    """The service, installed from its package, with programs of an older version in place of the package's; returns what does a step."""
+    """The service, installed from its package, with programs of an older version in place of the
+    package's; returns what does a step."""
     if package[1]:
         pytest.fail(package[1], pytrace=False)
     tests = f"{FOLDER}/source/monitor/tests"
@@ -20,7 +22,10 @@ def service(machine, package):
         return machine.run(f"{settings} python3 -B {tests}/machine/service.py {step}", step)
 
     machine.run(
-        f"dpkg -i {FOLDER}/package/*.deb && cp --remove-destination {FOLDER}/older/vhost_user_* /usr/bin",
+        (
+            f"dpkg -i {FOLDER}/package/*.deb && cp --remove-destination "
+            f"{FOLDER}/older/vhost_user_* /usr/bin"
+        ),
         "the package",
     )
     do("begin")

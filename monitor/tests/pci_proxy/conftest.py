@@ -11,13 +11,15 @@ PROGRAMS = ("checked/pci_proxy_balloon",)
 
 @pytest.fixture(scope="session")
 def program():
-    """The backend under test: one that the environment names, or one that is built with the compiler's checks."""
+    """The backend under test: one that the environment names, or one that is built with the
+    compiler's checks."""
     return os.environ.get("BACKEND_PROGRAM") or linux_kit.built("checked/pci_proxy_balloon")
 
 
 @pytest.fixture
 def serve(program):
-    """Returns a client with a backend of its own, whose end the test looks at; what is left is ended after the test."""
+    """Returns a client with a backend of its own, whose end the test looks at; what is left is
+    ended after the test."""
     clients = []
 
     def make(*options):

@@ -1,4 +1,5 @@
-"""What a machine in the place of QEMU gets of a backend on PCI, what ends its service, and that random bytes leave it without a fault."""
+"""What a machine in the place of QEMU gets of a backend on PCI, what ends its service, and that
+random bytes leave it without a fault."""
 
 import os
 import random
@@ -35,7 +36,8 @@ from waiting import PATIENCE, patience_from_now
 
 def test_configuration_space(client):
     assert (client.configuration(0), client.configuration(0x2C)) == (0x10451AF4, 0x11401AF4)
-    # The command, not the status beside it; the cache line's size and the timer, not the kind of header; the base; the line, not the pin.
+    # The command, not the status beside it; the cache line's size and the timer, not the kind of
+    # header; the base; the line, not the pin.
     for at, left in (
         (4, 0x10FFFF),
         (0x0C, 0xFFFF),

@@ -1,4 +1,5 @@
-"""Tests of each register of a balloon on PCI, as VIRTIO 1.1 has them (4.1.4), of its memory and of its files."""
+"""Tests of each register of a balloon on PCI, as VIRTIO 1.1 has them (4.1.4), of its memory and of
+its files."""
 
 import os
 import signal
@@ -42,7 +43,8 @@ UNPLACED, ABSENT = [256, 0xFFFF, *[0] * 7], [0] * 9
 
 
 def queue(client, number):
-    """Selects a queue; returns its size, vector, whether it is enabled, and the halves of its place."""
+    """Selects a queue; returns its size, vector, whether it is enabled, and the halves of its
+    place."""
     client.write(SELECT, number, 2)
     return [client.read(it, 2) for it in (SIZE, QUEUE_MSIX, ENABLE)] + [
         client.read(PLACE + it) for it in range(0, 24, 4)

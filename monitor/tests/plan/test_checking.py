@@ -1,4 +1,5 @@
-"""What a host granted beside a replay of what its guests asked for and gave: days that a pencil can follow, and hosts that granted otherwise."""
+"""What a host granted beside a replay of what its guests asked for and gave: days that a pencil can
+follow, and hosts that granted otherwise."""
 
 import json
 import subprocess
@@ -30,8 +31,8 @@ def series(name, guest, values):
 
 
 def recording(budgets, **guests):
-    """Returns the series of a host with these budgets, and of guests of 100 pages, by rows of loan, asked and granted pages; a fourth number is
-    the seconds for which the guest has waited."""
+    """Returns the series of a host with these budgets, and of guests of 100 pages, by rows of loan,
+    asked and granted pages; a fourth number is the seconds for which the guest has waited."""
     found = [series("bigvasta_budget_bytes", "", [it * PAGE for it in budgets])]
     for guest, rows in guests.items():
         columns = zip(*((100, *row[:3], *(row[3:] or [0])) for row in rows))
@@ -49,7 +50,8 @@ def rows(text):
     return [tuple(int(it) for it in row.split("/")) for row in text.split()]
 
 
-# Of 150 pages a has 90 and b 60. At 1 a asks for 10, and waits. At 2 b gives 10: a has them. Both give and are granted at 3.
+# Of 150 pages a has 90 and b 60. At 1 a asks for 10, and waits. At 2 b gives 10: a has them. Both
+# give and are granted at 3.
 WAITS = {"a": "90/0/0 90/10/0 100/0/10 95/0/10 100/0/15", "b": "60/0/0 60/0/0 50/0/0 55/0/5 50/0/5"}
 
 # At 1 both ask, b first. At 2 c gives 5, which b gets; at 3 c gives 5 and b 5, and a gets its 10.
@@ -62,7 +64,8 @@ ORDER = {
 # What a guest asked for it doesn't want any longer.
 LEAVES_IT = {"a": "90/0/0 90/10/0 90/0/0 90/4/0", "b": "60/0/0 60/0/0 60/0/0 60/0/0"}
 
-# Days of hosts that grant as vb_loan_grant does; of each guest the pages that it was granted, and the seconds that it waited.
+# Days of hosts that grant as vb_loan_grant does; of each guest the pages that it was granted, and
+# the seconds that it waited.
 SAME = {
     "waits": ([150] * 5, WAITS, {"a": (15, 1), "b": (5, 0)}),
     "in the order of the line": ([150] * 4, ORDER, {"a": (10, 2), "b": (5, 1), "c": (0, 0)}),
@@ -90,7 +93,8 @@ SAME = {
         },
         {"a": (0, 0), "b": (0, 4)},
     ),
-    # Between two looks b gives 40, and a gets them three times, and gives them twice: 120 at once would never fit.
+    # Between two looks b gives 40, and a gets them three times, and gives them twice: 120 at once
+    # would never fit.
     "grants in parts": (
         [100] * 3,
         {"a": "20/0/0 60/0/120 60/0/120", "b": "80/0/0 40/0/0 40/0/0"},
@@ -104,8 +108,9 @@ SAME = {
     ),
 }
 
-# Days of hosts that are wrong, and by how many looks each guest is apart: one that grants late, one that lends more than there is, one that
-# serves the second of the line first; those that do so when the budget falls.
+# Days of hosts that are wrong, and by how many looks each guest is apart: one that grants late, one
+# that lends more than there is, one that serves the second of the line first; those that do so when
+# the budget falls.
 WRONG = {
     "late": (
         [160] * 6,
@@ -163,7 +168,8 @@ WRONG = {
 
 
 def check(tmp_path, shared, day, *words, status=0, fails=False):
-    """Returns what the command says of a day; one that it finds to differ ends with status 1, and one that it refuses with another."""
+    """Returns what the command says of a day; one that it finds to differ ends with status 1, and
+    one that it refuses with another."""
     budgets, guests = day
     path = tmp_path / "day.json"
     path.write_text(
@@ -272,9 +278,9 @@ def test_recordings_that_are_refused(tmp_path, shared, result, words):
 
 def test_a_guest_that_is_not_strict(tmp_path, shared):
     said = check(tmp_path, shared, ([150] * 2, {"a": "90/0/0 95/0/0"}), status=2)
-    assert (
-        said
-        == "bigvasta: a at 1: its loan grows by more than it was granted: a guest that isn't strict can't be compared\n"
+    assert said == (
+        "bigvasta: a at 1: its loan grows by more than it was granted: a guest that isn't "
+        "strict can't be compared\n"
     )
 
 
@@ -303,7 +309,8 @@ def test_a_file_that_is_not_there(tmp_path, shared):
 
 
 def test_what_the_host_did_itself(tmp_path, shared):
-    """Of 200 pages on 150 one guest of two waits for a second of four: a picture and a plan have it beside the replays."""
+    """Of 200 pages on 150 one guest of two waits for a second of four: a picture and a plan have it
+    beside the replays."""
     day = recording([150] * 5, **{name: rows(text) for name, text in WAITS.items()})
     metrics = {"bigvasta_guest_available_bytes": 0, "bigvasta_guest_ballooned_bytes": 40 * PAGE}
     path, picture = tmp_path / "day.json", tmp_path / "day.svg"
@@ -336,7 +343,7 @@ def test_what_the_host_did_itself(tmp_path, shared):
         "waited_a_day": 86400 / 8,
     }
     assert (
-        "the host itself: 10800.0 s a guest and day were waited; 1.33 times its 0.6 MiB were promised\n"
-        in run(*words)
-    )
+        "the host itself: 10800.0 s a guest and day were waited; 1.33 times its 0.6 MiB were "
+        "promised\n"
+    ) in run(*words)
     assert "the host itself" in picture.read_text()

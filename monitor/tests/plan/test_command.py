@@ -15,7 +15,8 @@ from waiting import PATIENCE
 with open(os.path.join(HEADERS, "vb.h"), encoding="utf-8") as file:
     VERSION = int(re.search(r"#define VB_VERSION_NUMBER (0x\w+)u", file.read())[1], 16)
 
-# The two guests of test_replay.py, whose pages are 4096 bytes: from 10 to 20 they need 170 pages at once.
+# The two guests of test_replay.py, whose pages are 4096 bytes: from 10 to 20 they need 170 pages at
+# once.
 TWO = """guest,seconds,size,used
 a,0,409600,40960
 b,0,409600,368640
@@ -39,9 +40,10 @@ def plan(shared, day, *words):
     return json.loads(run(day, "--library", shared, "--floor", "0", "--json", *words))
 
 
-# A range and its steps, the seconds that a guest may wait in a day, and the smallest budget in pages: of each of 150 to 200 pages,
-# 170 is the first at which nobody waits. In 2 steps 150, 175 and 200 are tried, and then 162; in 3 steps 150, 166, 183 and 200, and then 171
-# and 177. On 150 they wait 10 s of 60.
+# A range and its steps, the seconds that a guest may wait in a day, and the smallest budget in
+# pages: of each of 150 to 200 pages, 170 is the first at which nobody waits. In 2 steps 150, 175
+# and 200 are tried, and then 162; in 3 steps 150, 166, 183 and 200, and then 171 and 177. On 150
+# they wait 10 s of 60.
 SMALLEST = (
     ("600K..800K", 50, 0, 170),
     ("600K..800K", 5, 0, 170),
@@ -226,6 +228,6 @@ def test_what_is_no_library(tmp_path, day, shared):
         env={**os.environ, "PYTHONPATH": CLIENT},
     )
     assert (
-        "Usage: plan: the library isn't there: make -C monitor shared makes it, --library FILE names another\n"
-        in ran.stderr
-    )
+        "Usage: plan: the library isn't there: make -C monitor shared makes it, --library "
+        "FILE names another\n"
+    ) in ran.stderr

@@ -1,4 +1,5 @@
-"""Days as Prometheus hands them out: what is read of an answer to query_range, and each refusal, by guest, series and moment."""
+"""Days as Prometheus hands them out: what is read of an answer to query_range, and each refusal, by
+guest, series and moment."""
 
 import json
 
@@ -15,7 +16,8 @@ METRICS = {
 
 
 def series(guest, cell, *values, **labels):
-    """Returns a series, as an answer has it: of values from 100 on, 15 seconds apart, or of pairs."""
+    """Returns a series, as an answer has it: of values from 100 on, 15 seconds apart, or of
+    pairs."""
     pairs = [
         it if isinstance(it, list) else [100 + 15 * number, str(it)]
         for number, it in enumerate(values)
@@ -43,7 +45,8 @@ def answer(result, **other):
     )
 
 
-# Four pages, of which 1 is available and 1 ballooned; then 2 and 1; then more than there is, as the two were looked at apart: a page is used.
+# Four pages, of which 1 is available and 1 ballooned; then 2 and 1; then more than there is, as the
+# two were looked at apart: a page is used.
 ROWS = ((16384, 4096, 4096), (16384, 8192, 4096), (16384, 12288, 8192))
 LATER = [
     series("b", "size", [115, "8192"], [130.0, "8192"]),
@@ -84,7 +87,10 @@ def replaced(cell, *values):
 REFUSED = (
     (
         "{",
-        ": this is no JSON: Expecting property name enclosed in double quotes: line 1 column 2 (char 1)",
+        (
+            ": this is no JSON: Expecting property name enclosed in double quotes: line 1 column "
+            "2 (char 1)"
+        ),
     ),
     ("{}", ": this is no answer of success: it has no status"),
     ('{"status": "error", "error": "bad query"}', ": this is no answer of success: bad query"),
@@ -103,8 +109,10 @@ REFUSED = (
     (
         answer([*GOOD, series("a", "bigvasta_guest_free_bytes", 1)]),
         ": series 4: the metric 'bigvasta_guest_free_bytes' is none of "
-        "bigvasta_guest_memory_bytes, bigvasta_guest_available_bytes, bigvasta_guest_ballooned_bytes, bigvasta_guest_loan_bytes, "
-        "bigvasta_guest_asked_bytes, bigvasta_guest_granted_bytes_total, bigvasta_guest_waiting_seconds, bigvasta_budget_bytes",
+        "bigvasta_guest_memory_bytes, bigvasta_guest_available_bytes, "
+        "bigvasta_guest_ballooned_bytes, bigvasta_guest_loan_bytes, "
+        "bigvasta_guest_asked_bytes, bigvasta_guest_granted_bytes_total, "
+        "bigvasta_guest_waiting_seconds, bigvasta_budget_bytes",
     ),
     (answer([series(None, "size", 1)]), ": series 1 has no label guest"),
     (

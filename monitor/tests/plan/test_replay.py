@@ -1,4 +1,5 @@
-"""Replays of days that a pencil can follow: guests of 100 pages, whose waits, moves and lacks were worked out by hand."""
+"""Replays of days that a pencil can follow: guests of 100 pages, whose waits, moves and lacks were
+worked out by hand."""
 
 import pytest
 from bigvasta.plan import replay as replaying
@@ -19,15 +20,18 @@ def day_of(**guests):
     )
 
 
-# Of 200 pages 50 are missing. At the start a can spare 90 and b 10, so a gives 50. At 10 a has 20 to spare: all that both can spare
-# is 30, 20 too few. b gives 10; a asks for the 30 that it lacks, and 50 + 90 + 30 are more than 150. At 20 b can spare 80, and gives up to 50: a
-# gets its 30, and then at once the 20 that its last target lets go. On 170 pages a gives 30, and at 10 its target is 20: b gives 10, which a gets at once.
+# Of 200 pages 50 are missing. At the start a can spare 90 and b 10, so a gives 50. At 10 a has 20
+# to spare: all that both can spare is 30, 20 too few. b gives 10; a asks for the 30 that it lacks,
+# and 50 + 90 + 30 are more than 150. At 20 b can spare 80, and gives up to 50: a gets its 30, and
+# then at once the 20 that its last target lets go. On 170 pages a gives 30, and at 10 its target is
+# 20: b gives 10, which a gets at once.
 TWO = day_of(a=((0, 10), (10, 80), 30), b=((0, 90), (20, 20), 30))
 
-# Of 300 pages 100 are missing: a gives 60, b 40. At 10 a is reset, and asks for 60; b can spare 50, and c 20: 30 too few. b gives 10 and c 20:
-# 40 + 50 + 80 are lent. At 20 b can spare 30, and asks for 20, for which there is room: it gets them before a. Now 50 are too few. At 30 c can
-# spare 80, and gives 60: a gets its 60. After the grant targets are decided anew: a can spare most, and gives its 100; b takes its 30, and c its
-# 80, for which there is room.
+# Of 300 pages 100 are missing: a gives 60, b 40. At 10 a is reset, and asks for 60; b can spare 50,
+# and c 20: 30 too few. b gives 10 and c 20: 40 + 50 + 80 are lent. At 20 b can spare 30, and asks
+# for 20, for which there is room: it gets them before a. Now 50 are too few. At 30 c can spare 80,
+# and gives 60: a gets its 60. After the grant targets are decided anew: a can spare most, and gives
+# its 100; b takes its 30, and c its 80, for which there is room.
 RESET = day_of(a=((0, 40), (10, 0), 40), b=((0, 50), (20, 70), 40), c=((0, 80), (30, 20), 40))
 
 # b comes at 10 and asks for its 100; a can spare 20. At 30 a can spare 60, and gives up to 50.
@@ -36,24 +40,27 @@ NEWCOMER = day_of(a=((0, 80), (30, 40), 50), b=((10, 50), 50))
 # The same, but that a goes on as it was: b never starts.
 REFUSED = day_of(a=((0, 80), 50), b=((10, 50), 50))
 
-# a gives 50. At 10 c asks for its 100: a can spare 90 and b 40, 20 too few, and 10 + 60 are lent. At 20 a can spare 40, and asks for 50, which it
-# gets before c: 60 + 60 + 100 are more than 150.
+# a gives 50. At 10 c asks for its 100: a can spare 90 and b 40, 20 too few, and 10 + 60 are lent.
+# At 20 a can spare 40, and asks for 50, which it gets before c: 60 + 60 + 100 are more than 150.
 OVERTAKEN = day_of(a=((0, 10), (20, 60), 30), b=((0, 60), 30), c=((10, 50), 30))
 
-# a gives 50. At 10 it has 5 to spare, b 40: 5 too few; b gives 40, a asks for 45. At 20 b goes: a gets them, and takes its last 5.
+# a gives 50. At 10 it has 5 to spare, b 40: 5 too few; b gives 40, a asks for 45. At 20 b goes: a
+# gets them, and takes its last 5.
 LEAVING = day_of(a=((0, 10), (10, 95), 30), b=((0, 60), 20))
 
 # a gives all 50; b goes, and then nothing is missing: a gets them back.
 ALONE = day_of(a=((0, 10), 30), b=((0, 100), 20))
 
-# With a floor of 16 a can spare 64 and b 24: a gives 50. At 10 and 20 a can spare 50 and 48 above its floor, and 52 and 50 above 14 (the
-# floor but an eighth of it): its target stays. At 30 it can spare 49 above 14, and so 47: b gives the 3 that are missing, and a gets them at once.
+# With a floor of 16 a can spare 64 and b 24: a gives 50. At 10 and 20 a can spare 50 and 48 above
+# its floor, and 52 and 50 above 14 (the floor but an eighth of it): its target stays. At 30 it can
+# spare 49 above 14, and so 47: b gives the 3 that are missing, and a gets them at once.
 SLACK = day_of(a=((0, 20), (10, 34), (20, 36), (30, 37), 40), b=((0, 60), 40))
 
 # All is lent to a guest that is reset: nothing waits.
 FULL = day_of(a=((0, 50), (10, 0), 20))
 
-# What is expected: waits of each ask, seconds waited and present, how often short, for how long, by how much, pages moved.
+# What is expected: waits of each ask, seconds waited and present, how often short, for how long, by
+# how much, pages moved.
 WORKED_OUT = {
     "two guests": (TWO, Terms(150), (10.0, 0.0), 10.0, 60.0, 1, 10.0, 20, 150),
     "two guests on all that they need at once": (TWO, Terms(170), (0.0,), 0.0, 60.0, 0, 0.0, 0, 50),
@@ -130,7 +137,8 @@ def test_quantiles_by_nearest_rank(library):
 
 
 def random_day(numbers):
-    """Returns a small day of up to six guests, some of whom come later, go earlier, or are reset."""
+    """Returns a small day of up to six guests, some of whom come later, go earlier, or are
+    reset."""
     guests = []
     for number in range(numbers.randint(1, 6)):
         pages = numbers.randint(1, 100)

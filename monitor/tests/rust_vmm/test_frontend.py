@@ -1,6 +1,7 @@
-"""The backend of one guest, by the frontend of rust-vmm's crate `vhost`, which a Rust VMM has; and the example that is a daemon on its crate
-`vhost-user-backend` (monitor/examples/vhost_user_daemon). The program frontend/ prints what each call came to; what it has to be is by
-vhost-user's document, by VIRTIO 1.1, and by what each backend offers (docs/LINUX.md, the crate's own sources)."""
+"""The backend of one guest, by the frontend of rust-vmm's crate `vhost`, which a Rust VMM has; and
+the example that is a daemon on its crate `vhost-user-backend` (monitor/examples/vhost_user_daemon).
+The program frontend/ prints what each call came to; what it has to be is by vhost-user's document,
+by VIRTIO 1.1, and by what each backend offers (docs/LINUX.md, the crate's own sources)."""
 
 import os
 import subprocess
@@ -15,7 +16,8 @@ from waiting import PATIENCE
 
 HERE = os.path.dirname(__file__)
 
-# MUST_TELL_HOST, STATS_VQ, DEFLATE_ON_OOM and reports (VIRTIO 1.1, 5.5.3), VERSION_1, and bit 30 for protocol features.
+# MUST_TELL_HOST, STATS_VQ, DEFLATE_ON_OOM and reports (VIRTIO 1.1, 5.5.3), VERSION_1, and bit 30
+# for protocol features.
 FEATURES = 1 << 32 | 1 << 30 | 0x27
 
 # The queues of inflates, deflates, statistics, hints and reports.
@@ -32,21 +34,23 @@ QUEUE = (
 
 
 class Offer(NamedTuple):
-    """What a backend offers: protocol features by their bits, memory slots; and its target at first."""
+    """What a backend offers: protocol features by their bits, memory slots; and its target at
+    first."""
 
     protocol: tuple
     slots: int
     target: int
 
 
-# MQ, REPLY_ACK, CONFIG, RESET_DEVICE and CONFIGURE_MEM_SLOTS; those of `vhost_user_balloon` besides are BACKEND_REQ, INBAND_NOTIFICATIONS
-# and STATUS. The crate has 509 slots.
+# MQ, REPLY_ACK, CONFIG, RESET_DEVICE and CONFIGURE_MEM_SLOTS; those of `vhost_user_balloon` besides
+# are BACKEND_REQ, INBAND_NOTIFICATIONS and STATUS. The crate has 509 slots.
 SAME = (0, 3, 9, 13, 15)
 OF_BALLOON, OF_EXAMPLE = Offer((*SAME, 5, 14, 16), 32, 0), Offer(SAME, 509, TARGET)
 
 
 def config(target, actual):
-    """Returns what the configuration space is, as it is printed: `num_pages` and `actual` (VIRTIO 1.1, 5.5.4)."""
+    """Returns what the configuration space is, as it is printed: `num_pages` and `actual` (VIRTIO
+    1.1, 5.5.4)."""
     return f"get_config {[*target.to_bytes(4, 'little'), *actual.to_bytes(4, 'little')]}"
 
 
@@ -70,7 +74,8 @@ def lines_of(offer):
         "remove_mem_region ()",
         *(f"{it} ()" for it in QUEUES * QUEUE),
         config(offer.target, 0),
-        # The one chain is descriptor 0; the device writes nothing into it. Its four pages leave the file.
+        # The one chain is descriptor 0; the device writes nothing into it. Its four pages leave the
+        # file.
         "used 1 (0, 0)",
         "pages given back 4",
         "set_config ()",
@@ -139,7 +144,8 @@ def backend(tmp_path):
 
 
 def talk(frontend, socket, waits, *words):
-    """Returns the lines that the program prints, of a failure that it failed; calls what it waits for."""
+    """Returns the lines that the program prints, of a failure that it failed; calls what it waits
+    for."""
     with subprocess.Popen(
         [frontend, str(socket), *words], stdout=subprocess.PIPE, text=True
     ) as process:

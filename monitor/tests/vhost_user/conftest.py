@@ -18,7 +18,8 @@ pytest.register_assert_rewrite("vhost_demands")
 
 @pytest.fixture(scope="session")
 def program():
-    """The backend under test: one that the environment names, or one that is built with the compiler's checks."""
+    """The backend under test: one that the environment names, or one that is built with the
+    compiler's checks."""
     return os.environ.get("BACKEND_PROGRAM") or linux_kit.built("checked/vhost_user_balloon")
 
 
@@ -30,7 +31,8 @@ def wrong_program():
 
 @pytest.fixture
 def serve(program):
-    """Returns a client with a backend of its own, whose end the test looks at; what is left is ended after the test."""
+    """Returns a client with a backend of its own, whose end the test looks at; what is left is
+    ended after the test."""
     clients = []
 
     def make(*options, built=program, environment=None):

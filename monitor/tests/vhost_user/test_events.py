@@ -1,5 +1,6 @@
-"""Tests of what a client of good will gets from a backend that it kicks, and that calls it, by events, as QEMU: its rings, its
-memory and its answers; those of a device's life are in test_lives.py."""
+"""Tests of what a client of good will gets from a backend that it kicks, and that calls it, by
+events, as QEMU: its rings, its memory and its answers; those of a device's life are in
+test_lives.py."""
 
 import os
 import select

@@ -1,4 +1,5 @@
-"""Rounds of free page hints (VIRTIO 1.2, 5.5.6.6), with a client in the driver's place that sends ids and pages as it likes."""
+"""Rounds of free page hints (VIRTIO 1.2, 5.5.6.6), with a client in the driver's place that sends
+ids and pages as it likes."""
 
 import struct
 
@@ -21,7 +22,8 @@ from vhost_client import (
 )
 from vhost_demands import FIRST, demand_refused, word
 
-# The feature, and the number of the queue of hints, before that of reports, where both are negotiated.
+# The feature, and the number of the queue of hints, before that of reports, where both are
+# negotiated.
 HINTS, HINT, REPORT_AFTER_HINT = 8, 3, 4
 STOP, DONE = 0, 1
 
@@ -90,7 +92,8 @@ def order(client, line):
 
 
 def play(client, story):
-    """Plays a story: `start ID`, `stop` and `done` are the host's; `id ID`, `told` and `late` the driver's."""
+    """Plays a story: `start ID`, `stop` and `done` are the host's; `id ID`, `told` and `late` the
+    driver's."""
     for step in story.split(", "):
         act, _, number = step.partition(" ")
         if act == "start":
@@ -167,7 +170,8 @@ def test_poisoned_hints_are_kept(serve_well):
     hint(client, told=True)
 
 
-# How a driver's life ends while another one's rings begin anew: a reset that is told as such, as status 0, or as stopped queues alone.
+# How a driver's life ends while another one's rings begin anew: a reset that is told as such, as
+# status 0, or as stopped queues alone.
 ENDS = {
     "a reset": lambda client: client.accepted(RESET_DEVICE),
     "a status of 0": lambda client: client.accepted(SET_STATUS, word(0)),
@@ -226,7 +230,8 @@ def test_a_state_of_hints_that_are_not_offered_any_longer(hinting):
     )
 
 
-# Chains that are none of the queue of hints: pieces of an address, a length and flags, and what they are refused for.
+# Chains that are none of the queue of hints: pieces of an address, a length and flags, and what
+# they are refused for.
 WRONG = (
     ([(BUFFERS, 3, 0)], "rule 8"),
     ([(BUFFERS, 5, 0)], "rule 8"),

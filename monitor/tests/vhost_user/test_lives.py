@@ -1,4 +1,5 @@
-"""Tests of a device's life with a client that kicks and is called by events: its status, what stays and what a reset forgets."""
+"""Tests of a device's life with a client that kicks and is called by events: its status, what stays
+and what a reset forgets."""
 
 import os
 import struct
@@ -187,7 +188,8 @@ def test_a_device_that_is_plugged_again(serve_well):
 
 
 def poisoned(serve_well):
-    """Returns a client whose driver said that its free pages hold 0xff, and the word of PAGE_POISON."""
+    """Returns a client whose driver said that its free pages hold 0xff, and the word of
+    PAGE_POISON."""
     client = serve_well("--features", "100000037")
     client.begin(QEMU_PROTOCOL)
     client.accepted(SET_CONFIG, struct.pack("<IIII", 12, 4, 0, 0xFFFFFFFF))
@@ -221,7 +223,8 @@ def test_poisoned_reports_are_kept(serve_well):
 
 
 def write_whole(client, *words):
-    """Writes the whole configuration, as QEMU from 11 on does at each write of the driver; returns whether it is taken."""
+    """Writes the whole configuration, as QEMU from 11 on does at each write of the driver; returns
+    whether it is taken."""
     return client.send(SET_CONFIG, struct.pack("<IIIIIII", 0, 16, 0, *words)) == bytes(8)
 
 
@@ -247,7 +250,8 @@ def test_the_whole_configuration_at_once(start_by_events, serve_well):
     demand_reported(client, FIRST + 1, 0)
 
 
-# Where a write begins, how many bytes it has, and `actual` and poison_val after it: refused where it covers neither.
+# Where a write begins, how many bytes it has, and `actual` and poison_val after it: refused where
+# it covers neither.
 ACTUAL, POISON_VAL, NEITHER = (0x07060504, 0xFFFFFFFF), (0, 0x0F0E0D0C), (0, 0xFFFFFFFF)
 BOTH = (ACTUAL[0], POISON_VAL[1])
 WRITES = (

@@ -1,5 +1,5 @@
-"""Backends that are wrong on purpose (tests/mutants/wrong_backend.c, and by their event loop wrong_loop.c): each is refused by the test that is for
-it, and that alone is run."""
+"""Backends that are wrong on purpose (tests/mutants/wrong_backend.c, and by their event loop
+wrong_loop.c): each is refused by the test that is for it, and that alone is run."""
 
 import os
 

@@ -1,4 +1,5 @@
-"""Tests of requests of more numbers than a portion has, 256: of a page of numbers, as Windows' driver sends, and of far more."""
+"""Tests of requests of more numbers than a portion has, 256: of a page of numbers, as Windows'
+driver sends, and of far more."""
 
 import os
 import signal
@@ -15,7 +16,8 @@ ROOM = (PAGES_OF_REGION - 16) * PAGE
 
 
 def post_pieces(client, number, numbers, *lengths):
-    """Posts a request of these numbers, its bytes in pieces of these lengths, and a last one of what is left."""
+    """Posts a request of these numbers, its bytes in pieces of these lengths, and a last one of
+    what is left."""
     data, at = struct.pack(f"<{len(numbers)}I", *numbers), 0
     client.write(BUFFERS, data)
     for head, length in enumerate(lengths):
@@ -27,7 +29,8 @@ def post_pieces(client, number, numbers, *lengths):
 
 
 def left_as_refused(client, words):
-    """Demands that the backend ends with these words; returns what it left: pages that it discarded, and the used ring of inflates."""
+    """Demands that the backend ends with these words; returns what it left: pages that it
+    discarded, and the used ring of inflates."""
     files, client.files = client.files, [os.dup(it) for it in client.files]
     demand_refused(client, words)
     client.files = files

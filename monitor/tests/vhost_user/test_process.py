@@ -1,5 +1,5 @@
-"""Tests of a backend as a process: its standard files, the signals that end it, the files that it may open, and the one that
-keeps its state."""
+"""Tests of a backend as a process: its standard files, the signals that end it, the files that it
+may open, and the one that keeps its state."""
 
 import os
 import resource

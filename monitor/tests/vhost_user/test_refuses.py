@@ -49,7 +49,8 @@ from vhost_demands import demand_refused
 PAGE_OF_SECOND = REGIONS[1][0] // PAGE
 FAR = REGIONS[1][0] + PAGES_OF_REGION * PAGE
 
-# Rules of a chain: the number, what is said of it, the head, and the descriptors (number, address, length, flags, next).
+# Rules of a chain: the number, what is said of it, the head, and the descriptors (number, address,
+# length, flags, next).
 RULES = (
     (1, "the head is no descriptor of the queue", SIZE, []),
     (2, "a next field names no descriptor of the queue", 0, [(0, BUFFERS, 4, NEXT, SIZE)]),
@@ -148,7 +149,8 @@ def test_places(serve, words, how):
     demand_refused(client, words)
 
 
-# A body with the first number that is no queue's; where the parts of a queue are, and with one of them a page further.
+# A body with the first number that is no queue's; where the parts of a queue are, and with one of
+# them a page further.
 NO_QUEUE = struct.pack("<II", 5, 0)
 PARTS = [REGIONS[0][1] + it * PAGE for it in (3, 5, 4)]
 MOVED = [[place + (part == it) * PAGE for it, place in enumerate(PARTS)] for part in range(3)]

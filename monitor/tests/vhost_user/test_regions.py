@@ -1,4 +1,5 @@
-"""Tests of rings in memory of several regions: their parts go over borders, and stay while the memory is handed over anew."""
+"""Tests of rings in memory of several regions: their parts go over borders, and stay while the
+memory is handed over anew."""
 
 import struct
 import time
@@ -21,8 +22,9 @@ from waiting import patience_from_now
 
 GUEST, USER = REGIONS[0]
 
-# Table, available ring and used ring begin on these pages, and this many bytes into them; each goes on on the next page. So the
-# used ring's element of number 127 has its id on one page, and its length on the other one.
+# Table, available ring and used ring begin on these pages, and this many bytes into them; each goes
+# on on the next page. So the used ring's element of number 127 has its id on one page, and its
+# length on the other one.
 PARTS, BEGINS = (0, 4, 8), (PAGE - 128, PAGE - 128, PAGE - 1024)
 
 
@@ -36,7 +38,8 @@ AWAY = 1000
 
 
 def hand_over(client, regions, answered=True):
-    """Hands over regions of one file: their first pages, how many, and where they are in the guest and in the client."""
+    """Hands over regions of one file: their first pages, how many, and where they are in the guest
+    and in the client."""
     table = struct.pack("<II", len(regions), 0)
     for first, count, guest, user in regions:
         table += struct.pack(
@@ -73,7 +76,8 @@ def mapped(serve_well):
 
 
 def demand_all_used(client, turn):
-    """Makes 256 chains available, each of which names a page, and demands that all are used, in their order."""
+    """Makes 256 chains available, each of which names a page, and demands that all are used, in
+    their order."""
     table, available, used = places(GUEST)
     pages, heads = [20 + it % 40 for it in range(MOST_CHAINS)], range(MOST_CHAINS - 1, -1, -1)
     client.write(BUFFERS, struct.pack(f"<{MOST_CHAINS}I", *(GUEST // PAGE + it for it in pages)))
@@ -108,7 +112,8 @@ def test_parts_over_a_border_of_regions(mapped, page):
     demand_all_used(mapped, 1)
 
 
-# Other regions for a part of a ring: they begin at another address of the guest, or of the client; or the part goes on in a hole.
+# Other regions for a part of a ring: they begin at another address of the guest, or of the client;
+# or the part goes on in a hole.
 MOVED = [(2, around(it, (it, 1, AWAY, it))) for it in PARTS]
 ELSEWHERE = [(2, around(it, (it, 1, it, AWAY))) for it in PARTS]
 SHORTER = [(MOST_CHAINS, around(it + 1)) for it in PARTS]

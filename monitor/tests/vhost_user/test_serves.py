@@ -1,4 +1,5 @@
-"""Tests of what a client of good will gets from a backend to which it talks by messages alone, as virtio_uml."""
+"""Tests of what a client of good will gets from a backend to which it talks by messages alone, as
+virtio_uml."""
 
 import fcntl
 import os
@@ -146,7 +147,8 @@ def test_what_each_counter_counts(start):
         assert client.told() == REPORT
     client.accepted(SET_CONFIG, struct.pack("<IIII", 4, 4, 0, 6))
     assert (client.backend.ask("target 6"), client.backend.ask("ask")) == ("ok", "asked")
-    # 128 pages less 3 and 7; 24 messages until the queues run, 5 kicks and a write; a question gives one more buffer back.
+    # 128 pages less 3 and 7; 24 messages until the queues run, 5 kicks and a write; a question
+    # gives one more buffer back.
     assert client.backend.counters() == {
         "target": 6,
         "actual": 6,
@@ -195,7 +197,8 @@ def test_the_names_of_statistics(start):
     client = start()
     # The tags of VIRTIO 1.1, 5.5.6.4, from 0 on.
     names = (
-        "swap_in swap_out major_faults minor_faults free_memory total_memory available_memory disk_caches"
+        "swap_in swap_out major_faults minor_faults free_memory total_memory available_memory "
+        "disk_caches"
         " hugetlb_allocations hugetlb_failures other"
     ).split()
     post_statistics(client, *range(100, 111), first=0)

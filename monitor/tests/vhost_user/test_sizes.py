@@ -1,4 +1,5 @@
-"""Tests of rings of each size that a client may offer, from 1 to 1,024 entries, and of chains in the largest one."""
+"""Tests of rings of each size that a client may offer, from 1 to 1,024 entries, and of chains in
+the largest one."""
 
 import struct
 import time
@@ -24,7 +25,8 @@ GUEST, USER = REGIONS[0]
 TABLE, AVAILABLE, USED = (GUEST + it * PAGE for it in (0, 4, 5))
 RINGS = 8 * PAGE
 
-# Where a queue goes on: two turns of the largest ring go past its last entry, and past the index 65,535.
+# Where a queue goes on: two turns of the largest ring go past its last entry, and past the index
+# 65,535.
 BEGIN = 65000
 
 MOST_PIECES = 256
@@ -32,7 +34,8 @@ MOST_PIECES = 256
 
 @pytest.fixture
 def with_ring(serve):
-    """Returns a client whose queue of inflates has a ring of this size, of which all that was taken was used."""
+    """Returns a client whose queue of inflates has a ring of this size, of which all that was taken
+    was used."""
 
     def make(size):
         client = serve()
@@ -57,13 +60,15 @@ def with_ring(serve):
 
 
 def describe(client, descriptors):
-    """Writes descriptors by their numbers: the length of a buffer, its flags, and the next one's number."""
+    """Writes descriptors by their numbers: the length of a buffer, its flags, and the next one's
+    number."""
     for number, (length, flags, follows) in descriptors.items():
         client.write(TABLE + 16 * number, struct.pack("<QIHH", BUFFERS, length, flags, follows))
 
 
 def chain(first, count):
-    """Returns a chain of descriptors one after the other, which name a page by their first buffer."""
+    """Returns a chain of descriptors one after the other, which name a page by their first
+    buffer."""
     last = first + count - 1
     return {it: (4 * (it == first), NEXT * (it < last), it + 1) for it in range(first, last + 1)}
 
@@ -113,7 +118,8 @@ def test_the_longest_chain(with_ring):
     assert (client.read(GUEST + 20 * PAGE, 1), client.close()) == (b"\0", (0, ""))
 
 
-# Rules by the size of a ring: the number, what is said of it, the size, the heads and the descriptors.
+# Rules by the size of a ring: the number, what is said of it, the size, the heads and the
+# descriptors.
 RULES = (
     (1, "the head is no descriptor of the queue", 512, [1000], {}),
     (1, "the head is no descriptor of the queue", 1024, [1024], {}),

@@ -1,5 +1,6 @@
-"""Tests of a backend with a hostile client: files that could make it wait or never rest, memory that could be taken away from
-under it, turns that are long, and a machine that has no files or no room left."""
+"""Tests of a backend with a hostile client: files that could make it wait or never rest, memory
+that could be taken away from under it, turns that are long, and a machine that has no files or no
+room left."""
 
 import ctypes
 import fcntl
@@ -77,7 +78,8 @@ def socket_of(family, kind):
 
 
 def end_of(pair, number):
-    """Returns a function that makes such a pair of files, and returns one; the other one is closed."""
+    """Returns a function that makes such a pair of files, and returns one; the other one is
+    closed."""
 
     def make():
         ends = [it if isinstance(it, int) else it.detach() for it in pair()]
