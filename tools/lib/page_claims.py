@@ -283,6 +283,13 @@ def order():
     return [f"docs/MAP.md: crate {it} is listed before {low}, which it needs" for it, low in late]
 
 
+def folder_of(path):
+    """Returns the folder of a crate in which a file is that the map names without one."""
+    if path.startswith(("proofs/", "data/")):
+        return ""
+    return "specs/" if path.endswith(".antt") else "src/"
+
+
 def named_files():
     """Returns the files that the map's table of crates names, or CONTRIBUTING by its crate, and
     that aren't there."""
@@ -292,13 +299,7 @@ def named_files():
         for crate, last in re.findall(r"(?m)^\| `(vb_\w+)` \|.*\|([^|]*)\|$", section)
         for it in re.findall(r"`([^`]+)`", last)
     ]
-    named = [
-        (
-            page,
-            f"{crate}/{'' if it.startswith(('proofs/', 'data/')) else 'specs/' if it.endswith('.antt') else 'src/'}{it}",
-        )
-        for page, crate, it in named
-    ]
+    named = [(page, f"{crate}/{folder_of(it)}{it}") for page, crate, it in named]
     named += [
         ("CONTRIBUTING.md", it) for it in re.findall(r"`(vb_\w+/[\w./]+)`", read("CONTRIBUTING.md"))
     ]

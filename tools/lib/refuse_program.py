@@ -70,7 +70,9 @@ void *malloc(size_t size)
 
 void *realloc(void *block, size_t size)
 {
-    return __atomic_add_fetch(&requests, 1, __ATOMIC_RELAXED) == refused ? 0 : __libc_realloc(block, size);
+    return __atomic_add_fetch(&requests, 1, __ATOMIC_RELAXED) == refused
+               ? 0
+               : __libc_realloc(block, size);
 }
 
 typedef int starter(pthread_t *, const pthread_attr_t *, void *(*)(void *), void *);

@@ -23,7 +23,8 @@ release = importlib.machinery.SourceFileLoader("release", "tools/release").load_
 
 def build_library(machine, room):
     objects, library = f"{room}/reference.o", f"{room}/libvb-{machine}.a"
-    subprocess.run(["cc", "-O2", "-I", "monitor", "-I", release.HEADERS, "-c", "-o", objects, "monitor/reference.c"], check=True)
+    words = ["-O2", "-I", "monitor", "-I", release.HEADERS, "-c", "-o", objects]
+    subprocess.run(["cc", *words, "monitor/reference.c"], check=True)
     subprocess.run(["ar", "rc", library, objects], check=True)
     return library
 

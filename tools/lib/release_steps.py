@@ -69,13 +69,15 @@ STEPS = (
 # A host as a service. Who is in bigvasta-status sees it and changes nothing; a VMM, which is in
 # bigvasta, can't open the control socket.
 RUN_HOST = """
-sed -i 's/^# budget = 8G/budget = 64M/; s/^mode = 0600/&\\ngroup = bigvasta/' /etc/bigvasta/host.conf
+sed -i 's/^# budget = 8G/budget = 64M/; s/^mode = 0600/&\\ngroup = bigvasta/' \\
+    /etc/bigvasta/host.conf
 systemctl start bigvasta-host
 bigvasta status | grep -q '^budget 64, held 0, lent 0, missing 0 MiB; 0 guests; version '
 test "$(bigvasta add web-1)" = /run/bigvasta/web-1
 test -S /run/bigvasta/web-1
 test "$(bigvasta status --names)" = web-1
-bigvasta guest web-1 --json | python3 -c 'import json, sys; assert json.load(sys.stdin)["guest"]["state"] == "absent"'
+bigvasta guest web-1 --json |
+    python3 -c 'import json, sys; assert json.load(sys.stdin)["guest"]["state"] == "absent"'
 as() { local groups=$1; shift; setpriv --reuid=nobody --regid=nogroup --groups=$groups "$@"; }
 ends() { local wanted=$1 status=0; shift; "$@" || status=$?; test $status = $wanted; }
 test "$(as bigvasta-status bigvasta status --names)" = web-1
@@ -155,14 +157,16 @@ INSTEAD = (
         QEMU,
         """
 if {has_device}; then
-    ({command} -display none -serial none -monitor none > /tmp/qemu.log 2>&1 & echo $! > /tmp/qemu.pid)
+    ({command} -display none -serial none -monitor none > /tmp/qemu.log 2>&1 &
+        echo $! > /tmp/qemu.pid)
     trap 'kill $(cat /tmp/qemu.pid) 2> /dev/null || true' EXIT
-    for i in $(seq 60); do bigvasta guest web-1 --json | grep -q '"state": "absent"' || break; sleep 0.5; done
+    is_absent() { bigvasta guest web-1 --json | grep -q '"state": "absent"'; }
+    for i in $(seq 60); do is_absent || break; sleep 0.5; done
     process() { bigvasta guest web-1 --json | sed 's/.*"process": \\([0-9]*\\),.*/\\1/'; }
     first=$(process) && sleep 3 && test "$first" != 0 && test "$(process)" = "$first"
     kill $(cat /tmp/qemu.pid)
-    for i in $(seq 60); do bigvasta guest web-1 --json | grep -q '"state": "absent"' && break; sleep 0.5; done
-    bigvasta guest web-1 --json | grep -q '"state": "absent"'
+    for i in $(seq 60); do is_absent && break; sleep 0.5; done
+    is_absent
 else
     test -S $(echo '{command}' | sed -n 's/.*socket,id=balloon,path=\\([^ ,]*\\).*/\\1/p')
 fi
@@ -174,7 +178,8 @@ fi
 # devices of this one.
 NEWER = "/srv/newer"
 NEWER_QEMU = f"""#!/bin/sh
-exec unshare --mount sh -c 'mount --rbind /run {NEWER}/run && mount --rbind /dev {NEWER}/dev && exec chroot {NEWER} {QEMU} "$@"' sh "$@"
+exec unshare --mount sh -c 'mount --rbind /run {NEWER}/run && mount --rbind /dev {NEWER}/dev &&
+    exec chroot {NEWER} {QEMU} "$@"' sh "$@"
 """
 
 # Whether a QEMU is there that has the device.
@@ -189,10 +194,13 @@ dpkg --purge bigvasta-host
 
 # What has to be true after README's commands, and how they are undone.
 AFTER = """
-for i in $(seq 40); do python3 -c '
+has_metrics() {
+    python3 -c '
 import urllib.request
 text = urllib.request.urlopen("http://localhost:9750/metrics").read().decode()
-assert "bigvasta_up 1.0" in text and "bigvasta_budget_bytes 6.442450944e+09" in text' 2> /tmp/metrics.err && break; sleep 0.5; done
+assert "bigvasta_up 1.0" in text and "bigvasta_budget_bytes 6.442450944e+09" in text'
+}
+for i in $(seq 40); do has_metrics 2> /tmp/metrics.err && break; sleep 0.5; done
 cat /tmp/metrics.err
 test ! -s /tmp/metrics.err
 systemctl disable --now bigvasta-host bigvasta-metrics

@@ -106,8 +106,8 @@ def contracts():
     return found
 
 
-UNPROVED = """unproved: no gate's last line was given. The kit had proved what it built, libvb.a and vb_sim; no proof from nothing, no test
-and no must-fail edit was tried for this release"""
+UNPROVED = """unproved: no gate's last line was given. The kit had proved what it built, libvb.a and
+vb_sim; no proof from nothing, no test and no must-fail edit was tried for this release"""
 
 
 def proved(tree, others):

@@ -16,8 +16,10 @@ NEW_DAEMONS = """
 apt-get -q -y install /srv/released/*.deb
 dpkg -S /usr/bin/vhost_user_balloon | grep -q ^bigvasta-host:
 vhost_user_balloon --version && vhost_user_host --version
-test ! -e /usr/share/man/man1/vhost_user_balloon.1 && test -s /usr/share/man/man1/vhost_user_balloon.1.gz
-test "$(dpkg-query -W -f '${db:Status-Status} ${Version}' bigvasta | grep -c '^installed 0[.]1[.]')" = 0
+test ! -e /usr/share/man/man1/vhost_user_balloon.1
+test -s /usr/share/man/man1/vhost_user_balloon.1.gz
+status=$(dpkg-query -W -f '${db:Status-Status} ${Version}' bigvasta || true)
+case $status in 'installed 0.1.'*) false ;; esac
 """
 
 # A guest of 128 pages of a client of the tests, which answers as long as its unit runs; it comes by
@@ -47,14 +49,18 @@ print(json.dumps({name: it[name] for name in ("process", "memory", "target", "te
 OLD_SERVICE = f"""
 dpkg -i /{SERVICE}/*.deb
 sed -i 's/^# budget = .*/budget = 64M/' /etc/bigvasta/host.conf
-# The unit of 0.1.0 alone lets its host neither give the control socket its group nor shut guests' processes in.
-mkdir -p {DROP_IN} && printf '[Service]\nSystemCallFilter=@chown seccomp\n' > {DROP_IN}/older.conf && systemctl daemon-reload
+# The unit of 0.1.0 alone lets its host neither give the control socket its group nor shut guests'
+# processes in.
+mkdir -p {DROP_IN}
+printf '[Service]\nSystemCallFilter=@chown seccomp\n' > {DROP_IN}/older.conf
+systemctl daemon-reload
 printf '[guest web-1]\\npriority = 3\\n' >> /etc/bigvasta/host.conf
 systemctl enable --now bigvasta-host
 printf '%s' '{SHOW}' > /root/show.py
 {COMES}
 comes web-1
-for i in $(seq 60); do bigvasta guest web-1 --json | python3 /root/show.py > /root/before 2> /root/why && break; sleep 0.5; done
+shows() {{ bigvasta guest $1 --json | python3 /root/show.py > /root/$2 2> /root/why; }}
+for i in $(seq 60); do shows web-1 before && break; sleep 0.5; done
 cat /root/why && test -s /root/before
 cp /etc/bigvasta/host.conf /root/host.conf && systemctl show -p MainPID bigvasta-host > /root/main
 """
@@ -67,14 +73,17 @@ apt-get -q -y -o Dpkg::Options::=--force-confold install /srv/released/bigvasta-
 cmp /root/host.conf /etc/bigvasta/host.conf
 systemctl is-active bigvasta-host
 test "$(systemctl show -p MainPID bigvasta-host)" != "$(cat /root/main)"
-vhost_user_host --version | grep -q " $(bigvasta status --json | python3 -c 'import json, sys; print(json.load(sys.stdin)["host"]["version"])')"
-for i in $(seq 60); do bigvasta guest web-1 --json | python3 /root/show.py > /root/after 2> /root/why && break; sleep 0.5; done
+version=$(bigvasta status --json |
+    python3 -c 'import json, sys; print(json.load(sys.stdin)["host"]["version"])')
+vhost_user_host --version | grep -q " $version"
+shows() {{ bigvasta guest $1 --json | python3 /root/show.py > /root/$2 2> /root/why; }}
+for i in $(seq 60); do shows web-1 after && break; sleep 0.5; done
 cat /root/why && diff /root/before /root/after
 bigvasta budget | grep -qx '64 MiB'
 bigvasta add web-2
 {COMES}
 comes web-2
-for i in $(seq 60); do bigvasta guest web-2 --json | python3 /root/show.py > /root/after 2> /root/why && break; sleep 0.5; done
+for i in $(seq 60); do shows web-2 after && break; sleep 0.5; done
 cat /root/why && test -s /root/after
 """
 

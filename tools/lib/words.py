@@ -143,7 +143,8 @@ def words_of(path, text):
 
 # A subject begins with a verb's plain form: not with these, nor with an ending of other forms.
 NO_VERBS = re.compile(
-    r"^(?:An?|The|Of|On|In|For|With|By|To|At|From|Some|More|New|All|Each|Every|What|Where|How|Who|Which|No|And|Also)\b|^\w+(?:ing|ed|[^s]s)\b"
+    r"^(?:An?|The|Of|On|In|For|With|By|To|At|From|Some|More|New|All|Each|Every|What|Where|How|Who"
+    r"|Which|No|And|Also)\b|^\w+(?:ing|ed|[^s]s)\b"
 )
 VERBS = re.compile(r"^(?:Bring|Embed|Feed|Need|Shed|Speed|Focus|Bypass|Cross|Pass)\b")
 

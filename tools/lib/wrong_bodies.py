@@ -8,12 +8,15 @@ from typing import NamedTuple
 SKIPPED = {
     ".c": r"/\*.*?\*/|//[^\n]*|^[ \t]*\#(?:\\\n|[^\n])*|\"(?:\\.|[^\"\\])*\"|'(?:\\.|[^'\\])*'",
     ".py": (
-        r"\#[^\n]*|[rbf]?\"\"\".*?\"\"\"|[rbf]?\"(?:\\.|[^\"\\\n])*\"|[rbf]?'(?:\\.|[^'\\\n])*'|^@[^\n]*|^(?:from|import) "
-        r"[^\n]*"
+        r"\#[^\n]*|[rbf]?\"\"\".*?\"\"\"|[rbf]?\"(?:\\.|[^\"\\\n])*\"|[rbf]?'(?:\\.|[^'\\\n])*'"
+        r"|^@[^\n]*|^(?:from|import) [^\n]*"
     ),
 }
 SKIPPED[".h"] = SKIPPED[".c"]
-TOKEN = r"(?P<word>[A-Za-z_]\w*)|(?P<number>\d[\w.]*)|(?P<sign>->|<<|>>|[-+*/|&<>=!]=|&&|\|\||\+\+|--|\*\*|//|[^\s\w])"
+TOKEN = (
+    r"(?P<word>[A-Za-z_]\w*)|(?P<number>\d[\w.]*)"
+    r"|(?P<sign>->|<<|>>|[-+*/|&<>=!]=|&&|\|\||\+\+|--|\*\*|//|[^\s\w])"
+)
 
 # What takes a token's place, by the kind of the edit; spaces round a word of Python's that is left
 # out stay.

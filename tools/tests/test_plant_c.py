@@ -129,7 +129,10 @@ def test_each_file_that_is_shipped_is_seen():
 ADD = "int add(int a, int b)\n{\n    int sum = a + b;\n    return sum > 0 ? sum : sum * 1;\n}\n"
 SHELL = """
 fails() { echo "FAILED monitor/tests/test_add.py::test_$1 - no"; exit 1; }
-asked() { case "$*" in *--deselect*test_$name*) false;; *--deselect* | *test_$name*) true;; *test_*) false;; esac; }
+asked() {
+    case "$*" in
+    *--deselect*test_$name*) false ;; *--deselect* | *test_$name*) true ;; *test_*) false ;; esac
+}
 name=time; asked "$*" && { test -e once || { touch once; fails time; }; }
 name=always; asked "$*" && fails always
 name=sums; asked "$*" && ! grep -q 'a + b' monitor/add.c && fails sums

@@ -34,7 +34,8 @@ pub data Event : Type 0 where
 """,
     "src/laws.rt": """/// A law.
 pub fn runs_are_short()
-    ensures { (first : Event) (events : List Event) → IsBegun first → IsRun 1 events → IsShort events }
+    ensures { (first : Event) (events : List Event) →
+        IsBegun first → IsRun 1 events → IsShort events }
 {}
 """,
     "src/run.rt": """pub fn run(n: u32) -> u32

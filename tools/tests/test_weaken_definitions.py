@@ -14,7 +14,8 @@ TREE = {
     "crates.txt": "low:\n",
     "HANDLES": "",
     "crates/low/src/lib.rt": "#![tactic(auto)]\n\npub mod even;\n",
-    "crates/low/src/laws.rt": "pub fn few_are_small()\n    ensures { (n : ℕ) → IsSmall n → IsFew (n + n) n }\n{}\n",
+    "crates/low/src/laws.rt": "pub fn few_are_small()\n"
+    "    ensures { (n : ℕ) → IsSmall n → IsFew (n + n) n }\n{}\n",
     "crates/low/specs/Lib.antt": "pub mod Even\npub mod Small\n",
     "crates/low/specs/Even.antt": """use Rattle.std.specs.Prelude.{ℕ, ◌≡◌, ◌≤◌}
 

@@ -100,7 +100,9 @@ def add(commands, common):
         "log",
         parents=[common],
         help="what the host decided, and why",
-        description="Prints what the host decided, and why: the targets in MiB, OLD>NEW where one changed.",
+        description=(
+            "Prints what the host decided, and why: the targets in MiB, OLD>NEW where one changed."
+        ),
     )
     words.add_argument(
         "-f",

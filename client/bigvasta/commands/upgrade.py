@@ -96,8 +96,9 @@ def add(commands, common):
         "upgrade",
         parents=[common],
         help="the host and its guests' processes become the programs that are installed now",
-        description="Has the host and its guests' processes become the programs that are installed now, "
-        "while guests live on. Prints the versions "
-        "before and after.",
+        description=(
+            "Has the host and its guests' processes become the programs that are installed now, "
+            "while guests live on. Prints the versions before and after."
+        ),
     )
     words.set_defaults(run=run, changes=lambda asked: True)

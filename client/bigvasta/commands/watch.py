@@ -18,9 +18,11 @@ def add(commands, common):
         "watch",
         parents=[common],
         help="a live view in the terminal",
-        description="A bar for each guest: what it holds, what it could spare of that, its loan, what its "
-        "target leaves it. Keys: q ends, "
-        "s sorts by name, held or waits, p pauses, the arrows move.",
+        description=(
+            "A bar for each guest: what it holds, what it could spare of that, its loan, what its "
+            "target leaves it. Keys: q ends, s sorts by name, held or waits, p pauses, the arrows "
+            "move."
+        ),
     )
     words.add_argument(
         "--interval", type=float, default=1.0, metavar="S", help="seconds between two looks (1)"

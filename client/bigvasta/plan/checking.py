@@ -246,7 +246,10 @@ def lines(found):
             f"{(course[-1] - course[0]) * PAGE / (1 << 20):.1f}"
             for course in (it.granted, it.replayed)
         )
-        yield f"{it.name:<16}{granted:>9}{replayed:>10}{it.waited:>9.1f}{it.replay_waited:>10.1f}{it.apart() * found.look:>8.1f}"
+        yield (
+            f"{it.name:<16}{granted:>9}{replayed:>10}{it.waited:>9.1f}{it.replay_waited:>10.1f}"
+            f"{it.apart() * found.look:>8.1f}"
+        )
     verdict = (
         "the replay grants the same"
         if found.agrees()

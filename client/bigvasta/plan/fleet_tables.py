@@ -5,7 +5,8 @@ from bigvasta.sizes import PAGE
 
 COLUMNS = ("promise", "hosts", "away", *tables.FIGURES)
 
-LEGEND = """promise: what a host may promise, by its budget; hosts: how many have guests; away: guests that find no host; by, moved: MiB
+LEGEND = """promise: what a host may promise, by its budget; hosts: how many have guests; away:
+guests that find no host; by, moved: MiB
 """
 
 

@@ -7,7 +7,8 @@ COLUMNS = ("budget", "promise", *FIGURES)
 
 # What each column is; the times are seconds, the sizes MiB.
 LEGEND = """budget, by, moved: MiB; promise: what is promised, by the budget
-waits: part of the time in which guests wait; a day: seconds that a guest waits in a day; median, 99%, worst: seconds that an ask waits
+waits: part of the time in which guests wait; a day: seconds that a guest waits in a day; median,
+99%, worst: seconds that an ask waits
 short: how often the guests couldn't spare what is missing; for: seconds in all; by: at worst"""
 
 

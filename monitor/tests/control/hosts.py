@@ -11,9 +11,8 @@ import threading
 
 from bigvasta.connection import Connection
 from linux_guest import Lines
-from linux_kit import ROOT
 from vhost_client import BUFFERS, PAGE, STATISTICS, Client
-from waiting import PATIENCE, eventually
+from waiting import PATIENCE
 
 # The tag of free memory (VIRTIO 1.1, 5.5.6.3).
 FREE_MEMORY = 4

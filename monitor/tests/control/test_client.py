@@ -14,9 +14,8 @@ from bigvasta.picture import PLAIN, Shown
 from bigvasta.sizes import mebibytes, parse_size, seconds
 from bigvasta.statuses import Usage
 from bigvasta.waits import wait_of
-from hosts import eventually
 from installed import CLIENT, bigvasta
-from waiting import PATIENCE
+from waiting import PATIENCE, eventually
 
 MIB = 1 << 20
 

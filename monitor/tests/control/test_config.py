@@ -7,7 +7,7 @@ import signal
 import socket
 
 import pytest
-from hosts import ROOT, Host, eventually
+from hosts import Host
 
 MIB = 1 << 20
 
@@ -168,7 +168,8 @@ FIXED = (
     ("[log]", "[status]\nmode = 0600\n[log]", "mode of [status]"),
     ("[log]", "[status]\ngroup = {group}\n[log]", "group of [status]"),
 )
-from waiting import PATIENCE, patience_from_now
+from linux_kit import ROOT
+from waiting import PATIENCE, eventually, patience_from_now
 
 
 def lines_of_a_client(host):

@@ -11,7 +11,7 @@ import time
 import pytest
 from bigvasta.connection import Connection
 from bigvasta.statuses import Refused
-from hosts import Host, Raw, eventually, say
+from hosts import Host, Raw, say
 
 MIB, PAGE = 1 << 20, 4096
 PAGES = "a whole number of bytes in pages of 4096, up to 17592186036224"
@@ -158,7 +158,7 @@ WRONG = (
     (say(request="log", limit=17), "bad-field", "limit", "a whole number from 1 to 16"),
     (say(request="events", since=0), "unknown-field", "since", "this request has no such field"),
 )
-from waiting import PATIENCE, patience_from_now
+from waiting import PATIENCE, eventually, patience_from_now
 
 
 @pytest.fixture

@@ -9,10 +9,10 @@ import subprocess
 
 import linux_kit
 import pytest
-from hosts import ROOT, eventually
 from linux_guest import Lines
+from linux_kit import ROOT
 from vhost_client import Client
-from waiting import PATIENCE, patience_from_now
+from waiting import PATIENCE, eventually, patience_from_now
 
 
 @pytest.fixture(scope="session")

@@ -5,9 +5,9 @@ import os
 import signal
 
 import pytest
-from hosts import Answering, Host, eventually
+from hosts import Answering, Host
 from vhost_client import DEFLATE, INFLATE, PAGE, REGIONS, REPORT, WRITE
-from waiting import patience_from_now
+from waiting import eventually, patience_from_now
 
 # Each counter, by when it begins at 0: with a lender; with a client of a guest, which its process
 # counts; with both.

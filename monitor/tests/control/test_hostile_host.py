@@ -12,7 +12,7 @@ from bigvasta.picture import Line
 from bigvasta.statuses import Unclear
 from bigvasta.watching import draw
 from fakes import Fake, drip
-from hosts import eventually
+from waiting import eventually
 
 # What is put in the place of each part of an answer; GONE: nothing.
 GONE, ESCAPES = object(), "\x1b]0;x\x07\u202e\n"

@@ -281,7 +281,10 @@ OF_SOCKETS = {
 OF_GUESTS_HERE = {
     **{
         f"{it}_bytes": it
-        for it in "memory held loan asked excess limit target ballooned free available spare".split()
+        for it in (
+            *("memory", "held", "loan", "asked", "excess", "limit"),
+            *("target", "ballooned", "free", "available", "spare"),
+        )
     },
     "silent_seconds": "silent",
     "process_silent_seconds": "process_silent",

@@ -13,10 +13,11 @@ import urllib.request
 
 import pytest
 from bigvasta.plan import lending, reading
-from hosts import ROOT, eventually, values
+from hosts import values
 from installed import CLIENT, bigvasta
+from linux_kit import ROOT
 from vhost_client import DEFLATE, INFLATE, REGIONS
-from waiting import PATIENCE
+from waiting import PATIENCE, eventually
 
 RULES = os.path.join(ROOT, "packaging", "prometheus")
 PAGE, MIB = 4096, 1 << 20

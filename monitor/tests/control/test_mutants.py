@@ -9,14 +9,20 @@ import pytest
 
 # Each wrong host, and the test that has to refuse it.
 WRONG = {
-    "any-field": "test_control.py::test_each_wrong_line_is_refused_by_its_words_and_changes_nothing",
+    "any-field": (
+        "test_control.py::" "test_each_wrong_line_is_refused_by_its_words_and_changes_nothing"
+    ),
     "no-id": "test_control.py::test_an_answer_repeats_its_id_and_answers_are_in_order",
     "no-limit": "test_control.py::test_a_line_of_the_most_bytes_and_one_more",
-    "waits-for-ever": "test_control.py::test_twenty_clients_of_which_some_never_read_and_one_sends_trash",
+    "waits-for-ever": (
+        "test_control.py::" "test_twenty_clients_of_which_some_never_read_and_one_sends_trash"
+    ),
     "all-lost": "test_control.py::test_decisions_that_are_lost_are_counted",
     "no-events": "test_control.py::test_followers_hear_each_event_once_and_in_order",
     "open-socket": "test_control.py::test_the_mode_and_the_group_of_the_socket",
-    "changes-by-status": "test_status.py::test_what_would_change_the_host_is_refused_by_name_and_changes_nothing",
+    "changes-by-status": (
+        "test_status.py::" "test_what_would_change_the_host_is_refused_by_name_and_changes_nothing"
+    ),
     "any-word": "test_config.py::test_the_old_configuration_stays_where_the_new_one_is_wrong",
     "half-a-file": "test_config.py::test_the_old_configuration_stays_where_the_new_one_is_wrong",
     "moves": "test_config.py::test_what_cannot_change_while_the_host_runs",

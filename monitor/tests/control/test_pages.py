@@ -9,8 +9,9 @@ import subprocess
 
 import pytest
 from bigvasta.cli import parser
-from hosts import ROOT, Host, eventually
+from hosts import Host
 from installed import CLIENT
+from linux_kit import ROOT
 from waiting import PATIENCE, patience_from_now
 
 MAN = os.path.join(ROOT, "docs", "man")

@@ -13,9 +13,10 @@ import time
 
 import pytest
 from bigvasta.connection import Connection
-from hosts import ROOT, Answering, Host, eventually
+from hosts import Answering, Host
 from installed import bigvasta
-from waiting import PATIENCE, patience_from_now
+from linux_kit import ROOT
+from waiting import PATIENCE, eventually, patience_from_now
 
 SYSTEMD = os.path.join(ROOT, "packaging", "systemd")
 UNITS = ("bigvasta-host.service", "bigvasta-metrics.service")

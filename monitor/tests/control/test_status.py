@@ -8,7 +8,7 @@ import stat
 
 import pytest
 from bigvasta.connection import Connection
-from hosts import ROOT, Host, Raw, eventually, say
+from hosts import Host, Raw, say
 from installed import bigvasta
 
 PAGE, MIB = 4096, 1 << 20
@@ -49,7 +49,8 @@ WRONG = (
     (say(request="log", limit=0), "bad-field"),
     (b'{"version": 2, "request": "add"}', "version"),
 )
-from waiting import patience_from_now
+from linux_kit import ROOT
+from waiting import eventually, patience_from_now
 
 # What shows the host; of these two requests more is shown than is the same at both sockets.
 SHOWS = (("guest", {"name": "a"}), ("budget", {}), ("floor", {}), ("log", {"since": 0, "limit": 1}))

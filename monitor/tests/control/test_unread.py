@@ -3,7 +3,8 @@ reads them: again and again."""
 
 import json
 
-from hosts import Raw, eventually, say
+from hosts import Raw, say
+from waiting import eventually
 
 # Bytes of answers: more than a socket has room for, and no more than that and what the host keeps
 # for a client.

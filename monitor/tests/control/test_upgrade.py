@@ -3,9 +3,9 @@ are, and shows which are of another version."""
 
 import os
 
-from hosts import Answering, Host, eventually
+from hosts import Answering, Host
 from installed import OLDER, bigvasta, install, older_program, version
-from waiting import patience_from_now
+from waiting import eventually, patience_from_now
 
 
 def begin(program, folder):

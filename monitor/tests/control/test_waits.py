@@ -5,9 +5,9 @@ import threading
 
 import pytest
 from bigvasta.connection import Connection
-from hosts import Host, eventually
+from hosts import Host
 from vhost_client import DEFLATE, INFLATE, PAGE, REGIONS, Client
-from waiting import patience_from_now
+from waiting import eventually, patience_from_now
 
 GUEST = 128 * PAGE
 

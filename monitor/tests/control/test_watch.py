@@ -6,9 +6,9 @@ import shutil
 import subprocess
 
 import pytest
-from hosts import Host, eventually
+from hosts import Host
 from installed import CLIENT
-from waiting import PATIENCE, patience_from_now
+from waiting import PATIENCE, eventually, patience_from_now
 
 PAGE, MIB = 4096, 1 << 20
 ENVIRONMENT = {**os.environ, "TERM": "screen-256color", "LC_ALL": "C.UTF-8"}

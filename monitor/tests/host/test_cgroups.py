@@ -22,7 +22,7 @@ ALL = GUEST * PAGES_PER_MIB
 
 pytestmark = pytest.mark.skipif(
     os.geteuid() != 0 or cgroups() != SECOND,
-    reason="this machine has no cgroups of memory of the second version: tools/test machine boots one",
+    reason="no cgroups of memory of the second version here: tools/test machine boots one",
 )
 from waiting import PATIENCE, patience_from_now
 

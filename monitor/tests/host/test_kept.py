@@ -341,9 +341,10 @@ def a_message_is_cut_off(life):
 
 
 @step(
-    """counters.kicks counters.interrupts counters.told counters.chains counters.pages counters.discarded counters.waiting counters.skipped
-         counters.in_holes counters.kept counters.marked counters.unmarked counters.inflated counters.deflated counters.reported counters.reports
-         counters.statistics counters.taken"""
+    """counters.kicks counters.interrupts counters.told counters.chains counters.pages
+    counters.discarded counters.waiting counters.skipped counters.in_holes counters.kept
+    counters.marked counters.unmarked counters.inflated counters.deflated counters.reported
+    counters.reports counters.statistics counters.taken"""
 )
 def all_is_counted(life):
     """The next process has the numbers of this one, and tells its driver once more."""

@@ -11,7 +11,10 @@ from mutants import demand_refused
 # backend of one guest.
 LOOPS = {
     "late-removal": "test_processes.py::test_the_lender_has_no_file_of_a_client",
-    "old-number": "test_processes.py::test_who_comes_once_another_has_gone_is_heard_by_files_of_the_same_numbers",
+    "old-number": (
+        "test_processes.py::"
+        "test_who_comes_once_another_has_gone_is_heard_by_files_of_the_same_numbers"
+    ),
     "no-hang-up": "test_strict.py::test_who_waits_and_goes_is_forgotten",
 }
 

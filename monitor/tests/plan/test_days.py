@@ -12,7 +12,8 @@ PAGE = 4096
 def test_what_is_read(tmp_path):
     path = tmp_path / "day.csv"
     path.write_text(
-        "seconds,guest,available,size\n5,b,4096,8192\n0,a,8192,8192\n7.5,a,8192,8192\n8,a,1,8192\n9,b,0,8192\n10,a,0,8192\n"
+        "seconds,guest,available,size\n5,b,4096,8192\n0,a,8192,8192\n"
+        "7.5,a,8192,8192\n8,a,1,8192\n9,b,0,8192\n10,a,0,8192\n"
     )
     assert read(str(path)).guests == (
         Recorded("a", 2, (Use(0.0, 0), Use(8.0, 2)), 10.0),
