@@ -57,7 +57,7 @@ def monitor(name, *words):
 
 
 CHECKS = (
-    Step("check-sources", ("tools/check-sources",), ("git",)),
+    Step("check-sources", ("tools/check-sources",), ("git", "clang-format", "black", "pyflakes3")),
     Step("headline", ("tools/headline", "--check")),
     Step("draw-crates", ("tools/draw-crates", "--check")),
 )

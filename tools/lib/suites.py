@@ -102,7 +102,7 @@ SUITES = {
     "tools": Suite(
         "the tools that judge, each over a planted fault",
         ("tools/tests", "--ignore=tools/tests/test_draw_run.py", *AT_ONCE),
-        "git clang libc6-dev-arm64-cross cargo librust-vm-memory-dev",
+        "git clang libc6-dev-arm64-cross cargo librust-vm-memory-dev clang-format black pyflakes3",
         over_library=False,
     ),
     "draw-run": Suite(

@@ -2,9 +2,8 @@
 doesn't."""
 
 import pytest
-from page_claims import tool
-
-CHECK = tool("check-sources")
+import source_files
+from ring_layouts import LAYOUT_OWNERS, layouts
 
 # Lines of Rattle and of C as a ring's layout is written without names (VIRTIO 1.1, 2.6).
 BARE = (
@@ -49,12 +48,12 @@ CLAUSED = """fn length(size: u64) -> u64
 @pytest.fixture
 def found(tmp_path, monkeypatch):
     """Returns the places that are found in a folder with this one file."""
-    monkeypatch.setattr(CHECK, "ROOT", str(tmp_path))
+    monkeypatch.setattr(source_files, "ROOT", str(tmp_path))
 
     def look(path, text):
         (tmp_path / path).parent.mkdir(parents=True)
         (tmp_path / path).write_text(text, encoding="utf-8")
-        return CHECK.layouts()
+        return layouts()
 
     return look
 
@@ -73,7 +72,7 @@ def test_names_and_other_numbers_are_not(found, line):
 
 
 MAY = (
-    *CHECK.LAYOUT_OWNERS,
+    *LAYOUT_OWNERS,
     "crates/a/src/tests.rt",
     "crates/a/src/tests/b.rt",
     "monitor/tests/guest.h",

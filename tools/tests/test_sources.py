@@ -4,7 +4,9 @@ nothing where that is right."""
 import os
 import subprocess
 
+import code_style
 import pytest
+import source_files
 from page_claims import tool
 
 CHECK = tool("check-sources")
@@ -67,15 +69,22 @@ OF_ALL = (
         [],
     ),
     ("lengths", {"tools/lib/a.py": "\n" * 351}, ["tools/lib/a.py: 351 lines"]),
+    ("lengths", {"monitor/tests/a/b.c": "\n" * 351}, ["monitor/tests/a/b.c: 351 lines"]),
+    ("lengths", {"tools/a": "#!/usr/bin/python3" + "\n" * 351}, ["tools/a: 351 lines"]),
+    ("lengths", {"tools/lib/a.py": "\n" * 350, "crates/a/src/tests.rt": "\n" * 351}, []),
+    ("long_lines", {"monitor/a.h": "x" * 101}, ["monitor/a.h:1: 101 columns"]),
+    ("long_lines", {"tools/a": f"#!/usr/bin/python3\n#{'x' * 100}"}, ["tools/a:2: 101 columns"]),
+    ("long_lines", {"docs/a.md": f"\n{'x' * 101}\n"}, ["docs/a.md:2: 101 columns"]),
     (
-        "lengths",
-        {
-            "tools/lib/a.py": "\n" * 350,
-            "crates/a/src/tests.rt": "\n" * 351,
-            "monitor/tests/a/test_b.py": "\n" * 351,
-        },
+        "long_lines",
+        {"docs/a.md": f"|{'x' * 101}|\n```\n{'x' * 101}\n```\n", "tools/b": "x" * 101},
         [],
     ),
+    ("formatting", {"monitor/a.c": "int a;\nint  b;\n"}, ["monitor/a.c:2"]),
+    ("formatting", {"tools/a.py": "a = 1\n", "tools/b.py": "b = '1'\n"}, ["tools/b.py"]),
+    ("formatting", {"monitor/a.c": "int a;\n", "tools/a.py": "a = 1\n"}, []),
+    ("unused", {"tools/a.py": "import os\n"}, ["tools/a.py:1:1: 'os' imported but unused"]),
+    ("unused", {"tools/a.py": "import os\n\nos.getpid()\n"}, []),
     (
         "writes",
         {"monitor/backends/guest/a.c": WRITER % "device->status = 3"},
@@ -120,7 +129,7 @@ OF_ALL = (
 @pytest.fixture
 def root(tmp_path, monkeypatch):
     """A folder in place of the repository."""
-    monkeypatch.setattr(CHECK, "ROOT", str(tmp_path))
+    monkeypatch.setattr(source_files, "ROOT", str(tmp_path))
     return tmp_path
 
 
@@ -141,6 +150,14 @@ def test_of_a_crate(root, topic, files, wanted):
 def test_of_all_files(root, topic, files, wanted):
     put(root, files)
     assert getattr(CHECK, topic)() == wanted
+
+
+def test_a_formatter_that_is_missing_is_named(root, monkeypatch):
+    put(root, {"monitor/a.c": "int  a;\n", "tools/a.py": "import os\n"})
+    monkeypatch.setenv("PATH", "/nowhere")
+    assert [*code_style.formatting(), *code_style.unused()] == [
+        f"{it} isn't there: apt-get install {it}" for it in ("clang-format", "black", "pyflakes3")
+    ]
 
 
 def test_a_link(root):
