@@ -94,6 +94,7 @@ GUEST = {
         "most": is_limit,
         "strict": is_flag,
         "limit": is_text_or_null,
+        **fields(Maybe(is_limit), "user memory"),
     },
     "counters": fields(
         is_count, "inflated deflated reported taken granted clients lost limit_failures"

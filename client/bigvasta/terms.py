@@ -33,6 +33,11 @@ def kernel_limit(text, name):
     return text
 
 
+def user(text, name):
+    """Returns a user's number, or its name, which the host knows."""
+    return int(text) if text.isascii() and text.isdecimal() else text
+
+
 TERMS = {
     "least": parse_size,
     "most": limit,
@@ -40,10 +45,12 @@ TERMS = {
     "strict": boolean,
     "overhead": parse_size,
     "limit": kernel_limit,
+    "user": user,
+    "memory": limit,
 }
 TERMS_HELP = (
     "least=SIZE most=SIZE|none priority=N strict=yes|no overhead=SIZE "
-    "limit=cgroup:PATH|tmpfs:MOUNT|none"
+    "limit=cgroup:PATH|tmpfs:MOUNT|none user=USER|none memory=SIZE|none"
 )
 TARGET = {"target": parse_size}
 

@@ -16,7 +16,7 @@
  *
  *     add NAME [TERMS]    a guest may come to the socket FOLDER/NAME, and again once it has gone
  *     terms NAME TERMS    its terms are these from now on: least=MIB, most=MIB, priority=NUMBER,
- * strict=0 or 1, overhead=MIB, limit=cgroup:PATH or limit=tmpfs:MOUNT remove NAME         its
+ * strict=0 or 1, overhead=MIB, limit=cgroup:PATH or limit=tmpfs:MOUNT, user=NAME or NUMBER, memory=MIB remove NAME         its
  * service ends budget MIB          the host is to hold no more than this floor MIB           what
  * each guest keeps free guests              each guest's names and numbers: pages, held_kib,
  * ballooned, target, free, spare, .. counters            the same for all together: looks, looks

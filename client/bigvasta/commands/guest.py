@@ -25,6 +25,10 @@ def describe(guest):
     yield f"  {'overhead':<10} {mebibytes(terms['overhead']):>8} MiB"
     if terms["limit"]:
         yield f"  {'limit':<10} {mebibytes(guest['limit']):>8} MiB, by {terms['limit']}"
+    if terms.get("user") is not None:
+        yield f"  {'user':<10} {terms['user']:>8}"
+    if terms.get("memory") is not None:
+        yield f"  {'at most':<10} {mebibytes(terms['memory']):>8} MiB of memory"
     if wait_of(guest):
         yield f"  waits for  {wait_of(guest)}"
 

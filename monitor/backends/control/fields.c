@@ -53,12 +53,24 @@ static const char *kernel_limit_fault(const json_t *value, struct guest_limit *l
     return json_is_null(value) ? NULL : "cgroup:PATH, tmpfs:MOUNT, or null";
 }
 
+/* Why a value is no user's; NULL: it is one's, or null. */
+static const char *user_fault(const json_t *value, uint32_t *user)
+{
+    json_int_t number = json_integer_value(value);
+    if (json_is_string(value) && strcmp(json_string_value(value), "none") != 0)
+        return owner_read(json_string_value(value), user);
+    bool is_number = json_is_integer(value) && number >= 0 && number < ANY_USER;
+    *user = is_number ? (uint32_t)number : ANY_USER;
+    return is_number || json_is_null(value) ? NULL : "a user's name or number, or null";
+}
+
 static json_t *wrong_field(const json_t *value, const struct field *field)
 {
     static const char pages[] = "a whole number of bytes in pages of 4096, up to 17592186036224";
     uint64_t number =
         json_integer_value(value) < 0 ? UINT64_MAX : (uint64_t)json_integer_value(value);
     struct guest_limit limit;
+    uint32_t user;
     const char *fault;
     switch (field->kind) {
     case FIELD_NAME:
@@ -74,6 +86,9 @@ static json_t *wrong_field(const json_t *value, const struct field *field)
                                       : request_refusal("bad-field", field->name, "true or false");
     case FIELD_KERNEL_LIMIT:
         fault = kernel_limit_fault(value, &limit);
+        return fault ? request_refusal("bad-field", field->name, "%s", fault) : NULL;
+    case FIELD_USER:
+        fault = user_fault(value, &user);
         return fault ? request_refusal("bad-field", field->name, "%s", fault) : NULL;
     default:
         if (json_is_integer(value) && number >= field->least && number <= field->most)
@@ -131,4 +146,11 @@ struct guest_limit field_kernel_limit(const json_t *request, const char *name)
     struct guest_limit limit;
     kernel_limit_fault(json_object_get(request, name), &limit);
     return limit;
+}
+
+uint32_t field_user(const json_t *request, const char *name)
+{
+    uint32_t user;
+    user_fault(json_object_get(request, name), &user);
+    return user;
 }

@@ -6,22 +6,24 @@
 #include <stdint.h>
 
 #include "../host/limit.h"
+#include "../host/owner.h"
 
 /* A name; bytes that are whole pages; the same or null, for no limit; a whole number; true or
- * false; words of the kernel's limit, or null for none. */
+ * false; words of the kernel's limit, or null for none; a user's name or number, or null for any. */
 enum field_kind {
     FIELD_NAME,
     FIELD_BYTES,
     FIELD_LIMIT,
     FIELD_NUMBER,
     FIELD_BOOLEAN,
-    FIELD_KERNEL_LIMIT
+    FIELD_KERNEL_LIMIT,
+    FIELD_USER
 };
 
 /* Whether a request, or a field of it, changes the host or shows it. */
 enum effect { SHOWS, CHANGES };
 
-enum { MOST_FIELDS = 8, PAGE_BYTES = 4096 };
+enum { MOST_FIELDS = 10, PAGE_BYTES = 4096 };
 
 struct field {
     const char *name; /* NULL: no field */
@@ -47,5 +49,6 @@ const char *field_name(const json_t *request, const char *name);
 uint32_t field_pages(const json_t *request, const char *name);
 uint64_t field_number(const json_t *request, const char *name);
 struct guest_limit field_kernel_limit(const json_t *request, const char *name);
+uint32_t field_user(const json_t *request, const char *name);
 
 #endif

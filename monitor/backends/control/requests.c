@@ -77,12 +77,17 @@ static struct guest_terms terms_of(const json_t *fields, struct guest_terms term
         terms.overhead = field_pages(fields, "overhead");
     if (field_is_there(fields, "limit"))
         terms.limit = field_kernel_limit(fields, "limit");
+    if (field_is_there(fields, "user"))
+        terms.user = field_user(fields, "user");
+    if (field_is_there(fields, "memory"))
+        terms.memory = field_pages(fields, "memory");
     return terms;
 }
 
 static bool changes_terms(const json_t *fields)
 {
-    static const char *const names[] = {"least", "most", "priority", "strict", "overhead", "limit"};
+    static const char *const names[] = {"least",    "most",  "priority", "strict",
+                                        "overhead", "limit", "user",     "memory"};
     for (unsigned i = 0; i < sizeof names / sizeof names[0]; i++)
         if (field_is_there(fields, names[i]))
             return true;
@@ -208,7 +213,8 @@ static json_t *follow(const struct asked *asked)
     {"strict", FIELD_BOOLEAN, .effect = CHANGES}, \
     {"priority", FIELD_NUMBER, .effect = CHANGES, .least = 0, .most = UINT32_MAX}, \
     {"overhead", FIELD_BYTES, .effect = CHANGES}, \
-    {"limit", FIELD_KERNEL_LIMIT, .effect = CHANGES}
+    {"limit", FIELD_KERNEL_LIMIT, .effect = CHANGES}, {"user", FIELD_USER, .effect = CHANGES}, \
+    {"memory", FIELD_LIMIT, .effect = CHANGES}
 /* clang-format on */
 
 static const struct kind kinds[] = {

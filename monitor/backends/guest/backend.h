@@ -35,6 +35,7 @@ struct options {
     bool open;                  /* it isn't shut in a sandbox */
     bool lives_on;              /* the end of the control pipe isn't the end of the process */
     bool goes_on;               /* it goes on with what another program has kept of this guest */
+    const char *user;           /* the number of its client's user; NULL: any */
     uint64_t layout; /* somebody asks whether this program goes on with what is kept in this layout;
                         0: nobody */
 };
@@ -94,6 +95,7 @@ void remark(struct backend *backend, const char *format, ...) __attribute__((for
         {"hints", .flag = &(its)->hints}, {"discard-hints", .flag = &(its)->discards_hints},       \
         {"end-with-lender", .flag = &(its)->ends_with_lender},                                     \
         {"no-sandbox", .flag = &(its)->open}, {"goes-on", .flag = &(its)->goes_on},                \
+        {"user", .read = read_word, .at = &(its)->user},                                           \
     {                                                                                              \
         "layout", .read = read_layout, .at = &(its)->layout                                        \
     }

@@ -73,6 +73,27 @@ static int accept_client(void)
     return client;
 }
 
+/* Whether a client is its guest's user's, by the kernel's word; else tells the lender, and that it
+ * isn't served. */
+static bool is_owner(const struct keeper *keeper, int client, int lender)
+{
+    struct lending_message refused = {.kind = TELL_REFUSED}, gone = {.kind = TELL_GONE};
+    struct ucred its = {.uid = (uid_t)-1};
+    socklen_t size = sizeof its;
+    char user[MOST_LINE];
+    if (client < 0 || !keeper->options->user)
+        return true;
+    getsockopt(client, SOL_SOCKET, SO_PEERCRED, &its, &size);
+    snprintf(user, sizeof user, "%u", its.uid);
+    if (!strcmp(user, keeper->options->user))
+        return true;
+    snprintf(refused.words, MOST_WORDS, "a client of user %s, in place of user %s", user,
+             keeper->options->user);
+    lending_send(lender, &refused);
+    lending_send(lender, &gone);
+    return false;
+}
+
 /* A client has come. */
 static bool take_client(struct keeper *keeper)
 {
@@ -90,7 +111,7 @@ static bool take_client(struct keeper *keeper)
         !outbox_begin(&keeper->kept->outbox))
         return false;
     state->socket = accept_client();
-    return true;
+    return is_owner(keeper, state->socket, state->notes.channel);
 }
 
 static int compare(const void *one, const void *other)

@@ -39,9 +39,8 @@ struct notes {
     bool reads;                /* its driver has read a target */
     uint32_t ballooned_before; /* what was in the balloon at the last look */
     uint32_t ballooned_told;   /* what was in the balloon as it was last told of its target */
-    struct kept_terms terms;
-    bool has_terms;
-    uint32_t read_target; /* the last one that its driver has read */
+    uint32_t unused[5];        /* 0.3.0 has something there */
+    uint32_t read_target;      /* the last one that its driver has read */
 };
 
 struct kept_state {

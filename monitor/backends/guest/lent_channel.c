@@ -82,8 +82,6 @@ void lent_report(struct lent *lent, uint64_t number, bool asked)
                                       .asked = asked,
                                       .ballooned_then = lent->notes.ballooned_then,
                                       .taken_since = lent->notes.taken_since,
-                                      .has_terms = lent->notes.has_terms,
-                                      .terms = lent->notes.terms,
                                       .counters = backend->counters,
                                       .figure_count = backend->figure_count};
     memcpy(message.figures, backend->figures, sizeof message.figures);
@@ -238,10 +236,6 @@ static bool obey(struct lent *lent, const struct lending_message *order)
         return true;
     case ORDER_GRANT:
         return give(lent, order);
-    case ORDER_KEEP:
-        lent->notes.terms = order->terms;
-        lent->notes.has_terms = true;
-        return true;
     case ORDER_LEAVE:
         lent->leaves = true;
         return true;

@@ -13,9 +13,10 @@ enum { MOST_KEPT = MOST_PATH + MOST_LIMIT_WORDS };
 /* The folder of channels; and what 0.3.0 had before a guest's name in place of it. */
 static const char channels_name[] = ".channels", earlier_mark[] = "+";
 
-/* How the terms of a guest begin in the folder. 0.3.0 kept its overhead and its limit alone. */
+/* How what is kept of a guest begins, and how many numbers follow. 0.3.0 kept its overhead and its
+ * limit alone. */
 static const char terms_word[] = "terms ";
-enum { TERM_NUMBERS = 5 };
+enum { KEPT_NUMBERS = 8 };
 
 void remove_socket(const char *path)
 {
@@ -77,16 +78,31 @@ static void name_kept(const struct host *host, const char *name, const char *mar
     snprintf(path, MOST_KEPT, "%s/%s%s", host->folder, mark, name);
 }
 
-const char *folder_keep(const struct host *host, const char *name, const struct guest_terms *terms)
+const char *folder_keep(struct seat *seat, const struct guest_terms *terms)
 {
     char path[MOST_KEPT], part[MOST_KEPT], words[MOST_LIMIT_WORDS], text[MOST_KEPT];
-    name_kept(host, name, "=", path);
-    name_kept(host, name, ".=", part);
-    snprintf(text, sizeof text, "%s%" PRIu32 " %" PRIu32 " %" PRIu32 " %d %" PRIu32 " %s",
-             terms_word, terms->least, terms->most, terms->priority, terms->strict, terms->overhead,
-             limit_words(&terms->limit, words));
+    const uint32_t numbers[KEPT_NUMBERS] = {terms->least,    terms->most,     terms->priority,
+                                            terms->strict,   terms->overhead, terms->user,
+                                            terms->memory,   seat->pages};
+    int length = snprintf(text, sizeof text, "%s", terms_word);
+    for (unsigned i = 0; i < KEPT_NUMBERS; i++)
+        length += snprintf(text + length, sizeof text - (size_t)length, "%" PRIu32 " ", numbers[i]);
+    snprintf(text + length, sizeof text - (size_t)length, "%s", limit_words(&terms->limit, words));
+    name_kept(seat->host, seat->name, "=", path);
+    name_kept(seat->host, seat->name, ".=", part);
     unlink(part);
-    return symlink(text, part) || rename(part, path) ? strerror(errno) : NULL;
+    if (symlink(text, part) || rename(part, path))
+        return strerror(errno);
+    seat->kept_pages = seat->pages;
+    return NULL;
+}
+
+void folder_keep_pages(struct seat *seat)
+{
+    const char *fault =
+        seat->pages == seat->kept_pages ? NULL : folder_keep(seat, &seat->terms);
+    if (fault)
+        complain("its pages can't be kept for a later lender: %s", fault);
 }
 
 void folder_forget(const struct host *host, const char *name)
@@ -112,26 +128,32 @@ static char *take_numbers(char *words, unsigned count, uint64_t numbers[])
     return words;
 }
 
-/* Reads what is kept of a guest into its terms; whether they are all kept. */
-static bool recall(const struct host *host, const char *name, struct guest_terms *terms)
+/* Reads what is kept of a guest into its terms and its pages; whether all is kept. */
+static bool recall(const struct host *host, const char *name, struct guest_terms *terms,
+                   uint32_t *pages)
 {
+    enum { OVERHEAD = 4, USER, MEMORY, PAGES };
     char path[MOST_KEPT], text[MOST_KEPT];
-    uint64_t numbers[TERM_NUMBERS] = {terms->least, terms->most, terms->priority, terms->strict};
+    uint64_t numbers[KEPT_NUMBERS] = {terms->least,    terms->most, terms->priority, terms->strict,
+                                      terms->overhead, terms->user, terms->memory,   *pages};
     struct guest_limit limit;
     name_kept(host, name, "=", path);
     ssize_t length = readlink(path, text, sizeof text - 1);
     text[length > 0 ? length : 0] = 0;
     bool all = !strncmp(text, terms_word, sizeof terms_word - 1);
-    char *words = all ? take_numbers(text + sizeof terms_word - 1, TERM_NUMBERS, numbers)
-                      : take_numbers(text, 1, &numbers[TERM_NUMBERS - 1]);
+    char *words = all ? take_numbers(text + sizeof terms_word - 1, KEPT_NUMBERS, numbers)
+                      : take_numbers(text, 1, &numbers[OVERHEAD]);
     if (!words || limit_read(words, &limit))
         return false;
     *terms = (struct guest_terms){.least = (uint32_t)numbers[0],
                                   .most = (uint32_t)numbers[1],
                                   .priority = (uint32_t)numbers[2],
                                   .strict = numbers[3] != 0,
-                                  .overhead = (uint32_t)numbers[4],
-                                  .limit = limit};
+                                  .overhead = (uint32_t)numbers[OVERHEAD],
+                                  .limit = limit,
+                                  .user = (uint32_t)numbers[USER],
+                                  .memory = (uint32_t)numbers[MEMORY]};
+    *pages = (uint32_t)numbers[PAGES];
     return all;
 }
 
@@ -153,14 +175,18 @@ bool folder_moves_channel(const struct seat *seat)
 static void take_over(struct host *host, const char *name)
 {
     struct guest_terms terms = host_usual_terms(host);
+    uint32_t pages = 0;
     if (seat_of(host, name))
         return;
-    bool knows = recall(host, name, &terms);
+    bool knows = recall(host, name, &terms, &pages);
     const char *fault = seat_add(host, name, &terms);
-    if (fault)
+    if (fault) {
         complain("%s isn't taken over: %s", name, fault);
-    else
-        seat_of(host, name)->asks_terms = !knows;
+        return;
+    }
+    seat_of(host, name)->asks_terms = !knows;
+    if (knows)
+        seat_reserve(seat_of(host, name), pages);
 }
 
 /* Makes a seat for each socket of a folder whose name is this mark and a guest's name, in the order

@@ -63,6 +63,7 @@ struct seat {
     bool adopts;   /* the first report of a process that an earlier lender has started is still to
                       come */
     int64_t adopts_until; /* and isn't waited for any longer from then on */
+    bool unreached; /* it couldn't be reached yet, as lenders before wait for it that have gone */
     int64_t comes_at;     /* before this no client is taken */
     int64_t asked_at;     /* when the first order to look that isn't answered was given; 0: all are
                              answered */
@@ -73,6 +74,7 @@ struct seat {
     struct lending_message report;
     /* What was made of it. */
     uint32_t pages; /* of its memory that has room */
+    uint32_t kept_pages; /* as the folder has them */
     uint32_t free, available, ballooned_then;
     bool known, tells_available;
     unsigned silent;        /* questions for statistics since its last ones */
@@ -100,8 +102,7 @@ struct seat {
                     driver reads none */
     int64_t obeys_until; /* its target fell, or it took pages: until then a driver that reads none
                             may still obey an earlier one */
-    bool asks_terms; /* its terms aren't in the folder, as 0.3.0 had processes keep them: its first
-                        report has them */
+    bool asks_terms; /* they aren't in the folder: the first report of a process of 0.3.0 has them */
     bool adopted, regains; /* its loan is to follow the first report of a process of an earlier
                               lender; what that lent ahead is to be lent again */
     bool regained;         /* it was, and its driver hasn't been told another target */
@@ -208,9 +209,11 @@ void folder_leave(const struct host *host);
 /* Moves the channel of a process of 0.3.0 to the folder of channels; false where there is none. */
 bool folder_moves_channel(const struct seat *seat);
 
-/* Keeps a guest's terms in the folder for a lender that comes later, which doesn't believe its
- * process. NULL, or why it can't. And no longer. */
-const char *folder_keep(const struct host *host, const char *name, const struct guest_terms *terms);
+/* Keeps terms of a guest, and how many pages it was granted, in the folder for a lender that comes
+ * later, which doesn't believe its process: NULL, or why it can't; the pages, where they have
+ * changed. And no longer. */
+const char *folder_keep(struct seat *seat, const struct guest_terms *terms);
+void folder_keep_pages(struct seat *seat);
 void folder_forget(const struct host *host, const char *name);
 
 /* Makes a seat for each guest that an earlier lender has left in the folder. */
@@ -253,8 +256,11 @@ void seat_free(struct seat *seat);
 /* Starts a process for the client that waits at its socket. */
 void seat_start(struct seat *seat);
 
-/* Takes over the process of an earlier lender, if there is one. */
+/* Takes over the process of an earlier lender, if there is one. And these pages count as lent until
+ * that has reported, or has ended. */
 void seat_take_over(struct seat *seat);
+void seat_reach(struct seat *seat); /* once more, where it couldn't be reached */
+void seat_reserve(struct seat *seat, uint32_t pages);
 
 /* Whether a guest of an earlier lender is still to tell what it has: until then nothing is lent,
  * admitted or decided. */
@@ -281,9 +287,6 @@ void seat_set_target(struct seat *seat, uint32_t pages);
  * whether there is any of that. */
 void seat_step(struct seat *seat, int64_t milliseconds);
 bool seat_is_behind(const struct seat *seat);
-
-/* Has its process keep its terms for a later lender. */
-void seat_keep_terms(struct seat *seat);
 
 /* Tells its process to end; says so again where it hasn't ended. */
 void seat_leave(struct seat *seat);

@@ -82,7 +82,8 @@ static void set_pages(struct host *host, const char *word,
 }
 
 static const char no_terms[] = "a name, and of least=MIB, most=MIB, priority=NUMBER, strict=0 or "
-                               "1, overhead=MIB, limit=cgroup:PATH or tmpfs:MOUNT what is wanted";
+                               "1, overhead=MIB, limit=cgroup:PATH or tmpfs:MOUNT, user=NAME, "
+                               "memory=MIB what is wanted";
 
 /* Reads one of the words of a guest's terms; NULL, or why it is none. */
 static const char *read_term(struct guest_terms *terms, const char *word)
@@ -91,13 +92,18 @@ static const char *read_term(struct guest_terms *terms, const char *word)
         const char *name;
         uint32_t *pages;
     } sizes[] = {
-        {"least=", &terms->least}, {"most=", &terms->most}, {"overhead=", &terms->overhead}};
+        {"least=", &terms->least},
+        {"most=", &terms->most},
+        {"overhead=", &terms->overhead},
+        {"memory=", &terms->memory}};
     uint64_t number;
     for (unsigned i = 0; i < sizeof sizes / sizeof sizes[0]; i++)
         if (!strncmp(word, sizes[i].name, strlen(sizes[i].name)))
             return read_mib(word + strlen(sizes[i].name), sizes[i].pages) ? NULL : no_terms;
     if (!strncmp(word, "limit=", 6))
         return limit_read(word + 6, &terms->limit);
+    if (!strncmp(word, "user=", 5))
+        return owner_read(word + 5, &terms->user);
     if (!strncmp(word, "priority=", 9) && read_number(word + 9, 10, UINT32_MAX, &number))
         return terms->priority = (uint32_t)number, NULL;
     if (!strncmp(word, "strict=", 7) && read_number(word + 7, 10, 1, &number))

@@ -40,6 +40,13 @@ uint64_t host_held(const struct host *host)
     return held;
 }
 
+/* Has something be done with each guest, and with each that is leaving. */
+static void each_seat(struct host *host, void (*act)(struct seat *seat))
+{
+    for (unsigned i = 0; i < host->count + host->leaving_count; i++)
+        act(i < host->count ? host->seats[i] : host->leaving[i - host->count]);
+}
+
 /* Counts what the host holds, decides, and asks for new statistics. */
 static void look(struct host *host)
 {
@@ -50,6 +57,7 @@ static void look(struct host *host)
     counters->above += held > host->frames * UINT64_C(4);
     measure_above(held > host->frames * UINT64_C(4) ? (double)host->period / 1000 : 0);
     counters->peak = held > counters->peak ? held : counters->peak;
+    each_seat(host, seat_reach);
     loans_audit(host);
     policy_decide(host);
     loans_grant(host);
@@ -81,13 +89,6 @@ static bool is_behind(const struct host *host)
         if (seat_is_behind(host->seats[i]))
             return true;
     return false;
-}
-
-/* Has something be done with each guest, and with each that is leaving. */
-static void each_seat(struct host *host, void (*act)(struct seat *seat))
-{
-    for (unsigned i = 0; i < host->count + host->leaving_count; i++)
-        act(i < host->count ? host->seats[i] : host->leaving[i - host->count]);
 }
 
 static int take_limit(void *seat, int file)
@@ -176,7 +177,7 @@ static void wait_for_seats(void *context, struct loop *loop)
 /* A process that can't be waited for has ended once its channel has. */
 static void end_silently(struct seat *seat)
 {
-    if (seat->here && seat->channel < 0 && seat->process_file < 0)
+    if (seat->here && !seat->unreached && seat->channel < 0 && seat->process_file < 0)
         seat_ended(seat);
 }
 

@@ -18,8 +18,7 @@ enum lending_kind {
     ORDER_TARGET,   /* the host wants `target` pages in the balloon */
     ORDER_ADMIT,    /* there is room for the pages that it waits for */
     ORDER_REFUSE,   /* there is none */
-    ORDER_KEEP,     /* keep the terms for the lender that comes after this one */
-    ORDER_GRANT,    /* the deflate that is held has its pages */
+    ORDER_GRANT = 7, /* the deflate that is held has its pages; 6 was an order of 0.3.0 */
     ORDER_LEAVE,    /* end */
     /* Of a guest's process. */
     TELL_REPORT,  /* all that it is */
@@ -33,7 +32,7 @@ enum lending_kind {
 /* For what a guest's process waits before it answers its client. */
 enum lending_wait { WAIT_NOTHING, WAIT_ROOM, WAIT_RESET };
 
-/* The terms that a process keeps for a lender that doesn't know them. */
+/* The terms that a process of 0.3.0 keeps for the lender that comes after its own. */
 struct kept_terms {
     uint32_t least, most, priority, strict;
 };
@@ -61,7 +60,7 @@ struct lending_message {
     uint32_t ballooned_then; /* what was in the balloon at its last statistics, or when it took
                                 pages itself after them */
     uint32_t taken_since;    /* it has taken pages itself after its last statistics */
-    uint32_t has_terms;      /* unless 0, `terms` are those of a lender */
+    uint32_t has_terms;      /* unless 0, `terms` are those of a lender of 0.3.0 */
     uint32_t figure_count;
     struct kept_terms terms;
     struct counters counters;

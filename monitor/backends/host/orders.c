@@ -94,14 +94,6 @@ void seat_step(struct seat *seat, int64_t milliseconds)
         tell_target(seat);
 }
 
-void seat_keep_terms(struct seat *seat)
-{
-    const struct guest_terms *terms = &seat->terms;
-    struct lending_message message = {
-        .kind = ORDER_KEEP, .terms = {terms->least, terms->most, terms->priority, terms->strict}};
-    order(seat, &message);
-}
-
 void seat_renew(struct seat *seat)
 {
     struct lending_message message = {.kind = ORDER_RENEW};
@@ -128,6 +120,7 @@ void seat_answer(struct seat *seat, bool admitted)
                                       .wait = seat->report.wait};
     seat->wait_answered = seat->report.wait;
     seat->wait_admitted = admitted;
+    folder_keep_pages(seat);
     if (!admitted || limit_allows(seat))
         order(seat, &message);
 }

@@ -32,11 +32,24 @@ static const char *report_fault(const struct seat *seat, const struct lending_me
                                                : "that its deflates wait";
 }
 
+/* What its client brings isn't admitted. */
+static void turn_away(struct seat *seat)
+{
+    seat->host->counters.refused++;
+    seat->refused = true;
+    seat_answer(seat, false);
+}
+
 /* A guest waits: whether there is room, it is answered at once, unless it waits for its grant. */
 static void answer_wait(struct seat *seat)
 {
     struct host *host = seat->host;
     uint32_t wanted = seat->report.wanted;
+    if (seat->report.waits == WAIT_ROOM && wanted > seat->terms.memory) {
+        refuse("its memory has %u pages, and may have %u", wanted, seat->terms.memory);
+        turn_away(seat);
+        return;
+    }
     if (seat->report.holds && (seat->report.waits == WAIT_RESET || wanted <= host->frames))
         return;
     if (host_awaits(host))
@@ -46,9 +59,7 @@ static void answer_wait(struct seat *seat)
                                               : 0;
     if (missing > 0) {
         refuse("no room for %u pages: %llu are missing", wanted, (unsigned long long)missing);
-        host->counters.refused++;
-        seat->refused = true;
-        seat_answer(seat, false);
+        turn_away(seat);
         return;
     }
     host->counters.admitted += seat->pages == 0;
@@ -74,7 +85,7 @@ static void take_note(struct seat *seat)
 }
 
 /* The first report of a process that an earlier lender has started: its target goes on, and its
- * terms where none are kept. */
+ * terms where 0.3.0 had it keep them. */
 static void adopt(struct seat *seat)
 {
     const struct lending_message *report = &seat->report;
@@ -90,8 +101,10 @@ static void adopt(struct seat *seat)
                                            .priority = report->terms.priority,
                                            .strict = report->terms.strict != 0,
                                            .overhead = seat->terms.overhead,
-                                           .limit = seat->terms.limit};
-    seat->asks_terms = folder_keep(seat->host, seat->name, &seat->terms) != NULL;
+                                           .limit = seat->terms.limit,
+                                           .user = seat->terms.user,
+                                           .memory = seat->terms.memory};
+    seat->asks_terms = folder_keep(seat, &seat->terms) != NULL;
 }
 
 /* The version that a process says that it has; empty where it isn't one. */
@@ -156,15 +169,6 @@ static void print_words(struct lending_message *message)
         complain("%s", message->words);
 }
 
-/* Whether a process keeps the terms that its guest has. */
-static bool keeps_terms(const struct seat *seat)
-{
-    const struct kept_terms *kept = &seat->report.terms;
-    const struct guest_terms *its = &seat->terms;
-    return seat->report.has_terms && kept->least == its->least && kept->most == its->most &&
-           kept->priority == its->priority && (kept->strict != 0) == its->strict;
-}
-
 static void take(struct seat *seat, struct lending_message *message, pid_t sender)
 {
     if (seat->gone)
@@ -178,9 +182,10 @@ static void take(struct seat *seat, struct lending_message *message, pid_t sende
     if (message->kind == TELL_REPORT) {
         seat->serving = sender;
         take_report(seat, message);
-        if (!keeps_terms(seat))
-            seat_keep_terms(seat);
+        folder_keep_pages(seat);
     }
+    bool isnt_admitted = message->kind == TELL_REFUSED && seat->pages == 0 && !seat->refused;
+    seat->host->counters.refused += isnt_admitted;
     if (message->kind == TELL_GONE)
         take_leave(seat);
     else if (message->kind == TELL_REFUSED || message->kind == TELL_REMARK)

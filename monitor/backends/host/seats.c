@@ -68,7 +68,7 @@ static bool listen_at(struct seat *seat)
         return false;
     if (!bind(seat->listener, (struct sockaddr *)&address, sizeof address) &&
         !listen(seat->listener, 1))
-        return true;
+        return owner_give(seat->path, seat->terms.user), true;
     int why = errno;
     file_close(seat->listener);
     return errno = why, false;

@@ -24,16 +24,20 @@ enum { TOLD_IN = 5000 };
  * their places. */
 enum { ABOVE_ALL = 16, FILES_HANDED = 3 };
 
+/* Words of a guest's process with their end, and bytes of a number among them. */
+enum { MOST_PROGRAM_WORDS = 20, MOST_NUMBER = 24 };
+
 /* The words of a guest's process. */
-static unsigned make_words(const struct seat *seat, char features[24], char lines[16],
-                           const char *words[16])
+static unsigned make_words(const struct seat *seat, char numbers[3][MOST_NUMBER],
+                           const char *words[MOST_PROGRAM_WORDS])
 {
     const struct host *host = seat->host;
     unsigned count = 0;
-    snprintf(features, 24, "%llx", (unsigned long long)host->features);
-    snprintf(lines, 16, "%u", most_lines);
+    snprintf(numbers[0], MOST_NUMBER, "%llx", (unsigned long long)host->features);
+    snprintf(numbers[1], MOST_NUMBER, "%u", most_lines);
+    snprintf(numbers[2], MOST_NUMBER, "%u", seat->terms.user);
     const char *const always[] = {host->program, "--lent",  "--features",
-                                  features,      "--lines", lines};
+                                  numbers[0],    "--lines", numbers[1]};
     for (; count < sizeof always / sizeof always[0]; count++)
         words[count] = always[count];
     if (host->strict_pages)
@@ -46,6 +50,10 @@ static unsigned make_words(const struct seat *seat, char features[24], char line
         words[count++] = "--no-sandbox";
     if (host->end_with_lender)
         words[count++] = "--end-with-lender";
+    if (seat->terms.user != ANY_USER) {
+        words[count++] = "--user";
+        words[count++] = numbers[2];
+    }
     words[count++] = "--";
     words[count++] = seat->name;
     words[count] = NULL;
@@ -55,12 +63,12 @@ static unsigned make_words(const struct seat *seat, char features[24], char line
 /* Starts the program with these files, and no other; 0 or an errno. */
 static int spawn(const struct seat *seat, const int files[FILES_HANDED], pid_t *process)
 {
-    char features[24], lines[16];
-    const char *words[16];
+    char numbers[3][MOST_NUMBER];
+    const char *words[MOST_PROGRAM_WORDS];
     posix_spawn_file_actions_t actions;
     posix_spawnattr_t its;
     sigset_t none;
-    make_words(seat, features, lines, words);
+    make_words(seat, numbers, words);
     posix_spawn_file_actions_init(&actions);
     posix_spawnattr_init(&its);
     posix_spawnattr_setflags(&its, POSIX_SPAWN_SETSID | POSIX_SPAWN_SETSIGMASK);
@@ -145,7 +153,6 @@ void seat_start(struct seat *seat)
         seat->here = true;
         seat->holds = seat->terms.strict;
         seat->heard_at = loop_now();
-        seat_keep_terms(seat);
         return;
     }
     seat->process = 0;
@@ -163,8 +170,8 @@ static void mark_seat(const struct seat *seat)
         file_close(listener);
 }
 
-/* Connects to a process of the lender's user that an earlier lender has started; -1 where there is
- * none. */
+/* Connects to a process of the lender's user that an earlier lender has started; -1 with errno where
+ * there is none, EAGAIN where as many lenders wait for it as may. */
 static int connect_later(const char *path, pid_t *process)
 {
     struct sockaddr_un address = {.sun_family = AF_UNIX};
@@ -174,32 +181,58 @@ static int connect_later(const char *path, pid_t *process)
         return -1;
     bool connects = lending_names_senders(channel) &&
                     !connect(channel, (struct sockaddr *)&address, sizeof address);
+    int why = connects ? EPERM : errno;
     *process = connects ? process_peer(channel) : 0;
     if (*process > 0)
         return channel;
     file_close(channel);
-    return -1;
+    return errno = why, -1;
+}
+
+/* Reaches the process of an earlier lender; false where there is none, or where it isn't reached
+ * yet. */
+static bool reach(struct seat *seat)
+{
+    pid_t process;
+    int channel = connect_later(seat->later_path, &process);
+    seat->unreached = channel < 0 && errno == EAGAIN;
+    if (channel < 0 && !seat->unreached && folder_moves_channel(seat))
+        channel = connect_later(seat->later_path, &process);
+    if (channel < 0)
+        return false;
+    seat->channel = channel;
+    seat->process = process;
+    seat->process_file = pidfd_open(process, 0);
+    return true;
 }
 
 void seat_take_over(struct seat *seat)
 {
-    pid_t process;
-    int channel = connect_later(seat->later_path, &process);
-    if (channel < 0 && folder_moves_channel(seat))
-        channel = connect_later(seat->later_path, &process);
-    if (channel < 0) {
+    if (!reach(seat) && !seat->unreached) {
         mark_seat(seat);
         return;
     }
     seat_clear(seat);
-    seat->channel = channel;
-    seat->process = process;
-    seat->process_file = pidfd_open(process, 0);
     seat->here = seat->adopts = seat->adopted = true;
     seat->heard_at = loop_now();
     seat->adopts_until = loop_now() + TOLD_IN;
     seat->clients++;
     seat_look(seat, false);
+}
+
+void seat_reach(struct seat *seat)
+{
+    if (seat->unreached && reach(seat))
+        seat_look(seat, false);
+}
+
+void seat_reserve(struct seat *seat, uint32_t pages)
+{
+    seat->kept_pages = pages;
+    if (!seat->here)
+        return;
+    seat->pages = pages;
+    *loan_of(seat) = (VbLoan){.pages = pages, .lent = pages};
 }
 
 bool host_awaits(const struct host *host)
@@ -224,7 +257,7 @@ void seat_disown(struct seat *seat)
 static void explain(const struct seat *seat)
 {
     int status = 0;
-    if (waitpid(seat->process, &status, WNOHANG) != seat->process)
+    if (seat->process == 0 || waitpid(seat->process, &status, WNOHANG) != seat->process)
         complain("its process has ended");
     else if (WIFSIGNALED(status) && WTERMSIG(status) == SIGSYS)
         complain("its process has ended by a system call that isn't allowed");

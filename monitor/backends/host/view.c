@@ -4,8 +4,11 @@
 
 struct guest_terms host_usual_terms(const struct host *host)
 {
-    return (struct guest_terms){
-        .most = UINT32_MAX, .strict = host->strict, .overhead = USUAL_OVERHEAD};
+    return (struct guest_terms){.most = UINT32_MAX,
+                                .strict = host->strict,
+                                .overhead = USUAL_OVERHEAD,
+                                .user = ANY_USER,
+                                .memory = UINT32_MAX};
 }
 
 const char *guest_state_word(enum guest_state state)
@@ -179,7 +182,7 @@ const char *host_add(struct host *host, const char *name, const struct guest_ter
     fault = fault ? fault : seat_add(host, name, terms);
     if (fault)
         return fault;
-    fault = folder_keep(host, name, terms);
+    fault = folder_keep(seat_of(host, name), terms);
     if (fault)
         seat_remove(host, seat_of(host, name));
     return fault;
@@ -197,14 +200,15 @@ const char *host_set_terms(struct host *host, const char *name, const struct gue
     if (!seat)
         return nobody;
     const char *fault = host_refuses(host, name, terms);
-    fault = fault ? fault : folder_keep(host, name, terms);
+    fault = fault ? fault : folder_keep(seat, terms);
     if (fault)
         return fault;
     if (memcmp(&terms->limit, &seat->terms.limit, sizeof terms->limit) != 0)
         limit_end(seat);
+    if (terms->user != seat->terms.user)
+        owner_give(seat->path, terms->user);
     seat->terms = *terms;
     seat->asks_terms = false;
-    seat_keep_terms(seat);
     host_changed(host, BY_BUDGET);
     return NULL;
 }

@@ -4,6 +4,7 @@
 #ifndef VIEW_H
 #define VIEW_H
 #include "limit.h"
+#include "owner.h"
 
 #include <stdbool.h>
 #include <stddef.h>
@@ -37,7 +38,7 @@ struct ended_wait {
     double seconds;
 };
 
-/* What was agreed with a guest; all but the priority count pages. */
+/* What was agreed with a guest; sizes are pages. */
 struct guest_terms {
     uint32_t least; /* frames that always stay to it, as far as it has them; 0: none */
     uint32_t most;  /* frames that it may hold at most, whatever the budget leaves; UINT32_MAX: all
@@ -48,6 +49,8 @@ struct guest_terms {
     uint32_t overhead; /* frames that it may hold beside its loan: the VMM's own, and memory that
                           isn't handed over */
     struct guest_limit limit; /* the kernel has it hold no more than its loan and its overhead */
+    uint32_t user;            /* of its client; ANY_USER: of any */
+    uint32_t memory;          /* that its client may bring at most; UINT32_MAX: any */
 };
 
 /* The overhead of a guest of whom nothing was said. */

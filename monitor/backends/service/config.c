@@ -59,6 +59,8 @@ static const struct key guest_keys[] = {
     {"guest", "strict", WORD_BOOLEAN, offsetof(struct config_guest, terms.strict)},
     {"guest", "overhead", WORD_SIZE_OR_NONE, offsetof(struct config_guest, terms.overhead)},
     {"guest", "limit", WORD_LIMIT, offsetof(struct config_guest, terms.limit)},
+    {"guest", "user", WORD_USER, offsetof(struct config_guest, terms.user)},
+    {"guest", "memory", WORD_SIZE, offsetof(struct config_guest, terms.memory)},
 };
 
 static bool fault(struct reader *reader, const char *key, const char *words)
@@ -81,7 +83,10 @@ static struct config_guest *guest_of(struct reader *reader, const char *section)
     if (config->count == MOST_CONFIG_GUESTS)
         return fault(reader, section, "there are as many guests as can be"), NULL;
     struct config_guest *guest = &config->guests[config->count++];
-    *guest = (struct config_guest){.terms = {.most = UINT32_MAX, .overhead = USUAL_OVERHEAD}};
+    *guest = (struct config_guest){.terms = {.most = UINT32_MAX,
+                                             .overhead = USUAL_OVERHEAD,
+                                             .user = ANY_USER,
+                                             .memory = UINT32_MAX}};
     strcpy(guest->name, name);
     return guest;
 }

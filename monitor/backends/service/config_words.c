@@ -112,6 +112,8 @@ const char *word_read(enum word_kind kind, const char *word, void *at)
         return config_level(word, at) ? NULL : "error, warning, notice, info or debug";
     case WORD_LIMIT:
         return limit_read(word, at);
+    case WORD_USER:
+        return owner_read(word, at);
     default:
         return read_boolean(word, at) ? NULL : "yes or no";
     }

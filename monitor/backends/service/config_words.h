@@ -18,7 +18,8 @@ enum word_kind {
     WORD_MODE,
     WORD_LEVEL,
     WORD_BOOLEAN,
-    WORD_LIMIT
+    WORD_LIMIT,
+    WORD_USER
 };
 
 /* Reads a word; NULL, or what should be there: then nothing has changed. */

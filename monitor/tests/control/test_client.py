@@ -37,6 +37,7 @@ def test_version(host):
 
 
 # Words, the status, and how what is said begins: on standard output, and on standard error.
+NO_USER = "a user of this machine, a user's number, or none"
 COMMANDS = (
     ("status", 0, "budget 480, held 0, lent 0, missing 0 MiB; 0 guests; version ", ""),
     ("add web-1", 0, "{folder}/web-1\n", ""),
@@ -50,19 +51,13 @@ COMMANDS = (
         "guest web-1 target",
         2,
         "",
-        (
-            "bigvasta: 'target' is none of least=, most=, priority=, strict=, overhead=, limit=, "
-            "target=\n"
-        ),
+        "bigvasta: 'target' is none of least=, most=, priority=, strict=, overhead=, limit=, user=, memory=, target=\n",
     ),
     (
         "guest web-1 size=4M",
         2,
         "",
-        (
-            "bigvasta: 'size=4M' is none of least=, most=, priority=, strict=, overhead=, limit=, "
-            "target=\n"
-        ),
+        "bigvasta: 'size=4M' is none of least=, most=, priority=, strict=, overhead=, limit=, user=, memory=, target=\n",
     ),
     ("guest web-1 target=1M target=2M", 2, "", "bigvasta: target= is said twice\n"),
     (
@@ -101,11 +96,15 @@ COMMANDS = (
         "bigvasta: a limit is for a strict guest, whose deflates wait until it is raised\n",
     ),
     ("guest web-1 overhead=8M limit=none", 0, "web-1: absent, at {folder}/web-1\n", ""),
+    ("guest web-1 memory=9", 2, "", "bigvasta: memory: '9' is no size: "),
+    ("guest web-1 user=no-such", 1, "", f"bigvasta: user: {NO_USER}\n"),
+    ("guest web-1 user=root memory=9M", 0, "web-1: absent, at {folder}/web-1\n", ""),
+    ("guest web-1 user=none memory=none", 0, "web-1: absent, at {folder}/web-1\n", ""),
     (
         "add web-3 target=1M",
         2,
         "",
-        "bigvasta: 'target=1M' is none of least=, most=, priority=, strict=, overhead=, limit=\n",
+        "bigvasta: 'target=1M' is none of least=, most=, priority=, strict=, overhead=, limit=, user=, memory=\n",
     ),
     ("budget", 0, "480 MiB\n", ""),
     ("budget 500M", 0, "500 MiB\n", ""),

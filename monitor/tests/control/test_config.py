@@ -35,6 +35,7 @@ lines = 2000
 # A key's line in that file, and what is in its place; then what is said of it, after the file's
 # name.
 SIZE = "a number with M, G or T, under 16T"
+NO_USER = "a user of this machine, a user's number, or none"
 WRONG = (
     (
         "folder = {folder}",
@@ -89,6 +90,13 @@ WRONG = (
         "line 18: limit: a path from / on, without ., .. or a slash too many",
     ),
     ("[guest web-1]", "[guest web-1]\noverhead = 1", f"line 18: overhead: a size: {SIZE}"),
+    (
+        "[guest web-1]",
+        "[guest web-1]\nmemory = 0M",
+        f"line 18: memory: a size of 1M or more: {SIZE}",
+    ),
+    ("[guest web-1]", "[guest web-1]\nuser = no-such", f"line 18: user: {NO_USER}"),
+    ("[guest web-1]", "[guest web-1]\nuser = 4294967295", f"line 18: user: {NO_USER}"),
     (
         "[guest web-1]",
         "[guest web-1]\nlimit = tmpfs:/etc",
@@ -229,6 +237,8 @@ TAKEN = (
         term("limit"),
         "tmpfs:/dev/shm",
     ),
+    ("user of [guest]", "[guest web-1]", "[guest web-1]\nuser = root", term("user"), 0),
+    ("memory of [guest]", "[guest web-1]", "[guest web-1]\nmemory = 9M", term("memory"), 9 * MIB),
 )
 
 

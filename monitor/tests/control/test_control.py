@@ -15,6 +15,8 @@ from hosts import Host, Raw, say
 
 MIB, PAGE = 1 << 20, 4096
 PAGES = "a whole number of bytes in pages of 4096, up to 17592186036224"
+NO_USER = "a user of this machine, a user's number, or none"
+NO_NUMBER = "a user's name or number, or null"
 
 # A line, and the code, the field and the words by which it is refused.
 WRONG = (
@@ -112,6 +114,11 @@ WRONG = (
         "a path of 151 bytes at most, each of them a letter, a digit or a sign of ASCII",
     ),
     (say(request="guest", name="a", overhead=1), "bad-field", "overhead", PAGES),
+    (say(request="guest", name="a", memory=1), "bad-field", "memory", f"{PAGES}, or null"),
+    (say(request="guest", name="a", user="no-such"), "bad-field", "user", NO_USER),
+    (say(request="guest", name="a", user=-1), "bad-field", "user", NO_NUMBER),
+    (say(request="guest", name="a", user=2**32 - 1), "bad-field", "user", NO_NUMBER),
+    (say(request="guest", name="a", user=True), "bad-field", "user", NO_NUMBER),
     (say(request="guest", name="a", target=0), "refused", None, "nobody is there"),
     (say(request="guest", name="a", least=PAGE, target=0), "refused", None, "nobody is there"),
     (

@@ -35,7 +35,7 @@ FIRST = REGIONS[1][0] // PAGE
 SOME = ("statistics", "told", "chains", "kicks", "clients")
 TERMS = {
     "strict": {"strict": True, "least": 3 * PAGE, "priority": 9, "overhead": 5 * PAGE},
-    "free": {"most": 200 * PAGE, "priority": 4},
+    "free": {"most": 200 * PAGE, "priority": 4, "memory": 900 * PAGE},
 }
 
 

@@ -26,6 +26,7 @@ UNITS = {
     "text": lambda it: it,
     "word": lambda it: it.split("_")[-1].lower(),
     "limit": lambda it: None if it == ALL else it * PAGE,
+    "user": lambda it: None if it == ALL else it,
     "kernel": lambda it: {
         "NONE": None,
         "CGROUP": f"cgroup:{it['path']}",
@@ -45,7 +46,8 @@ def rows(unit, words):
 
 TERMS = {
     **rows("pages", "least overhead"),
-    **rows("limit", "most"),
+    **rows("limit", "most memory"),
+    **rows("user", "user"),
     **rows("count", "priority"),
     **rows("flag", "strict"),
     **rows("kernel", "limit"),
@@ -449,6 +451,9 @@ def test_each_line_of_a_guest(made, host):
             if terms["limit"]
             else []
         )
+        wanted += [["user", str(terms["user"])]] if terms["user"] is not None else []
+        if terms["memory"] is not None:
+            wanted += [["at", "most", mebibytes(terms["memory"]), "MiB", "of", "memory"]]
         assert (
             lines[0] == f"{guest['name']}: {guest['state']}, at {guest['socket']}".split()
             and lines[1 : len(wanted) + 1] == wanted

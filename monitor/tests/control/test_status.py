@@ -30,6 +30,8 @@ CHANGES = (
     ("guest", {"name": "a", "strict": True}, "strict", "strict"),
     ("guest", {"name": "a", "overhead": 0}, "overhead", "overhead"),
     ("guest", {"name": "a", "limit": None}, "limit", "limit"),
+    ("guest", {"name": "a", "user": None}, "user", "user"),
+    ("guest", {"name": "a", "memory": None}, "memory", "memory"),
     ("guest", {"name": "a", "target": 0}, "target", "target"),
     ("guest", {"name": "none", "target": "x", "colour": "red"}, "target", "target"),
     ("budget", {"bytes": 100 * MIB}, "bytes", "bytes"),

@@ -246,14 +246,6 @@ def a_target_is_read(life):
     return 1, 20
 
 
-@step("notes.terms.least notes.terms.most notes.terms.priority notes.terms.strict notes.has_terms")
-def terms_are_set(life):
-    life.comes()
-    life.lender.demand("terms a least=1 most=2 priority=3")
-    eventually(lambda: life.kept["notes.terms.priority"] == 3)
-    return 256, 512, 3, 1, 1
-
-
 @step("notes.held_pages notes.held_wait")
 def a_deflate_is_held(life):
     life.comes()

@@ -137,10 +137,6 @@ static void obey(struct guest *guest, const struct lending_message *order)
         give(guest, order);
     if (order->kind == ORDER_ADMIT)
         admit(guest, order);
-    if (order->kind == ORDER_KEEP) {
-        guest->report.terms = order->terms;
-        guest->report.has_terms = true;
-    }
 }
 
 /* Serves an inflate, and holds a deflate. */

@@ -1,0 +1,78 @@
+"""A later lender whose guest's process doesn't report: all its pages, which the folder keeps, count as lent until it reports or has ended."""
+
+import os
+import signal
+
+import pytest
+from played import Listens, Played
+from tenants import FREE, go_on, process_of, stop
+from test_strict import GIVEN, STRICT, Later, lent, used
+from vhost_client import DEFLATE, Client
+from waiting import PATIENCE
+
+ALL, LENDERS = 128, 4
+
+
+@pytest.fixture
+def stuck(lend, come):
+    """A lender whose two guests have all but 50 pages of its budget, of which a's process stands still; with b and that process."""
+    lender = lend(1, *STRICT)
+    come(lender, "a", {FREE: 100})
+    b = come(lender, "b", {FREE: 100})
+    b.give(GIVEN[:50])
+    lender.become("b", ballooned=50, lent=ALL - 50)
+    process = process_of(lender, "a")
+    stop(process)
+    yield lender, b, process
+    go_on(process)
+
+
+def later(lend, lender):
+    """Kills a lender, and returns the next one."""
+    lender.kill()
+    return lend(1, *STRICT, folder=lender.folder)
+
+
+def test_a_process_that_does_not_report_counts_with_all_its_pages(lend, stuck):
+    first, b, process = stuck
+    lender = later(lend, first)
+    lender.become("b", ballooned=50)
+    assert lent(lender) == 2 * ALL - 50
+    newcomer = Client(lender.add("c"))
+    newcomer.negotiate()
+    comes = Later(newcomer.hand_over_memory)
+    lender.become("c", waits="room")
+    b.take(GIVEN[:10])
+    used(b, DEFLATE, 1)
+    lender.become("b", lent=ALL - 40)
+    seen = lender.guests()
+    assert [seen["c"][it] for it in ("waits", "lent")] == ["room", 0]
+    assert lent(lender) == 2 * ALL - 40
+    go_on(process)
+    lender.become("a", ready=1, pages=ALL)
+    newcomer.socket.shutdown(2)
+    comes.join(PATIENCE)
+    newcomer.leave()
+
+
+def test_a_process_for_which_lenders_wait_counts_until_it_has_ended(lend, stuck):
+    lender, _, process = stuck
+    for _ in range(LENDERS):
+        lender = later(lend, lender)
+        lender.become("b", ready=1)
+        lender.become("a", here=1, pages=ALL, lent=ALL)
+    os.kill(process, signal.SIGKILL)
+    lender.become("a", here=1, ready=1, pages=ALL)
+
+
+def test_a_process_reports_no_more_than_the_folder_keeps(lend):
+    lender = lend(1, *STRICT)
+    a = Played(lender, "a", pages=ALL)
+    lender.kill()
+    os.unlink(f"{lender.folder}/.channels/a")
+    listens = Listens(lender.folder, "a")
+    later_one = lend(1, *STRICT, folder=lender.folder)
+    b = Played(later_one, "a", listens=listens)
+    b.report(pages=ALL + 1)
+    later_one.become("a", here=0)
+    a.channel.close()
