@@ -9,7 +9,6 @@
 #include <poll.h>
 #include <signal.h>
 #include <stdint.h>
-#include <stdio.h>
 #include <string.h>
 #include <sys/socket.h>
 #include <sys/stat.h>
@@ -28,17 +27,6 @@ void event_close(struct event *event)
     *event = NO_EVENT;
 }
 
-/* Whether a file is an eventfd, by its name in /proc: a file that has a path begins with a slash
- * there. */
-static bool is_eventfd(int file)
-{
-    static const char name[] = "anon_inode:[eventfd]";
-    char path[32], target[sizeof name];
-    snprintf(path, sizeof path, "/proc/self/fd/%d", file);
-    ssize_t length = readlink(path, target, sizeof target);
-    return length == (ssize_t)sizeof name - 1 && !memcmp(target, name, sizeof name - 1);
-}
-
 bool is_stream(int file)
 {
     int family = 0, type = 0;
@@ -50,7 +38,7 @@ bool is_stream(int file)
 static bool is_pipe(int file)
 {
     struct stat its;
-    return !fstat(file, &its) && S_ISFIFO(its.st_mode);
+    return file_look(file, &its) && S_ISFIFO(its.st_mode);
 }
 
 /* Whether a call that was refused would have had to wait. */
@@ -111,6 +99,24 @@ static int read_now(int file, uint64_t *number)
     struct iovec part = {number, sizeof *number};
     ssize_t got = preadv2(file, &part, 1, -1, RWF_NOWAIT);
     return got > 0 ? 1 : got < 0 && would_wait() ? 0 : -1;
+}
+
+/* Whether a file is an eventfd: one of no sort, which takes a number that changes nothing, or gives
+ * one back to take it again. */
+static bool is_eventfd(int file)
+{
+    struct stat its;
+    if (!file_look(file, &its) || (its.st_mode & S_IFMT) != 0)
+        return false;
+    for (unsigned i = 0; i < TRIES; i++) {
+        uint64_t number;
+        int put = write_now(file, 0);
+        if (put != 0)
+            return put > 0;
+        if (read_now(file, &number) > 0)
+            return write_now(file, number) > 0;
+    }
+    return false;
 }
 
 /* Whether a read of an eventfd takes all that was told, and not one of it: it has two more when it

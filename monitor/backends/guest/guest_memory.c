@@ -54,7 +54,7 @@ static bool is_range(const struct region_place *place)
 static bool has_bytes(int file, const struct region_place *place)
 {
     struct stat its;
-    return !fstat(file, &its) && S_ISREG(its.st_mode) &&
+    return file_look(file, &its) && S_ISREG(its.st_mode) &&
            place->offset + place->size <= (uint64_t)its.st_size;
 }
 
@@ -196,7 +196,7 @@ static bool seen_before(const struct guest_memory *memory, unsigned number, cons
 {
     struct stat other;
     for (unsigned i = 0; i < number; i++)
-        if (!fstat(memory->regions[i].fd, &other) && other.st_dev == file->st_dev &&
+        if (file_look(memory->regions[i].fd, &other) && other.st_dev == file->st_dev &&
             other.st_ino == file->st_ino)
             return true;
     return false;
@@ -207,7 +207,7 @@ uint64_t memory_held(const struct guest_memory *memory)
     uint64_t blocks = 0;
     struct stat file;
     for (unsigned i = 0; i < memory->count; i++)
-        if (!fstat(memory->regions[i].fd, &file) && !seen_before(memory, i, &file))
+        if (file_look(memory->regions[i].fd, &file) && !seen_before(memory, i, &file))
             blocks += (uint64_t)file.st_blocks;
     return blocks / 2;
 }

@@ -1,6 +1,7 @@
 #define _GNU_SOURCE
 #include "keeper.h"
 
+#include "confinement.h"
 #include "lent.h"
 #include "sandbox.h"
 
@@ -19,7 +20,7 @@
 
 /* Where the memfd is, and from which number on files are that are to be closed after those of the
  * memory. MOST_TRIES: processes that end one after the other before they have served a turn. */
-enum { KEPT_FILE = 190, HIGH_FILE = 200, MOST_TRIES = 3, MOST_LINE = 24 };
+enum { KEPT_FILE = 190, HIGH_FILE = MOST_OPEN - FILES_OF_GUEST, MOST_TRIES = 3, MOST_LINE = 24 };
 
 static const char goes_on_word[] = "--goes-on";
 
@@ -248,7 +249,7 @@ static bool begin(struct keeper *keeper)
     if (keeper->options->ends_with_lender &&
         (prctl(PR_SET_PDEATHSIG, SIGTERM) || getppid() != lender))
         return false;
-    process_allow_files(HIGH_FILE + FILES_OF_GUEST);
+    process_allow_files(MOST_OPEN);
     sigemptyset(&ends), sigaddset(&ends, SIGCHLD);
     if (sigprocmask(SIG_BLOCK, &ends, NULL) || (!keeper->options->open && !privileges_give_up()))
         return false;

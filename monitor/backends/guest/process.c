@@ -15,6 +15,7 @@
 #include <sys/signalfd.h>
 #include <sys/socket.h>
 #include <sys/stat.h>
+#include <sys/syscall.h>
 #include <unistd.h>
 
 bool process_is_shut;
@@ -139,6 +140,12 @@ int poll_some(struct pollfd *files, nfds_t count, int limit)
     for (nfds_t i = 0; found < 0 && i < count; i++)
         files[i].revents = 0;
     return found;
+}
+
+/* The C library's call may be one that takes a path, which a process that is shut may not make. */
+bool file_look(int file, struct stat *its)
+{
+    return syscall(SYS_fstat, file, its) == 0;
 }
 
 int file_number(int file, const char *name)

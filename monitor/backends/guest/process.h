@@ -52,6 +52,11 @@ int poll_some(struct pollfd *files, nfds_t count, int limit);
 /* Set once the process can't open files any longer. */
 extern bool process_is_shut;
 
+struct stat;
+
+/* As fstat, but whether there is an answer. */
+bool file_look(int file, struct stat *its);
+
 /* The number that the kernel has of an open file by this name (/proc/self/fdinfo); -1 where it has
  * none, or where no file can be opened. */
 int file_number(int file, const char *name);

@@ -1,6 +1,7 @@
 #define _GNU_SOURCE
 #include "sandbox.h"
 
+#include "confinement.h"
 #include "say.h"
 
 #include <errno.h>
@@ -11,15 +12,11 @@
 #include <string.h>
 #include <sys/mman.h>
 #include <sys/prctl.h>
-#include <sys/resource.h>
 #include <sys/syscall.h>
 #include <unistd.h>
 
-/* Memory of its own that a process may have; the guest's is shared. */
-enum { MOST_DATA = 64 << 20 };
-
-/* A call that may be made; with an argument that has to be as it is said, where there is a mask or
- * a value to compare. */
+/* A call that may be made, none of which takes a path; with an argument that has to be as it is
+ * said, where there is a mask or a value to compare. */
 struct allowed {
     int call;
     bool compares;
@@ -64,13 +61,9 @@ static const struct allowed calls[] = {
     ANY(fallocate),
     ANY(fstatfs),
     ANY(fstat),
-    WITH(newfstatat, 3, SCMP_CMP_EQ, AT_EMPTY_PATH, 0),
     WITH(fcntl, 1, SCMP_CMP_EQ, F_GETFL, 0),
     WITH(fcntl, 1, SCMP_CMP_EQ, F_SETFL, 0),
     WITH(fcntl, 1, SCMP_CMP_EQ, F_ADD_SEALS, 0),
-    /* What sort of file a kick is. */
-    ANY(readlink),
-    ANY(readlinkat),
     /* The C library, signals, the end. */
     ANY(brk),
     ANY(mremap),
@@ -115,10 +108,9 @@ bool privileges_give_up(void)
 
 bool sandbox_enter(void)
 {
-    if (setrlimit(RLIMIT_DATA, &(struct rlimit){MOST_DATA, MOST_DATA}))
-        complain("its own memory has no limit: %s", strerror(errno));
     if (!privileges_give_up())
         return complain("privileges can't be given up: %s", strerror(errno)), false;
+    confinement_enter();
     scmp_filter_ctx filter = seccomp_init(SCMP_ACT_KILL_PROCESS);
     if (!filter)
         return complain("there is no memory for a filter of system calls"), false;

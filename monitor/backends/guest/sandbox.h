@@ -14,8 +14,8 @@ enum { HAS_SANDBOX = 1 };
 bool privileges_give_up(void);
 
 /* From now on the process has no privileges and gets none, and a system call that it has no use for
- * ends it (seccomp). It opens no file, and sends none, and has little memory of its own. False,
- * which is said, where the machine doesn't allow that. */
+ * ends it (seccomp). It opens and names no file, and sends none; and it is confined
+ * (confinement.h). False, which is said, where the machine doesn't allow that. */
 bool sandbox_enter(void);
 
 #endif

@@ -1,7 +1,10 @@
 /* Makes system calls in the sandbox of a guest's process, each in a process of its own. Each line
- * of the file is a number and six arguments; its answer is a line with the call's name, or its
- * number where it has none, and `passes`, or the name of the call that ended the process, or
- * `nameless`, where that is none of this architecture. */
+ * of the file is a number and six arguments; its answer is a line with the call's name, or
+ * its number where it has none, and `passes`, or the name of the call that ended the process, or
+ * `nameless`, where that is none of this architecture.
+ *
+ * With a second word `confined` the sandbox has no filter, and the answer's second word is `passes`, or
+ * the name of the error; with `free` there is no sandbox either. */
 #define _GNU_SOURCE
 #include "../../backends/guest/sandbox.h"
 
@@ -10,6 +13,8 @@
 #include <signal.h>
 #include <stdio.h>
 #include <stdlib.h>
+#include <string.h>
+#include <errno.h>
 #include <sys/mman.h>
 #include <sys/wait.h>
 #include <unistd.h>
@@ -34,10 +39,30 @@ static void note_call(int number, siginfo_t *its, void *context)
     _exit(1);
 }
 
-/* An argument; LONG_MIN is the number of the process that makes the call. */
+/* Whether there is no filter of calls. */
+static bool is_unfiltered;
+
+int __real_seccomp_load(const scmp_filter_ctx filter);
+int __wrap_seccomp_load(const scmp_filter_ctx filter)
+{
+    return is_unfiltered ? 0 : __real_seccomp_load(filter);
+}
+
+/* An argument; LONG_MIN is the number of the process that makes the call, and one more that of its
+ * parent; two more is a path. */
 static long itself(long argument)
 {
-    return argument == LONG_MIN ? getpid() : argument;
+    static const char path[] = "/";
+    return argument == LONG_MIN       ? getpid()
+           : argument == LONG_MIN + 1 ? getppid()
+           : argument == LONG_MIN + 2 ? (long)path
+                                      : argument;
+}
+
+static void call(long number, const long its[ARGUMENTS])
+{
+    if (syscall(number, itself(its[0]), itself(its[1]), its[2], its[3], its[4], its[5]) >= 0)
+        errno = 0;
 }
 
 /* Makes a call in the sandbox; whether that has ended the process. One that waits ends by
@@ -52,7 +77,7 @@ static bool is_deadly(long number, const long its[ARGUMENTS])
         alarm(SECONDS);
         if (!sandbox_enter())
             _exit(2);
-        syscall(number, itself(its[0]), itself(its[1]), its[2], its[3], its[4], its[5]);
+        call(number, its);
         _exit(0);
     }
     waitpid(child, &status, 0);
@@ -79,15 +104,36 @@ static void answer(long number, const long its[ARGUMENTS])
     printf("\n");
 }
 
+/* What the kernel says to a call without the filter. */
+static void answer_error(long number, const long its[ARGUMENTS], bool is_confined)
+{
+    int status = 0;
+    pid_t child = fork();
+    if (child == 0) {
+        if (is_confined && !sandbox_enter())
+            _exit(2);
+        call(number, its);
+        _exit(errno);
+    }
+    waitpid(child, &status, 0);
+    print_name(number);
+    printf(" %s\n", WEXITSTATUS(status) ? strerrorname_np(WEXITSTATUS(status)) : "passes");
+}
+
 int main(int count, char **words)
 {
     long number, its[ARGUMENTS];
-    FILE *lines = count == 2 ? fopen(words[1], "re") : NULL;
+    FILE *lines = count > 1 ? fopen(words[1], "re") : NULL;
+    is_unfiltered = count > 2;
     trapped =
         mmap(NULL, sizeof *trapped, PROT_READ | PROT_WRITE, MAP_SHARED | MAP_ANONYMOUS, -1, 0);
     setvbuf(stdout, NULL, _IOLBF, 0);
     while (lines && fscanf(lines, "%li %li %li %li %li %li %li", &number, its, its + 1, its + 2,
-                           its + 3, its + 4, its + 5) == 1 + ARGUMENTS)
-        answer(number, its);
+                           its + 3, its + 4, its + 5) == 1 + ARGUMENTS) {
+        if (is_unfiltered)
+            answer_error(number, its, !strcmp(words[2], "confined"));
+        else
+            answer(number, its);
+    }
     return lines ? 0 : 2;
 }

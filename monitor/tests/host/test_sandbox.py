@@ -1,7 +1,9 @@
 """The sandbox of a guest's process: what it may still call, and what ends it."""
 
+import contextlib
 import fcntl
 import os
+import re
 import signal
 import subprocess
 
@@ -13,38 +15,32 @@ from tenants import FREE, eventually, process_of, status_of
 # are all 0. Of all numbers that a kernel of these years knows, and of some more, each other one
 # ends it.
 ALLOWED = set(
-    """accept4 recvmsg recvfrom poll ppoll getsockopt read write preadv2 splice setitimer close
-    munmap madvise fallocate fstatfs fstat readlink readlinkat brk mremap clock_gettime gettimeofday
-    getrandom rt_sigaction rt_sigprocmask rt_sigreturn restart_syscall futex exit exit_group
-    getpid gettid""".split()
+    """accept4 recvmsg recvfrom poll ppoll getsockopt read write preadv2 splice setitimer close munmap madvise fallocate fstatfs fstat
+    brk mremap clock_gettime gettimeofday getrandom rt_sigaction rt_sigprocmask rt_sigreturn restart_syscall futex exit exit_group getpid
+    gettid""".split()
 )
 ALLOWED_WITH_ZEROS = {"sendto", "mmap"}
 # Linux since 6.11 asks no filter of two that come from probes of its own: uretprobe and uprobe.
 NUMBERS = sorted({*range(512)} - {335, 336})
 
-# Bytes of its own memory that a process may have.
-MOST_DATA = 64 << 20
+# What /proc has of a process's limits: bytes of its own memory, numbers of its files, and how many processes its user may have for it to make one.
+LIMITS = {"Max data size": 64 << 20, "Max open files": 206, "Max processes": 0}
+
+# A user without privileges.
+NOBODY_USER = 65534
 
 # Calls of another architecture on this processor: x32's have this bit.
 X32 = 1 << 30
 
-# The process that makes the call, as sandbox_calls.c has it; and one that isn't there.
-OWN, NOBODY = -(1 << 63), 0x7FFFFFFE
+# The process that makes the call, its parent, and a path, as sandbox_calls.c has them; and a process that isn't there.
+OWN, PARENT, PATH, NOBODY = (*range(-(1 << 63), 3 - (1 << 63)), 0x7FFFFFFE)
 
-# A call by its name and its number, arguments before the one that counts, values of that one with
-# which it comes back, and others that end it.
-AT_EMPTY_PATH, LARGE = 0x1000, 1 << 32
+# A call by its name and its number, arguments before the one that counts, values of that one with which it comes back, and others that end it.
+LARGE = 1 << 32
 COMMANDS = {fcntl.F_GETFL, fcntl.F_SETFL, fcntl.F_ADD_SEALS}
 BY_ARGUMENT = (
     ("sendto", 44, (0, 0, 0, 0), (0,), (1, LARGE, 0x7FFF00000000)),
     ("mmap", 9, (0, 4096), (0, 1, 2, 3), (4, 5, 6, 7)),
-    (
-        "newfstatat",
-        262,
-        (0, 0, 0),
-        (AT_EMPTY_PATH,),
-        (0, 0x100, AT_EMPTY_PATH | 0x100, AT_EMPTY_PATH | LARGE),
-    ),
     ("writev", 20, (), (2,), (0, 1, 3, 2 | LARGE)),
     (
         "tgkill",
@@ -64,25 +60,48 @@ BY_ARGUMENT = (
 )
 from waiting import PATIENCE
 
+# Calls that a process may make outside of the sandbox, and what the kernel says to each where the filter alone is left out: a folder is opened;
+# a file gets a number; another process is signalled; a child is made, by another user than root.
+DIRECTORY, OPENS, DUPLICATES, FORKS, KILLS = 0o200000, 257, 72, 57, 62
+CONFINED = (
+    ((OPENS, -100, PATH, DIRECTORY), "EACCES"),
+    ((DUPLICATES, 0, fcntl.F_DUPFD, 206), "EINVAL"),
+    ((DUPLICATES, 0, fcntl.F_DUPFD, 205), "passes"),
+    ((FORKS,), "EAGAIN"),
+    ((KILLS, PARENT, 0), "EPERM"),
+    ((KILLS, OWN, 0), "passes"),
+)
+
 
 @pytest.fixture(scope="module")
 def outcomes(tmp_path_factory):
-    """Makes calls in the sandbox, by their numbers with arguments; returns what came of each: its
-    name, and by the name of which call it ended."""
+    """Makes calls in the sandbox, by their numbers with arguments; returns what came of each: its name, and by the name of which call it ended; or,
+    without the filter, which error it had."""
     lines_file = tmp_path_factory.mktemp("sandbox") / "lines"
 
-    def made(calls):
+    def made(calls, *how, user=None):
         lines_file.write_text(
             "\n".join(" ".join(map(str, map(int, (*it, *(7 - len(it)) * (0,))))) for it in calls)
         )
-        words = [linux_kit.built("plain/sandbox_calls"), lines_file]
-        ran = subprocess.run(
-            words, capture_output=True, text=True, stdin=subprocess.DEVNULL, timeout=PATIENCE
-        )
+        lines_file.chmod(0o644), lines_file.parent.chmod(0o755)
+        words = [linux_kit.built("plain/sandbox_calls"), "/dev/stdin" if user else lines_file, *how]
+        with open(lines_file if user else os.devnull, encoding="ascii") as lines:
+            ran = subprocess.run(
+                words, capture_output=True, text=True, stdin=lines, timeout=PATIENCE, user=user
+            )
         assert ran.returncode == 0, ran
         return [it.split() for it in ran.stdout.splitlines()]
 
     return made
+
+
+@pytest.mark.skipif(os.geteuid() != 0, reason="needs another user")
+def test_what_is_beside_the_filter(outcomes):
+    calls = [it for it, _ in CONFINED]
+    free = outcomes(calls, "free", user=NOBODY_USER)
+    assert {by for _, by in free} == {"passes"}, free
+    found = outcomes(calls, "confined", user=NOBODY_USER)
+    assert [by for _, by in found] == [it for _, it in CONFINED], found
 
 
 def test_each_call_by_its_number(outcomes):
@@ -137,13 +156,34 @@ def test_a_process_has_the_files_that_it_was_handed_and_no_other(lend, come):
     assert counts == [4, 2] and len({it for it in links if it.startswith("pipe:")}) == 1, links
 
 
-def test_a_process_has_little_memory_of_its_own(lend, come):
+def test_a_process_has_limits(lend, come):
     lender = lend(5)
     come(lender, "a", {FREE: 60})
-    with open(f"/proc/{process_of(lender, 'a')}/limits", encoding="ascii") as limits:
-        assert [it.split()[-3:] for it in limits if it.startswith("Max data size")] == [
-            [str(MOST_DATA), str(MOST_DATA), "bytes"]
-        ]
+    with open(f"/proc/{process_of(lender, 'a')}/limits", encoding="ascii") as lines:
+        rows = [re.split(" {2,}", it.strip()) for it in lines]
+    assert {it[0]: it[1:3] for it in rows if it[0] in LIMITS} == {
+        it: [str(most)] * 2 for it, most in LIMITS.items()
+    }
+
+
+@contextlib.contextmanager
+def scored(process):
+    """Opens the score by which the kernel chooses whom to kill."""
+    with open(f"/proc/{process}/oom_score_adj", "r+", encoding="ascii") as its:
+        yield its
+
+
+@pytest.mark.parametrize("score, wanted", ((-900, 0), (0, 100), (950, 1000)))
+def test_a_process_is_killed_before_its_lender(lend, come, score, wanted):
+    lender = lend(5)
+    try:
+        with scored(lender.process.pid) as its:
+            its.write(str(score))
+    except PermissionError:
+        pytest.skip("this user may not lower a score")
+    come(lender, "a", {FREE: 60})
+    with scored(process_of(lender, "a")) as its:
+        assert int(its.read()) == wanted
 
 
 def test_it_is_said_who_has_made_such_a_call(lend, come):

@@ -37,6 +37,7 @@ from vhost_client import (
     STATUS,
 )
 from vhost_demands import FIRST, MOMENT, demand_served, demand_unserved, post_statistics, word
+from waiting import PATIENCE
 
 
 def test_inflate_and_deflate(start_by_events):
@@ -277,6 +278,17 @@ def test_a_call_for_which_there_is_no_room(start_by_events):
     client.post_pages(INFLATE, [FIRST])
     time.sleep(MOMENT)
     assert (client.counter("interrupts"), client.used(INFLATE)[0]) == (1, 1)
+
+
+def test_a_call_that_is_full_as_it_comes(start_by_events):
+    client = start_by_events()
+    full = os.eventfd(0, os.EFD_NONBLOCK)
+    os.eventfd_write(full, 2**64 - 2)
+    client.accepted(SET_VRING_CALL, word(INFLATE), [full])
+    assert os.eventfd_read(full) == 2**64 - 2
+    client.post_pages(INFLATE, [FIRST])
+    assert select.select([full], [], [], PATIENCE)[0] and os.eventfd_read(full) == 1
+    os.close(full)
 
 
 def test_a_call_to_a_pipe_or_a_socket_that_is_full(start_by_events):

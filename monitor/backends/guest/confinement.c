@@ -1,0 +1,88 @@
+#define _GNU_SOURCE
+#include "confinement.h"
+
+#include "say.h"
+
+#include <errno.h>
+#include <fcntl.h>
+#include <stdint.h>
+#include <stdio.h>
+#include <stdlib.h>
+#include <string.h>
+#include <sys/resource.h>
+#include <sys/syscall.h>
+#include <unistd.h>
+
+/* Bytes of its own memory that a process may have; the guest's is shared. Scores by which the
+ * kernel chooses whom to kill: how far above the lender's, and the most there is. */
+enum { MOST_DATA = 64 << 20, SCORES_ABOVE = 100, MOST_SCORE = 1000, MOST_DIGITS = 16 };
+
+/* What Landlock has of rights, as its header has in later versions alone (landlock(7)): with each
+ * version, as its first one, all rights of files, of TCP, and of whom it reaches outside. */
+enum {
+    ASKS_VERSION = 1,
+    FIRST_WITH_TCP = 4,
+    FIRST_WITH_SCOPES = 6,
+    ALL_OF_TCP = 3,
+    ALL_SCOPES = 3
+};
+
+struct ruleset {
+    uint64_t files, network, scopes;
+};
+
+static uint64_t rights_of_files(long version)
+{
+    static const uint64_t rights[] = {0, 0x1FFF, 0x3FFF, 0x7FFF, 0x7FFF, 0xFFFF};
+    long last = sizeof rights / sizeof rights[0] - 1;
+    return rights[version < last ? version : last];
+}
+
+/* Takes each right that this kernel knows, and grants none. */
+static bool take_rights(void)
+{
+    long version = syscall(SYS_landlock_create_ruleset, NULL, 0, ASKS_VERSION);
+    if (version < 1)
+        return false;
+    const struct ruleset none = {rights_of_files(version),
+                                 version < FIRST_WITH_TCP ? 0 : ALL_OF_TCP,
+                                 version < FIRST_WITH_SCOPES ? 0 : ALL_SCOPES};
+    int file = (int)syscall(SYS_landlock_create_ruleset, &none, sizeof none, 0);
+    if (file < 0)
+        return false;
+    bool taken = syscall(SYS_landlock_restrict_self, file, 0) == 0;
+    close(file);
+    return taken;
+}
+
+/* Is killed before its lender. */
+static void yield_memory(void)
+{
+    char digits[MOST_DIGITS] = "";
+    int file = open("/proc/self/oom_score_adj", O_RDWR | O_CLOEXEC);
+    bool yields = file >= 0 && read(file, digits, sizeof digits - 1) > 0;
+    int score = atoi(digits) + SCORES_ABOVE;
+    score = score < 0 ? 0 : score > MOST_SCORE ? MOST_SCORE : score;
+    if (!yields || pwrite(file, digits, (size_t)sprintf(digits, "%d", score), 0) < 0)
+        complain("its process isn't killed before its lender: %s", strerror(errno));
+    if (file >= 0)
+        close(file);
+}
+
+void confinement_enter(void)
+{
+    static const struct {
+        int resource;
+        rlim_t most;
+        const char *what;
+    } limits[] = {{RLIMIT_DATA, MOST_DATA, "its own memory"},
+                  {RLIMIT_NOFILE, MOST_OPEN, "its open files"},
+                  {RLIMIT_NPROC, 0, "its children"}};
+    yield_memory();
+    for (unsigned i = 0; i < sizeof limits / sizeof limits[0]; i++)
+        if (setrlimit(limits[i].resource, &(struct rlimit){limits[i].most, limits[i].most}))
+            complain("%s can't be limited: %s", limits[i].what, strerror(errno));
+    if (!take_rights())
+        complain("the kernel doesn't keep its process from paths and signals (Landlock): %s",
+                 strerror(errno));
+}
