@@ -47,7 +47,7 @@ static bool is_range(const struct region_place *place)
     return place->size > 0 && (place->guest | place->size) % BALLOON_PAGE == 0 &&
            !__builtin_add_overflow(place->guest, place->size, &end) &&
            !__builtin_add_overflow(place->user, place->size, &end) &&
-           !__builtin_add_overflow(place->offset, place->size, &end) && end <= INT64_MAX;
+           !__builtin_add_overflow(place->offset, place->size, &end);
 }
 
 /* Whether a file has all bytes of a region. */

@@ -3,9 +3,6 @@
 
 enum { PLACE_OF_REGION = 8 };
 
-/* Below this vb.h has words for the guest's memory. */
-static const uint64_t MOST_MEMORY = UINT64_C(1) << 44;
-
 /* The device has these regions from now on; false where no device can, or where a queue has lost
  * its memory. */
 static bool use(struct backend *backend)
@@ -13,9 +10,7 @@ static bool use(struct backend *backend)
     struct balloon *balloon = &backend->balloon;
     if (backend->memory.count == 0)
         balloon->region_count = 0;
-    else if (balloon_set_regions(balloon, backend->memory.regions, backend->memory.count) !=
-                 VB_OK ||
-             balloon->state.device.settings.memory_end >= MOST_MEMORY)
+    else if (balloon_set_regions(balloon, backend->memory.regions, backend->memory.count) != VB_OK)
         return refuse("the guest's memory ends too far up");
     return rings_hold(backend) && (!backend->admit || backend->admit(backend));
 }

@@ -280,6 +280,10 @@ def lines_of_a_client(town):
         f"three clients in a second: {said[:7]}",
     )
     demand(len(said) <= 6 * seconds, f"{len(said)} lines in {seconds} seconds")
+    time.sleep(1), break_a_rule(town, path)
+    eventually(
+        lambda: said_since(town, before)[-2:] == first, "the next second's first lines aren't said"
+    )
 
 
 def ends_by_signals(bench):

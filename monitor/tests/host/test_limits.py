@@ -199,6 +199,8 @@ NO_MEMORY = {
     SECOND: (f"limit=cgroup:{SECOND}", "a cgroup without a limit of memory"),
     None: ("limit=cgroup:/", "no cgroup of memory"),
 }
+# What is said of a path below a file, by whether cgroups are there.
+NO_FOLDER = ("no cgroup of memory", "Not a directory")
 REFUSED = (
     ("limit=/x", NO_LIMIT),
     ("limit=tmpfs:x", NO_PATH),
@@ -212,6 +214,7 @@ REFUSED = (
     ("limit=cgroup:/etc", "no cgroup of memory"),
     ("limit=cgroup:/proc/self", "no cgroup of memory"),
     NO_MEMORY[cgroups()],
+    (f"limit=cgroup:{cgroups() or '/proc'}/cgroup.procs/x", NO_FOLDER[cgroups() is not None]),
     ("limit=tmpfs:/etc", "no mount of tmpfs"),
     ("limit=tmpfs:/dev/shm/x", "no mount of tmpfs"),
     ("limit=tmpfs:/" + "x" * 150, "no mount of tmpfs"),
@@ -259,6 +262,19 @@ def test_a_tmpfs_within_another_one_is_a_limit_of_its_own(lend, tmp_path):
         lender.demand(f"add a limit={outer.term}"), lender.demand(f"add b limit={inner.term}")
     finally:
         inner.end(), outer.end()
+
+
+def test_of_two_mounts_at_one_place_the_later_one_counts(lend, tmp_path):
+    lender, its = lend(1, *STRICT), Mount(f"{tmp_path}/a")
+    try:
+        run("mount", "-t", "ramfs", "covers", its.path)
+        assert lender.ask(f"add a limit={its.term}").endswith(": no mount of tmpfs")
+        cover = Mount(its.path)
+        lender.demand(f"add a limit={its.term}")
+        cover.end(), run("umount", its.path)
+        lender.demand(f"terms a limit={its.term}")
+    finally:
+        its.end()
 
 
 def answer_of_a_writer(lender, kind, path, pages):

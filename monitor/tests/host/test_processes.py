@@ -102,6 +102,9 @@ def test_a_process_that_stands_still_is_told_apart_from_a_silent_guest(lend, com
     try:
         lender.become("silent", answers=0, reports=1)
         lender.become("stuck", reports=0)
+        told = {it["name"]: it for it in lender.status()["guests"]}
+        assert told["silent"]["silent"] >= 1.2 > told["silent"]["process_silent"]
+        assert told["stuck"]["process_silent"] >= 1.2
         # Nobody waits for it: lines are answered at once.
         begin = time.monotonic()
         for _ in range(20):

@@ -259,6 +259,28 @@ def test_a_ring_without_a_kick(start_by_events):
     os.close(kick)
 
 
+def test_a_ring_with_a_kick_waits_for_it(start_by_events):
+    client = start_by_events()
+    client.describe(INFLATE, 0, BUFFERS, 4)
+    client.publish(INFLATE, 0)
+    assert [client.counter("chains") for _ in range(2)] == [0, 0]  # in two turns
+    client.kick(INFLATE)
+    assert (client.called(INFLATE), client.used(INFLATE)[0]) == (1, 1)
+
+
+def test_a_ring_that_was_looked_at_waits_for_messages_again(start):
+    client = start()
+    client.accepted(SET_VRING_KICK, word(INFLATE | NO_FILE))
+    client.stop_ring(INFLATE)
+    client.tell_place(INFLATE)
+    assert client.enable(INFLATE) == bytes(8)
+    client.describe(INFLATE, 0, BUFFERS, 4)
+    client.publish(INFLATE, 0)
+    assert [client.counter("chains") for _ in range(2)] == [0, 0]  # in two turns
+    client.kick(INFLATE)
+    assert (client.told(), client.used(INFLATE)[0]) == (INFLATE, 1)
+
+
 def test_pipes_and_sockets_for_calls(start_by_events):
     client = start_by_events()
     for ends in (os.pipe(), tuple(it.detach() for it in socket.socketpair())):

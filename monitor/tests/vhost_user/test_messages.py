@@ -1,0 +1,90 @@
+"""Tests of each message of a client as vhost-user has it (QEMU's docs/interop/vhost-user.rst): its bytes, its files, and its protocol feature."""
+
+import re
+
+import linux_kit
+import pytest
+import vhost_client
+from vhost_client import OFFERED, SET_PROTOCOL_FEATURES
+from vhost_demands import demand_refused, word
+
+# Numbers of protocol features.
+MQ, BACKEND_REQ, CONFIG, RESET_DEVICE, INBAND, MEM_SLOTS, STATUS = 0, 5, 9, 13, 14, 15, 16
+
+# Bytes of a table of memory by its regions, and of a configuration by its own; and both of one region.
+TABLE, CONFIGURATION, SLOT = (8 + 32, 8 + 8 * 32), (12, 12 + 256), 8 + 32
+
+# Of each message: the least and the most bytes, or how many; the least and the most files; its feature.
+MESSAGES = {
+    **dict.fromkeys("GET_FEATURES SET_OWNER RESET_OWNER GET_PROTOCOL_FEATURES".split(), (0,)),
+    **dict.fromkeys("SET_FEATURES SET_PROTOCOL_FEATURES".split(), (8,)),
+    **dict.fromkeys("SET_VRING_NUM SET_VRING_BASE GET_VRING_BASE SET_VRING_ENABLE".split(), (8,)),
+    **dict.fromkeys("SET_VRING_KICK SET_VRING_CALL SET_VRING_ERR".split(), (8, (0, 1))),
+    "SET_MEM_TABLE": (TABLE, (1, 8)),
+    "SET_VRING_ADDR": (40,),
+    "GET_QUEUE_NUM": (0, 0, MQ),
+    "SET_BACKEND_REQ_FD": (0, 1, BACKEND_REQ),
+    "GET_CONFIG": (CONFIGURATION, 0, CONFIG),
+    "SET_CONFIG": (CONFIGURATION, 0, CONFIG),
+    "RESET_DEVICE": (0, 0, RESET_DEVICE),
+    "VRING_KICK": (8, 0, INBAND),
+    "GET_MAX_MEM_SLOTS": (0, 0, MEM_SLOTS),
+    "ADD_MEM_REG": (SLOT, 1, MEM_SLOTS),
+    "REM_MEM_REG": (SLOT, (0, 1), MEM_SLOTS),
+    "SET_STATUS": (8, 0, STATUS),
+    "GET_STATUS": (0, 0, STATUS),
+}
+
+
+def bounds(its):
+    """Returns the least and the most of a number that has one bound or two."""
+    return its if isinstance(its, tuple) else (its, its)
+
+
+def rule_of(name):
+    """Returns the bounds of a message's bytes and files, and its feature."""
+    size, files, feature = (*MESSAGES[name], *(0, None)[len(MESSAGES[name]) - 1 :])
+    return bounds(size), bounds(files), feature
+
+
+def send(client, name, size, files):
+    """Sends a message with this many bytes and files."""
+    number = getattr(vhost_client, name)
+    client.send(number, bytes(size), [client.files[0]] * files, flags=1)
+
+
+def test_each_message_has_its_rule():
+    with open(f"{linux_kit.MONITOR}/backends/guest/messages.c", encoding="utf-8") as source:
+        assert set(re.findall(r"(?m)^    \[(\w+)\] = \{", source.read())) == set(MESSAGES)
+
+
+@pytest.mark.parametrize("name", MESSAGES)
+def test_too_few_or_too_many_bytes_or_files(serve, name):
+    sizes, files, _ = rule_of(name)
+    wrong = [(it, files[0], f"{it} bytes") for it in (sizes[0] - 1, sizes[1] + 1)]
+    wrong += [(sizes[0], it, f"{min(it, 8)} files") for it in (files[0] - 1, files[1] + 1)]
+    for size, count, words in wrong:
+        if size >= 0 and count >= 0:
+            client = serve()
+            send(client, name, size, count)
+            demand_refused(client, f"{name} has {words}")
+
+
+@pytest.mark.parametrize("name", MESSAGES)
+def test_the_fewest_and_the_most_bytes_and_files(serve, name):
+    sizes, files, _ = rule_of(name)
+    for size, count in {(sizes[0], files[0]), (sizes[1], files[1])}:
+        client = serve()
+        client.accepted(SET_PROTOCOL_FEATURES, word(OFFERED))
+        send(client, name, size, count)
+        said = client.close()[1]
+        assert f"{name} has" not in said and "negotiated" not in said, said
+
+
+@pytest.mark.parametrize("name", [it for it in MESSAGES if rule_of(it)[2] is not None])
+def test_a_message_wants_its_feature(serve, name):
+    sizes, files, feature = rule_of(name)
+    client = serve()
+    client.accepted(SET_PROTOCOL_FEATURES, word(OFFERED & ~(1 << feature)))
+    send(client, name, sizes[0], files[0])
+    demand_refused(client, f"{name} isn't negotiated")
