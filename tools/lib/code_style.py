@@ -35,7 +35,7 @@ def too_long(paths, part=lambda text: text):
 def prose(text):
     """Returns a page with its listings and tables blank, each line where it was."""
     shown = re.sub(r"(?ms)^```.*?^```$", lambda it: "\n" * it[0].count("\n"), text)
-    return re.sub(r"(?m)^(?:\||    |<).*$", "", shown)
+    return re.sub(r"(?m)^(?:\||    |<|!\[).*$", "", shown)
 
 
 def python_files():

@@ -9,20 +9,13 @@ import os
 import re
 import sys
 
-from suites import SUITES, packages_of
-
-ROOT = os.path.realpath(os.path.join(os.path.dirname(__file__), "../.."))
+from page_packages import packages, wanted
+from source_files import ROOT, read
 
 WORDS = (
     "no one two three four five six seven eight nine ten eleven twelve thirteen fourteen fifteen "
     "sixteen seventeen eighteen nineteen twenty"
 ).split()
-
-
-def read(path):
-    """Returns a file's text, by its name from the top."""
-    with open(f"{ROOT}/{path}", encoding="utf-8") as file:
-        return file.read()
 
 
 def tool(name):
@@ -83,11 +76,11 @@ SHIM, CALLS, OBEY = (
 COUNTS = (
     ("README.md", r"the shims \((\w+) lines of C", lines_of(SHIM)),
     ("README.md", r"lines of C, (\w+) of Rust\)", lines_of(OBEY)),
-    ("CHANGELOG.md", r"shims in C and Rust obey it: (\w+) and \w+ lines", lines_of(SHIM)),
-    ("CHANGELOG.md", r"shims in C and Rust obey it: \w+ and (\w+) lines", lines_of(OBEY)),
+    ("CHANGELOG.md", r"shims in C and Rust obey it:\s+(\w+) and \w+ lines", lines_of(SHIM)),
+    ("CHANGELOG.md", r"shims in C and Rust obey it:\s+\w+ and (\w+) lines", lines_of(OBEY)),
     (
         "CHANGELOG.md",
-        r"\(`tools/conform`\): (\w+), by topic",
+        r"\(`tools/conform`\):\s+(\w+), by topic",
         scripts("crates/vb_conformance/data/*"),
     ),
     ("monitor/README.md", r"`balloon\.h` \((\w+) lines\)", lines_of(SHIM)),
@@ -133,78 +126,6 @@ def counts():
             found.append(f"{path}: {len(said)} texts {pattern}")
         elif number(said[0]) != count():
             found.append(f"{path}: '{said[0]}' in place of {count()}: {pattern}")
-    return found
-
-
-# Lists of packages that are one: each place is a file, and the pattern of the list in it.
-PACKAGES = (
-    (
-        ("monitor/Makefile", r"(?m)^PACKAGES = (.*)$"),
-        ("README.md", r"`make -C monitor test` \|[^|]*\(`([^`]*)`\)"),
-        ("tools/lib/gate_steps.py", r'(?m)^SHIMS = "(.*)"$'),
-        ("monitor/README.md", r"`apt-get install ([^`]*librust-vm-memory-dev)`"),
-    ),
-    (
-        ("README.md", r"`make -C monitor daemons` \|[^|]*\(`([^`]*)`\)"),
-        ("monitor/Makefile", r"in out/library/plain \(`apt-get install ([^`]*)`\)"),
-        ("tools/lib/suites.py", r'(?m)^DAEMONS = "(.*)"$'),
-    ),
-    (
-        ("README.md", r"`tools/test SUITE` \|[^|]*\(`([^`]*)`"),
-        ("tools/lib/suites.py", r'(?m)^PYTEST = "(.*)"$'),
-    ),
-    (
-        ("README.md", r"`tools/test machine` \|[^|]*\(`([^`]*)`\)"),
-        ("tools/lib/suites.py", r'"([^"]* mmdebstrap [^"]*)"'),
-    ),
-    (
-        ("README.md", r"`tools/test fuzz` \|[^|]*\(`([^`]*)`\)"),
-        ("tools/lib/suites.py", r'"(clang libclang-rt[^"]*)"'),
-    ),
-    (
-        ("README.md", r"`tools/release` \|[^|]*\(`([^`]*)`\)"),
-        ("tools/release", r"`apt-get install ([^`]*)`"),
-    ),
-)
-
-
-def wanted():
-    """Returns the packages that the tests of a suite of monitor say to install, and that aren't
-    among the suite's."""
-    found = []
-    for name, suite in SUITES.items():
-        for path in sorted(
-            it
-            for word in suite.words
-            for it in glob.glob(f"{ROOT}/{word}/*.py")
-            if word.startswith("monitor/")
-        ):
-            asked = set(
-                re.findall(
-                    r"apt-get install ([a-z][a-z0-9+.-]+)", read(os.path.relpath(path, ROOT))
-                )
-            )
-            found += [
-                f"tools/lib/suites.py: {name} wants {it}"
-                for it in sorted(asked - set(packages_of(name, all_of_it=True)))
-            ]
-    return found
-
-
-def packages():
-    """Returns where a list of packages isn't the one that another place has."""
-    found = []
-    for (first, pattern), *others in PACKAGES:
-        wanted = re.findall(pattern, read(first))
-        if len(wanted) != 1:
-            found.append(f"{first}: {len(wanted)} lists of packages {pattern}")
-            continue
-        for path, pattern in others:
-            lists = re.findall(pattern, read(path))
-            if len(lists) != 1 or set(lists[0].split()) - {"#"} != set(wanted[0].split()):
-                found.append(
-                    f"{path}: packages {' or '.join(lists) or 'none'}, and {first} has {wanted[0]}"
-                )
     return found
 
 
@@ -331,8 +252,9 @@ def sanitized():
         for names in re.findall(r"(?m)^(?:C_TESTS \+?=|EXPLAINED =) (.*)$", makefile)
         for it in names.split()
     }
-    said = re.search(r"(?m)^.* run without the address sanitizer alone.*$", page)
-    named = set(re.findall(r"`(\w+)\.c`", said[0])) if said else set()
+    alone = re.compile(r"run without the address\s+sanitizer alone")
+    said = next((it for it in page.split("\n\n") if alone.search(it)), "")
+    named = set(re.findall(r"`(\w+)\.c`", said))
     return [
         f"monitor/README.md: of tests without the sanitizer, {it}.c isn't said correctly"
         for it in sorted(named ^ (tests - run))

@@ -6,6 +6,7 @@ import re
 import pytest
 
 import page_claims
+import page_packages
 
 # The check, a file, a pattern in it, what replaces it, and a part of what is said then.
 CHANGES = (
@@ -135,7 +136,8 @@ def changed(path, pattern, instead):
 
 @pytest.mark.parametrize("look, path, pattern, instead, said", CHANGES)
 def test_each_false_claim_is_refused(look, path, pattern, instead, said, monkeypatch):
-    monkeypatch.setattr(page_claims, "read", changed(path, pattern, instead))
+    for it in (page_claims, page_packages):
+        monkeypatch.setattr(it, "read", changed(path, pattern, instead))
     assert any(said in line for line in getattr(page_claims, look)())
 
 
