@@ -74,6 +74,10 @@ struct balloon {
      * 0 or an errno. */
     int (*discard)(void *context, const struct balloon_region *region, uint64_t at,
                    uint64_t length);
+    /* Copies bytes of a region, descriptors or a chain's, in place of balloon_read_once: each is
+     * read once. It doesn't call the balloon. */
+    void (*copy)(void *context, const struct balloon_region *region, uint64_t at, uint8_t *to,
+                 size_t length);
     /* The set of the pages in the balloon, or NULL: words of the monitor's, zeros at first
      * (vb_mark). A page is put in before it is discarded, and taken out before its chain is given
      * back. A reset empties it. Save and restore it beside `state`. */
@@ -137,6 +141,18 @@ static inline void balloon_read_once(uint8_t *to, const uint8_t *from, size_t le
         *(balloon_word32 *)to = *(const volatile balloon_word32 *)from;
     for (; length > 0; length--)
         *to++ = *(const volatile uint8_t *)from++;
+}
+
+/* Copies what the notice asks for into its room. */
+static inline void balloon_copy(struct balloon *balloon)
+{
+    const VbNotice *notice = &balloon->notice;
+    uint8_t *to = balloon->room.bytes + notice->into;
+    if (balloon->copy)
+        balloon->copy(balloon->context, &balloon->regions[notice->at.region], notice->at.offset, to,
+                      notice->length);
+    else
+        balloon_read_once(to, balloon_at(balloon, notice->at), notice->length);
 }
 
 /* Gives bytes back to the machine: they read as zeros then (as the file's where a private mapping
@@ -267,8 +283,7 @@ static inline uint16_t balloon_perform(struct balloon *balloon, uint32_t what,
             answer = le16toh(*(const volatile balloon_word16 *)balloon_at(balloon, notice->at));
     }
     if (what & VB_COPY)
-        balloon_read_once(balloon->room.bytes + notice->into, balloon_at(balloon, notice->at),
-                          notice->length);
+        balloon_copy(balloon);
     return answer;
 }
 

@@ -193,6 +193,14 @@ static void any_call(void)
     }
 }
 
+/* A hook that copies as the shim does: within the region. */
+static void copy_bytes(void *context, const struct balloon_region *region, uint64_t at, uint8_t *to,
+                       size_t length)
+{
+    (void)context;
+    balloon_read_once(to, region->host + at, length);
+}
+
 /* The regions, and a balloon over them with any hooks. */
 static void begin(void)
 {
@@ -208,6 +216,7 @@ static void begin(void)
     balloon.on_statistics = maybe() ? hear : NULL;
     balloon.on_hint_id = maybe() ? hear_id : NULL;
     balloon.discard = maybe() ? discard : NULL;
+    balloon.copy = maybe() ? copy_bytes : NULL;
     balloon.keeps_pages = maybe();
     balloon.ballooned = has_set ? words : NULL;
     balloon.deflating = has_set ? waiting : NULL;

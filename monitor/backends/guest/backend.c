@@ -37,6 +37,18 @@ static void hear_statistics(void *context, const VbStatistic *figures, uint32_t 
     statistics_keep(context, figures, count);
 }
 
+/* Copies what a driver has posted, wherever that lies, and no page is held for it; the ring is
+ * there, and was placed for the queue. */
+static void copy(void *context, const struct balloon_region *region, uint64_t at, uint8_t *to,
+                 size_t length)
+{
+    const struct backend *backend = context;
+    if (ring_describes(backend, backend->balloon.notice.kind, region->guest + at))
+        balloon_read_once(to, region->host + at, length);
+    else
+        memory_copy(region, at, to, length);
+}
+
 bool backend_start(struct backend *backend, const struct options *options)
 {
     /* Where memory ends is known when the client hands it over. */
@@ -56,6 +68,7 @@ bool backend_start(struct backend *backend, const struct options *options)
     backend->balloon.most_chains = MOST_CHAINS;
     backend->balloon.most_pages = MOST_PAGES;
     backend->balloon.context = backend;
+    backend->balloon.copy = copy;
     backend->balloon.on_pages = count_pages;
     backend->balloon.on_statistics = hear_statistics;
     backend->balloon.keeps_pages = options->keep;

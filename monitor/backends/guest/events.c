@@ -47,13 +47,6 @@ static bool would_wait(void)
     return errno == EAGAIN || errno == EWOULDBLOCK || errno == EINTR;
 }
 
-/* Whether a file has room to be written to. */
-static bool has_room(int file)
-{
-    struct pollfd its = {file, POLLOUT, 0};
-    return poll(&its, 1, 0) > 0 && (its.revents & (POLLOUT | POLLERR | POLLHUP));
-}
-
 static void break_off(int number)
 {
     (void)number;
@@ -82,8 +75,6 @@ static void moment_ends(void)
  * meanwhile: 1; 0 where there is no room; -1 at a fault. */
 static int write_now(int file, uint64_t number)
 {
-    if (!has_room(file))
-        return 0;
     if (!moment_begins())
         return -1;
     ssize_t put = write(file, &number, sizeof number);
@@ -101,22 +92,11 @@ static int read_now(int file, uint64_t *number)
     return got > 0 ? 1 : got < 0 && would_wait() ? 0 : -1;
 }
 
-/* Whether a file is an eventfd: one of no sort, which takes a number that changes nothing, or gives
- * one back to take it again. */
+/* Whether a file is an eventfd: one of no sort, which takes a number that changes nothing. */
 static bool is_eventfd(int file)
 {
     struct stat its;
-    if (!file_look(file, &its) || (its.st_mode & S_IFMT) != 0)
-        return false;
-    for (unsigned i = 0; i < TRIES; i++) {
-        uint64_t number;
-        int put = write_now(file, 0);
-        if (put != 0)
-            return put > 0;
-        if (read_now(file, &number) > 0)
-            return write_now(file, number) > 0;
-    }
-    return false;
+    return file_look(file, &its) && (its.st_mode & S_IFMT) == 0 && write_now(file, 0) > 0;
 }
 
 /* Whether a read of an eventfd takes all that was told, and not one of it: it has two more when it

@@ -191,6 +191,13 @@ bool memory_word(const struct guest_memory *memory, uint64_t guest, uint16_t *wo
     return true;
 }
 
+/* Where the file isn't read, as it was cut off, an access says so. */
+void memory_copy(const struct balloon_region *region, uint64_t at, uint8_t *to, size_t length)
+{
+    if (pread(region->fd, to, length, (off_t)(region->offset + at)) != (ssize_t)length)
+        balloon_read_once(to, region->host + at, length);
+}
+
 /* Whether an earlier region is of the same file. */
 static bool seen_before(const struct guest_memory *memory, unsigned number, const struct stat *file)
 {

@@ -41,6 +41,10 @@ bool memory_holds(const struct guest_memory *memory, uint64_t guest, uint64_t le
 /* A word of the guest, little-endian; false where it isn't memory. */
 bool memory_word(const struct guest_memory *memory, uint64_t guest, uint16_t *word);
 
+/* Copies bytes of a region from its file: a page that the host doesn't hold reads as zeros, and
+ * isn't held then either, as it would be after an access. */
+void memory_copy(const struct balloon_region *region, uint64_t at, uint8_t *to, size_t length);
+
 /* What the files hold on the host, in KiB. */
 uint64_t memory_held(const struct guest_memory *memory);
 

@@ -24,6 +24,12 @@ static const VbQueue *queue_of(const struct backend *backend, uint32_t kind)
     return kind < VB_NO_KIND ? queues[kind] : NULL;
 }
 
+bool ring_describes(const struct backend *backend, uint32_t kind, uint64_t guest)
+{
+    const VbQueue *queue = queue_of(backend, kind);
+    return queue && guest - queue->table < (uint64_t)DESCRIPTOR_SIZE * queue->size;
+}
+
 /* Whether the balloon may be empty from now on. */
 static bool may_empty(struct backend *backend)
 {

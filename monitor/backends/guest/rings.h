@@ -60,6 +60,9 @@ bool rings_settle(struct backend *backend);
 bool rings_run(const struct backend *backend);
 bool ring_runs(const struct backend *backend, unsigned number);
 
+/* Whether an address of the guest lies in the descriptors of the queue of this kind. */
+bool ring_describes(const struct backend *backend, uint32_t kind, uint64_t guest);
+
 /* Whether all rings that run lie in memory where they lay; else says which doesn't. */
 bool rings_hold(struct backend *backend);
 

@@ -51,6 +51,7 @@ static const struct allowed calls[] = {
     ANY(read),
     ANY(write),
     ANY(preadv2),
+    ANY(pread64),
     ANY(splice),
     ANY(setitimer),
     ANY(close),

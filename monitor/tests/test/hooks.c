@@ -174,8 +174,38 @@ static void nothing_begins_in_a_hook(void)
     free_memory(&amid);
 }
 
+/* Bytes that a hook has copied: of the row of a first descriptor, and others. */
+static size_t copied_rows, copied;
+
+/* Copies as the shim does, but that each number is one more. */
+static void on_copy(void *context, const struct balloon_region *region, uint64_t from, uint8_t *to,
+                    size_t length)
+{
+    (void)context;
+    memcpy(to, region->host + from, length);
+    *(length == 16 ? &copied_rows : &copied) += length;
+    if (length != 16)
+        for (size_t i = 0; i < length; i += 4)
+            to[i]++;
+}
+
+/* What is copied is what the hook copies, and nothing else. */
+static void a_hook_may_copy(void)
+{
+    offer(VB_INFLATE);
+    memset(at(&amid, (FIRST + COUNT) * 4096), BYTE, 4096);
+    amid.balloon.copy = on_copy;
+    copied = copied_rows = 0;
+    struct balloon_result result = balloon_notify(&amid.balloon, VB_INFLATE);
+    EXPECT(result.code == VB_OK && result.chains == 2 && result.discarded == 2 * COUNT);
+    EXPECT(copied_rows == 2 * 16 && copied == 2 * 4 * COUNT);
+    EXPECT(*at(&amid, FIRST * 4096) == BYTE && *at(&amid, (FIRST + COUNT) * 4096) == 0);
+    free_memory(&amid);
+}
+
 void test_hooks(void)
 {
+    RUN(a_hook_may_copy());
     RUN(a_hook_may_reset());
     RUN(later_hooks_may_reset());
     RUN(a_hook_may_end_a_round());

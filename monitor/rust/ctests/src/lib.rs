@@ -48,6 +48,7 @@ pub struct Struct {
     on_statistics: Option<OnStatistics>,
     on_hint_id: Option<OnHintId>,
     discard: Option<OnDiscard>,
+    _copy: Option<extern "C" fn()>, // the crate's memory copies by itself
     ballooned: *mut u64,
     ballooned_words: usize,
     deflating: *mut u64,
