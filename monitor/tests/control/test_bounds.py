@@ -1,0 +1,130 @@
+"""The client program at its bounds: values of an answer, words of a command line, and a log that is followed; by values alone."""
+
+import contextlib
+import types
+
+import pytest
+from bigvasta import answers, cli
+from bigvasta.commands import log, watch
+from bigvasta.statuses import DONE, USAGE, Usage
+from bigvasta.sizes import mebibytes, seconds
+from bigvasta.terms import TERMS, parse_terms, said
+
+MIB = 1 << 20
+
+
+def durations(bounds, counts, total=0.5):
+    """Returns a histogram."""
+    return {"bounds": bounds, "counts": counts, "sum": total}
+
+
+# A kind; what is of it, and what isn't. A count has 63 bits, a moment is before the year 10000, and a text has whole characters.
+KINDS = (
+    (answers.is_count, (0, 1, 2**63 - 1), (-1, 2**63, True, 1.0, "1", None)),
+    (
+        answers.is_seconds,
+        (0, 0.0, 1.5, 253402300799),
+        (-0.1, 253402300799.5, float("nan"), True, "1"),
+    ),
+    (answers.is_text, ("", "a", "\ud7ff", "\ue000"), ("\ud800", "a\udfff", 1, None)),
+    (answers.is_flag, (True, False), (0, 1, None)),
+    (answers.is_limit, (None, 0, 2**63 - 1), (-1, "none")),
+    (answers.is_text_or_null, (None, "a"), (1, "\udfff")),
+    (answers.are_counts, ({}, {"a": 0, "b": 1}), ({"a": -1}, {"\ud800": 1}, [], None)),
+    (
+        answers.are_durations,
+        (durations([], [0]), durations([0.1, 2], [1, 2, 3])),
+        (durations([1], [1]), durations([1], [1, 2, 3]), durations([-1], [1, 2]), {}),
+    ),
+)
+
+
+@pytest.mark.parametrize("kind, its, others", KINDS, ids=[it[0].__name__ for it in KINDS])
+def test_what_is_of_a_kind(kind, its, others):
+    assert [bool(kind(it)) for it in (*its, *others)] == [True] * len(its) + [False] * len(others)
+
+
+# Words that agree something with a guest, and the fields of the request.
+WORDS = (
+    ("priority=0", {"priority": 0}),
+    ("priority=4294967295", {"priority": 2**32 - 1}),
+    ("most=none", {"most": None}),
+    ("most=4K", {"most": 4096}),
+    ("least=8M strict=yes", {"least": 8 * MIB, "strict": True}),
+    ("strict=no overhead=0M", {"strict": False, "overhead": 0}),
+    ("limit=none", {"limit": None}),
+    ("limit=cgroup:/x", {"limit": "cgroup:/x"}),
+    ("limit=tmpfs:/x:y", {"limit": "tmpfs:/x:y"}),
+)
+NO_WORDS = (
+    "priority=4294967296 priority= priority=1.5 priority=٤ strict= strict=YES most=-4K most=5K least=none"
+    " limit=cgroup limit=cgroup: limit=cgroup:x limit=tmpfs:x limit=/x limit=other:/x limit= =4K least"
+)
+
+
+@pytest.mark.parametrize("words, fields", WORDS)
+def test_words_of_terms(words, fields):
+    assert said(parse_terms(words.split(), TERMS)) == fields
+
+
+@pytest.mark.parametrize("word", NO_WORDS.split())
+def test_words_that_are_no_terms(word):
+    with pytest.raises(Usage):
+        parse_terms([word], TERMS)
+
+
+def test_columns_at_their_bounds():
+    assert [mebibytes(it * MIB // 100) for it in (994, 996)] == ["9.9", "10"]
+    assert [seconds(it) for it in (5940, 6000)] == ["99 min", "2 h"]
+
+
+@pytest.mark.parametrize(
+    "interval, status", ((0.09, USAGE), (0.1, DONE), (60, DONE), (60.1, USAGE))
+)
+def test_intervals_of_a_view(monkeypatch, capsys, interval, status):
+    monkeypatch.setattr(watch, "watch", lambda *_: None)
+    assert cli.main(["watch", "--interval", str(interval)]) == status
+    assert (capsys.readouterr().err == "") == (status == DONE)
+
+
+class Deciding:
+    """A host that has taken five decisions of which it keeps the last two, as it is told, and takes a sixth one."""
+
+    def __init__(self, *_):
+        self.asked = []
+
+    def ask(self, request, since):
+        """Answers with one decision at a time."""
+        first = max(since, 3)
+        self.asked.append((request, since))
+        return {
+            "lost": first - since,
+            "decisions": [decision(it) for it in range(first, min(first + 1, 5))],
+            "next": min(first + 1, 5),
+        }
+
+    def follow(self):
+        """Tells of the last one that was asked for, too."""
+        return iter([{"event": "gone", "time": 0}, *({"decision": decision(it)} for it in (4, 5))])
+
+
+def decision(number):
+    """Returns a decision."""
+    return {"number": number}
+
+
+@pytest.mark.parametrize(
+    "follow, numbers", ((False, ["lost", 3, 4]), (True, ["lost", 3, 4, "gone", 5]))
+)
+def test_each_decision_is_shown_once(monkeypatch, follow, numbers):
+    shown = []
+    monkeypatch.setattr(log, "Connection", lambda _: contextlib.nullcontext(Deciding()))
+    monkeypatch.setattr(
+        log, "show", lambda it, _: shown.append("lost" if "lost" in it else it["number"])
+    )
+    monkeypatch.setattr(log, "event_line", lambda it: it)
+    monkeypatch.setattr(
+        log, "say", lambda it: shown.append(it.get("event") or it["decision"]["number"])
+    )
+    log.run(types.SimpleNamespace(follow=follow, control="", since=0, json=False))
+    assert shown == numbers
