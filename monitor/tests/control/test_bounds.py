@@ -4,7 +4,7 @@ import contextlib
 import types
 
 import pytest
-from bigvasta import answers, cli
+from bigvasta import answers, cli, words
 from bigvasta.commands import log, watch
 from bigvasta.statuses import DONE, USAGE, Usage
 from bigvasta.sizes import mebibytes, seconds
@@ -44,6 +44,30 @@ def test_what_is_of_a_kind(kind, its, others):
     assert [bool(kind(it)) for it in (*its, *others)] == [True] * len(its) + [False] * len(others)
 
 
+# What of an event isn't as it should be; a field that isn't always there may be left out, and not be null.
+EVENTS = (
+    ({}, None),
+    ({"guest": "a", "budget": 0, "later": None}, None),
+    ({"guest": None}, "guest"),
+    ({"budget": -1}, "budget"),
+    ({"decision": None}, "decision"),
+    ({"time": None}, "time"),
+)
+
+
+@pytest.mark.parametrize("fields, place", EVENTS)
+def test_the_place_of_what_is_wrong(fields, place):
+    event = {"event": "gone", "time": 0.5} | fields
+    assert answers.wrong_part(answers.EVENT, event) == place
+    whole = {"host": {"event": [event]}}
+    found = answers.wrong_part({"host": {"event": [answers.EVENT]}}, whole)
+    assert found == (place and f"host.event[0].{place}")
+
+
+def test_what_a_terminal_would_obey_is_escaped():
+    assert words.plain("a\u00e9\u2500\x1b\u202e\n") == "a\u00e9\u2500\\x1b\\u202e\\n"
+
+
 # Words that agree something with a guest, and the fields of the request.
 WORDS = (
     ("priority=0", {"priority": 0}),
@@ -62,9 +86,9 @@ NO_WORDS = (
 )
 
 
-@pytest.mark.parametrize("words, fields", WORDS)
-def test_words_of_terms(words, fields):
-    assert said(parse_terms(words.split(), TERMS)) == fields
+@pytest.mark.parametrize("line, fields", WORDS)
+def test_words_of_terms(line, fields):
+    assert said(parse_terms(line.split(), TERMS)) == fields
 
 
 @pytest.mark.parametrize("word", NO_WORDS.split())
@@ -74,7 +98,7 @@ def test_words_that_are_no_terms(word):
 
 
 def test_columns_at_their_bounds():
-    assert [mebibytes(it * MIB // 100) for it in (994, 996)] == ["9.9", "10"]
+    assert [mebibytes(it * MIB // 1000) for it in (9945, 9955)] == ["9.9", "10"]
     assert [seconds(it) for it in (5940, 6000)] == ["99 min", "2 h"]
 
 
@@ -97,6 +121,7 @@ class Deciding:
         """Answers with one decision at a time."""
         first = max(since, 3)
         self.asked.append((request, since))
+        assert len(self.asked) < 9, "it asks for ever"
         return {
             "lost": first - since,
             "decisions": [decision(it) for it in range(first, min(first + 1, 5))],
