@@ -3,9 +3,9 @@ use Rattle.std.proofs.Common.{◌≡◌, ℕ, ◌+◌, ◌-◌, ◌<◌, ◌≤�
 use Rattle.std.proofs.lemmas.Bool.Decides.{nat_tests}
 use Rattle.vb_host.specs.declared.report.Report.{Report}
 use Rattle.vb_host.specs.declared.seat.Seat.{Seat}
-use Rattle.vb_host.specs.Seats.{counting, covers, granting, heard, is_stale, noting, raised, served, targeted, uncounted}
+use Rattle.vb_host.specs.Seats.{believed, counting, covers, granting, heard, is_stale, noting, raised, served, targeted, uncounting}
 use Rattle.vb_host.specs.System.{Grant, Order, Process, Target}
-use Rattle.vb_host.proofs.Sound.{IsKnown, IsPast, IsPastTarget, IsSent, and_left, and_right, either, eq_false, eq_true, lt_false, lt_true, or_either}
+use Rattle.vb_host.proofs.Sound.{IsKnown, IsPast, IsPastTarget, IsSent, and_left, and_right, believes, either, eq_false, eq_true, lt_false, lt_true, or_either}
 use Rattle.vb_host.proofs.Sound.{queues}
 
 -- what a change of the seat keeps
@@ -38,6 +38,7 @@ grants_known p s w k = let m = k.memory in record {
     waits_for = λ h. absurd (omega arith);
   };
   targets = k.targets;
+  empty = λ u. omega (arith, k.empty u);
 }
 
 grants_past : (p : Process) (s : Seat) (r : Report) → 0 < s.held → IsKnown p s → IsPast s.granted p r → IsPast (granting s).granted p r
@@ -65,8 +66,8 @@ grants_follow p s w k = record { known = grants_known p s w k; sent = λ o. gran
 notes_known : (p : Process) (s : Seat) (ballooned held : ℕ) (r : Report) → IsKnown p s → s.removed ≤ r.removed → r.removed ≤ p.removed
     → ballooned + r.removed ≤ p.balloon + p.removed → (p.deflates ≡ s.granted → ballooned + p.held + r.removed ≤ p.balloon + p.removed)
     → (0 < held → s.granted < r.deflates) → r.deflates ≤ p.deflates → (0 < held → r.deflates ≡ p.deflates → p.held ≤ held)
-    → IsKnown p (noting ballooned held r s)
-notes_known p s ballooned held r k a c b w g d f = let m = k.memory in record {
+    → (0 < s.uncounted → ballooned ≡ 0) → IsKnown p (noting ballooned held r s)
+notes_known p s ballooned held r k a c b w g d f z = let m = k.memory in record {
   memory = record {
     balloon = m.balloon;
     held = m.held;
@@ -81,14 +82,16 @@ notes_known p s ballooned held r k a c b w g d f = let m = k.memory in record {
     waits_for = f;
   };
   targets = k.targets;
+  empty = λ u. omega (arith, k.empty u, z u);
 }
 
-counts_known : (p : Process) (s : Seat) (r : Report) → s.granted ≤ r.deflates → s.removed ≤ r.removed → IsKnown p s → IsPast s.granted p r → IsKnown p (counting r s)
-counts_known p s r l x k h = let n = h.memory in either (λ (t : Seat). IsKnown p t) (r.deflates == s.granted) _ _
+counts_known : (p : Process) (s : Seat) (r : Report) → s.granted ≤ r.deflates → s.removed ≤ r.removed → IsKnown p s → IsPast s.granted p r → (0 < s.uncounted → r.ballooned ≡ 0)
+    → IsKnown p (counting r s)
+counts_known p s r l x k h u = let n = h.memory in either (λ (t : Seat). IsKnown p t) (r.deflates == s.granted) _ _
     (λ t. let e = eq_true r.deflates s.granted t in
-    notes_known p s (r.ballooned - r.held) 0 r k x n.removed (n.same e) (λ f. n.without e f) (λ z. absurd (omega arith)) n.deflates (λ z _. absurd (omega arith)))
+    notes_known p s (r.ballooned - r.held) 0 r k x n.removed (n.same e) (λ f. n.without e f) (λ z. absurd (omega arith)) n.deflates (λ z _. absurd (omega arith)) (λ v. omega (arith, u v)))
     (λ t. let e = eq_false r.deflates s.granted t in let m : s.granted < r.deflates = omega (arith, e, l) in
-    notes_known p s r.ballooned r.held r k x n.removed (n.later m) (λ f. absurd (omega (arith, n.deflates, m, f))) (λ _. m) n.deflates (λ _ f. n.held f))
+    notes_known p s r.ballooned r.held r k x n.removed (n.later m) (λ f. absurd (omega (arith, n.deflates, m, f))) (λ _. m) n.deflates (λ _ f. n.held f) u)
 
 -- targets and what was granted stay
 turn_sent : (p : Process) (s : Seat) (turn : ℕ) (o : Order) → IsSent p s o → IsSent p (record s { turn = turn }) o
@@ -106,8 +109,28 @@ counts_sent p s r o h = either (λ (x : Seat). IsSent p x o) (r.deflates == s.gr
 counts_past : (p : Process) (s : Seat) (r q : Report) → IsPast s.granted p q → IsPast (counting r s).granted p q
 counts_past p s r q h = either (λ (x : Seat). IsPast x.granted p q) (r.deflates == s.granted) _ _ (λ t. h) (λ t. h)
 
-counts_follow : (p : Process) (s : Seat) (r : Report) → s.granted ≤ r.deflates → s.removed ≤ r.removed → IsKnown p s → IsPast s.granted p r → Follows p s (counting r s)
-counts_follow p s r l x k h = record { known = counts_known p s r l x k h; sent = counts_sent p s r; past = counts_past p s r }
+counts_follow : (p : Process) (s : Seat) (r : Report) → s.granted ≤ r.deflates → s.removed ≤ r.removed → IsKnown p s → IsPast s.granted p r → (0 < s.uncounted → r.ballooned ≡ 0)
+    → Follows p s (counting r s)
+counts_follow p s r l x k h u = record { known = counts_known p s r l x k h u; sent = counts_sent p s r; past = counts_past p s r }
+
+-- an empty balloon in place of the one that was reported
+empties_past : (p : Process) (s : Seat) (r : Report) → IsKnown p s → IsPast s.granted p r → IsPast s.granted p (record r { ballooned = 0 })
+empties_past p s r k h = let n = h.memory in record {
+  memory = record {
+    deflates = n.deflates;
+    held = n.held;
+    removed = n.removed;
+    later = λ _. omega (arith, n.removed);
+    same = λ _. omega (arith, n.removed);
+    without = λ _ _. omega (arith, n.removed, k.memory.held);
+  };
+  targets = record { number = h.targets.number; same = h.targets.same };
+}
+
+believes_follow : (p : Process) (s : Seat) (r : Report) → s.granted ≤ r.deflates → s.removed ≤ r.removed → IsKnown p s → IsPast s.granted p r → Follows p s (counting (believed s r) s)
+believes_follow p s r l x k h = believes (λ (q : Report). Follows p s (counting q s)) r s
+    (λ _. counts_follow p s (record r { ballooned = 0 }) l x k (empties_past p s r k h) (λ _. refl))
+    (λ e. counts_follow p s r l x k h (λ u. absurd (omega (arith, e, u))))
 
 pub covers_waits : (s : Seat) → covers s ≡ true → 0 < s.held
 covers_waits s e = grind (arith, nat_tests)
@@ -130,6 +153,7 @@ raises_known p s r e f h k = let m = k.targets in
         least_received = omega (arith, m.least_received, given);
         least_read = omega (arith, m.least_read, read);
       };
+      empty = k.empty;
     }
 
 raises_sent : (p : Process) (s : Seat) (r : Report) (o : Order) → r.target_number ≡ s.target_number → r.target_number ≤ p.target_number → IsSent p s o
@@ -145,7 +169,7 @@ raises_follow p s r h k = either (λ (x : Seat). Follows p s x) ((r.target_numbe
     (λ _. follows_same p s k)
 
 pub turn_follows : (p : Process) (s : Seat) (turn : ℕ) → IsKnown p s → Follows p s (record s { turn = turn })
-turn_follows p s turn k = record { known = record { memory = k.memory; targets = k.targets }; sent = λ o h. turn_sent p s turn o h; past = λ q h. h }
+turn_follows p s turn k = record { known = record { memory = k.memory; targets = k.targets; empty = k.empty }; sent = λ o h. turn_sent p s turn o h; past = λ q h. h }
 
 -- a report that isn't stale
 pub is_fresh : (r : Report) (s : Seat) → s.granted ≤ r.deflates → s.removed ≤ r.removed → is_stale r s ≡ true → ⊥
@@ -161,12 +185,12 @@ or_right_false false b e = e
 
 pub hears_follow : (p : Process) (s : Seat) (turn : ℕ) (r : Report) → IsKnown p s → IsPast s.granted p r → Follows p s (heard turn r s)
 hears_follow p s turn r k h = either (λ (x : Seat). Follows p s x) (is_stale r s) _ _ (λ _. follows_same p s k)
-    (λ t. let c = counts_follow p s r (lt_false r.deflates s.granted (or_left_false (nat_lt r.deflates s.granted) _ t)) (lt_false r.removed s.removed (or_right_false (nat_lt r.deflates s.granted) _ t)) k h in
-    let d = serves_follow p (counting r s) c.known in
-    let e = raises_follow p (served (counting r s)) r h.targets d.known in
-    let f = queues (λ (x : Seat). Follows p (raised r (served (counting r s))) x) turn s (raised r (served (counting r s)))
-    (follows_same p (raised r (served (counting r s))) e.known) (λ t. turn_follows p (raised r (served (counting r s))) t e.known) in
-    follows_then p s (counting r s) _ c (follows_then p (counting r s) (served (counting r s)) _ d (follows_then p (served (counting r s)) (raised r (served (counting r s))) _ e f)))
+    (λ t. let q = believed s r in let c = believes_follow p s r (lt_false r.deflates s.granted (or_left_false (nat_lt r.deflates s.granted) _ t)) (lt_false r.removed s.removed (or_right_false (nat_lt r.deflates s.granted) _ t)) k h in
+    let d = serves_follow p (counting q s) c.known in
+    let e = raises_follow p (served (counting q s)) r h.targets d.known in
+    let f = queues (λ (x : Seat). Follows p (raised r (served (counting q s))) x) turn s (raised r (served (counting q s)))
+    (follows_same p (raised r (served (counting q s))) e.known) (λ t. turn_follows p (raised r (served (counting q s))) t e.known) in
+    follows_then p s (counting q s) _ c (follows_then p (counting q s) (served (counting q s)) _ d (follows_then p (served (counting q s)) (raised r (served (counting q s))) _ e f)))
 
 -- ---- a target
 
@@ -181,6 +205,7 @@ targets_known p s target number l k = let m = k.targets in record {
     least_received = omega (arith, m.least_received);
     least_read = omega (arith, m.least_read);
   };
+  empty = k.empty;
 }
 
 targets_sent : (p : Process) (s : Seat) (target number : ℕ) (o : Order) → s.target_number < number → IsSent p s o
@@ -200,6 +225,7 @@ lowers_known p s target e k = let m = k.targets in record {
     least_received = omega (arith, m.least_received);
     least_read = omega (arith, m.least_read);
   };
+  empty = k.empty;
 }
 
 lowers_sent : (p : Process) (s : Seat) (target : ℕ) (o : Order) → s.target ≡ target → IsSent p s o
@@ -218,15 +244,15 @@ wants_sent p s pages (Target number target) h = h
 wants_sent p s pages (Grant n) h = h
 
 pub wants_follow : (p : Process) (s : Seat) (pages : ℕ) → IsKnown p s → Follows p s (record s { wanted = pages })
-wants_follow p s pages k = record { known = record { memory = k.memory; targets = k.targets }; sent = λ o h. wants_sent p s pages o h; past = λ q h. h }
+wants_follow p s pages k = record { known = record { memory = k.memory; targets = k.targets; empty = k.empty }; sent = λ o h. wants_sent p s pages o h; past = λ q h. h }
 
 -- ---- its balloon counts no longer
 
-uncounts_sent : (p : Process) (s : Seat) (o : Order) → IsSent p s o → IsSent p (uncounted s) o
+uncounts_sent : (p : Process) (s : Seat) (o : Order) → IsSent p s o → IsSent p (uncounting s) o
 uncounts_sent p s (Target number target) h = (h.0, h.1, λ _. omega arith)
 uncounts_sent p s (Grant n) h = h
 
-pub uncounts_follow : (p : Process) (s : Seat) → IsKnown p s → Follows p s (uncounted s)
+pub uncounts_follow : (p : Process) (s : Seat) → IsKnown p s → Follows p s (uncounting s)
 uncounts_follow p s k = let m = k.memory in let n = k.targets in record {
   known = record {
     memory = record {
@@ -243,6 +269,7 @@ uncounts_follow p s k = let m = k.memory in let n = k.targets in record {
       waits_for = m.waits_for;
     };
     targets = record { number = n.number; target = n.target; least_given = omega arith; least_received = omega arith; least_read = omega arith };
+    empty = λ _. refl;
   };
   sent = uncounts_sent p s;
   past = λ r h. h;

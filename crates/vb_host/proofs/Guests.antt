@@ -4,7 +4,7 @@ use Rattle.std.proofs.lemmas.Bool.Decides.{nat_tests}
 use Rattle.std.specs.List.{AllByRecursion}
 use Rattle.vb_host.specs.declared.report.Report.{Report}
 use Rattle.vb_host.specs.declared.seat.Seat.{Seat}
-use Rattle.vb_host.specs.Seats.{reclaimed, lent, possible_target, taking_over, waits, granting, taken_over, uncounted, retargeted}
+use Rattle.vb_host.specs.Seats.{reclaimed, lent, possible_target, taking_over, waits, granting, taken_over, uncounting, retargeted}
 use Rattle.vb_host.specs.System.{Process, snapshot, Order, Target, Grant, Deed, does, Guest, arriving, taken_up, forgotten, obeying, order_at}
 use Rattle.vb_host.specs.System.{hearing, report_at, view, viewed, changed, by_lender, sending, Limit, joined, may_join}
 use Rattle.vb_host.proofs.Changes.{Follows, follows_same, grants_follow, hears_follow, sends_grant, sends_target, targets_follow, uncounts_follow}
@@ -31,6 +31,7 @@ arriving_true pages ballooned = record {
       waits_for = λ w _. absurd (omega (arith, w));
     };
     targets = record { number = omega arith; target = λ _. refl; least_given = omega arith; least_received = omega arith; least_read = omega arith };
+    empty = λ u. absurd (omega (arith, u));
   };
   orders = tt;
   reports = tt;
@@ -57,6 +58,7 @@ takes_over granted p s l w k = let m = k.memory in record {
     waits_for = λ _ _. omega arith;
   };
   targets = record { number = omega arith; target = λ _. refl; least_given = omega arith; least_received = omega arith; least_read = omega arith };
+  empty = λ u. absurd (omega (arith, u));
 }
 
 takes_over_held : (p : Process) (s : Seat) → IsKnown p s → IsKnown p (taken_over p.pages (snapshot p))
@@ -134,8 +136,8 @@ target_true room g h = lender_true (retargeted room) g (λ _. targets_follow g.p
 pub want_true : (pages : ℕ) (g : Guest) → IsSound g → IsSound (by_lender (λ s. record s { wanted = pages }) g)
 want_true pages g h = lender_true (λ s. record s { wanted = pages }) g (λ _. wants_follow g.process g.seat pages h.known) h
 
-pub uncount_true : (g : Guest) → IsSound g → IsSound (by_lender uncounted g)
-uncount_true g h = lender_true uncounted g (λ _. uncounts_follow g.process g.seat h.known) h
+pub uncount_true : (g : Guest) → IsSound g → IsSound (by_lender uncounting g)
+uncount_true g h = lender_true uncounting g (λ _. uncounts_follow g.process g.seat h.known) h
 
 sends_all : (p : Process) (s : Seat) (b : Bool) (l : Limit) (orders : List Order) → IsKnown p s → AllByRecursion (IsSent p s) orders → AllByRecursion (IsSent p s) (sending b l s orders)
 sends_all p s true l orders k a = either (λ (os : List Order). AllByRecursion (IsSent p s) os) (nat_le (lent s) l.sure) _ _
@@ -187,6 +189,7 @@ grown_known p q s t e k l = let m = k.memory in record {
     waits_for = m.waits_for;
   };
   targets = k.targets;
+  empty = k.empty;
 }
 
 pub joined_true : (x g : Guest) → x.process.removed ≡ x.seat.removed → IsSound x → IsSound g → IsSound (joined x g)

@@ -3,7 +3,7 @@ use Rattle.std.proofs.Common.{◌≡◌, ℕ, zero, suc, ◌+◌, ◌-◌, ◌�
 use Rattle.std.proofs.lemmas.Bool.Decides.{nat_tests}
 use Rattle.vb_host.specs.declared.report.Report.{Report}
 use Rattle.vb_host.specs.declared.seat.Seat.{Seat}
-use Rattle.vb_host.specs.Seats.{asked, counting, covers, granting, heard, is_stale, lent, noting, possible_target, queuing, raised, served, waits}
+use Rattle.vb_host.specs.Seats.{asked, believed, counting, covers, granting, heard, is_stale, lent, noting, possible_target, queuing, raised, served, waits}
 use Rattle.vb_host.specs.Seats.{reclaimed, retargeted, needs_grant}
 use Rattle.vb_host.specs.System.{changed, hearing, report_at, viewed}
 use Rattle.vb_host.proofs.Sound.{either, queues}
@@ -31,7 +31,8 @@ queues_lend turn old s = queues (λ (x : Seat). lent x ≤ lent s) turn old s (o
 
 pub hears_lend : (turn : ℕ) (r : Report) (s : Seat) → lent (heard turn r s) ≤ lent s
 hears_lend turn r s = either (λ (x : Seat). lent x ≤ lent s) (is_stale r s) _ _ (λ _. omega arith)
-    (λ _. omega (arith, counts_lend r s, serves_lend (counting r s), raises_lend r (served (counting r s)), queues_lend turn s (raised r (served (counting r s)))))
+    (λ _. let q = believed s r in
+    omega (arith, counts_lend q s, serves_lend (counting q s), raises_lend r (served (counting q s)), queues_lend turn s (raised r (served (counting q s)))))
 
 pub hearing_lends : (turn : ℕ) (reports : List Report) (i : ℕ) (s : Seat) → lent (hearing turn (report_at reports i) s) ≤ lent s
 hearing_lends turn [] i s = omega arith

@@ -13,6 +13,7 @@ pub mod Moving
 pub mod Same
 pub mod Targeting
 pub mod Passing
+pub mod Uncounted
 pub mod Possible
 pub mod Outcome
 pub mod Events

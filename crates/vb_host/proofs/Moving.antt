@@ -9,13 +9,13 @@ use Rattle.vb_host.specs.declared.seat.Seat.{Seat}
 use Rattle.vb_host.specs.Lending.{owed, value_at, test_at, held_at, is_first, may_grant}
 use Rattle.vb_host.specs.Line.{GrantsNone}
 use Rattle.vb_host.specs.Promises.{IsQuiet, HasGiven, HasTold, keeps, all_keep}
-use Rattle.vb_host.specs.Seats.{lent, asked, waits, covers, granting, served, counting, raised, queuing, is_stale, heard, due_target}
+use Rattle.vb_host.specs.Seats.{believed, is_uncounted, lent, asked, waits, covers, granting, served, counting, raised, queuing, is_stale, heard, due_target}
 use Rattle.vb_host.specs.System.{Process, Guest, Step, seats, lending, snapshot, opened, through, view, viewed, at}
 use Rattle.vb_host.proofs.Budget.{opened_safe, run_true}
 use Rattle.vb_host.proofs.Changes.{is_fresh}
 use Rattle.vb_host.proofs.Lines.{by_waits}
 use Rattle.vb_host.proofs.Lists.{waits_at, all_get, some_is}
-use Rattle.vb_host.proofs.Sound.{either, IsKnown, and_left, eq_false, eq_true, queues, IsTrusty}
+use Rattle.vb_host.proofs.Sound.{believes, either, IsKnown, and_left, eq_false, eq_true, lt_false, queues, IsTrusty}
 use Rattle.vb_host.proofs.Toward.{waits_by}
 
 both_false : (a b c d : ℕ) → ((a == b) && (c == d)) ≡ false → a ≡ b → c ≡ d → ⊥
@@ -48,25 +48,26 @@ targets_stay r s = either (λ (x : Seat). SameTargets s x) (covers (counting r s
 -- a report that isn't stale, of a driver that has read the last target, raises the least one to it
 heard_least : (turn : ℕ) (r : Report) (s : Seat) → s.granted ≤ r.deflates → s.removed ≤ r.removed → s.least_target ≤ s.target
     → r.target_number ≡ s.target_number → r.read_target ≡ s.target → (heard turn r s).least_target ≡ s.target
-heard_least turn r s l x m e f = let t = targets_stay r s in either (λ (y : Seat). y.least_target ≡ s.target) (is_stale r s) _ _ (λ b. absurd (is_fresh r s l x b))
-    (λ _. queued_least turn s (raised r (served (counting r s)))
-    ∙ (raised_least r (served (counting r s)) (omega (arith, m, t.0, t.2)) (e ∙ sym t.1) (f ∙ sym t.0) ∙ t.0))
+heard_least turn r s l x m e f = let q = believed s r in let t = targets_stay q s in either (λ (y : Seat). y.least_target ≡ s.target) (is_stale r s) _ _ (λ b. absurd (is_fresh r s l x b))
+    (λ _. queued_least turn s (raised r (served (counting q s)))
+    ∙ (raised_least r (served (counting q s)) (omega (arith, m, t.0, t.2)) (e ∙ sym t.1) (f ∙ sym t.0) ∙ t.0))
 
 not_due : (r : Report) (s : Seat) → due_target r s ≡ false → r.target_number ≡ s.target_number
 not_due r s e = grind (arith, nat_tests)
 
 -- ---- what each keeps
 
-kept : (g : Guest) (b : Bool) → waits g.seat ≡ b → g.seat.least_target ≡ g.seat.target → (b ≡ false → g.seat.target ≤ g.seat.ballooned)
-    → lent g.seat ≤ (if b then lent (granting g.seat) else g.seat.pages - g.seat.target)
-kept g true e l h = omega arith
-kept g false e l h = omega (arith, l, h refl)
+kept : (g : Guest) (b u : Bool) → waits g.seat ≡ b → is_uncounted g.seat ≡ u → g.seat.least_target ≡ g.seat.target → (b ≡ false → g.seat.uncounted ≡ 0 → g.seat.target ≤ g.seat.ballooned)
+    → lent g.seat ≤ (if b then lent (granting g.seat) else if u then g.seat.pages else g.seat.pages - g.seat.target)
+kept g true u e f l h = omega arith
+kept g false true e f l h = omega arith
+kept g false false e f l h = omega (arith, l, h refl (omega (arith, lt_false 0 g.seat.uncounted f)))
 
 kept_asked : (s : Seat) → waits s ≡ true → lent s + asked s ≤ keeps s
 kept_asked s e = grind (arith, e)
 
 lent_kept : (g : Guest) → IsQuiet g → HasGiven g → lent g.seat ≤ keeps g.seat
-lent_kept g q h = kept g (waits g.seat) refl q.heard_read h
+lent_kept g q h = kept g (waits g.seat) (is_uncounted g.seat) refl refl q.heard_read h
 
 -- the lender sees the seats that it knows
 seen : (g : Guest) → IsQuiet g → view g ≡ g.seat
@@ -162,37 +163,48 @@ nobody_waits frames overdraft sizes steps n g q h l none at =
 
 -- ---- what a report tells
 
--- what counting, serving, raising and queueing leave of this
-abbrev Tells : Process → Seat → Type 0
-Tells p x = (p.deflates ≢ x.granted → (x.held ≡ p.held) × (p.balloon ≤ x.ballooned)) × (p.balloon - p.held ≤ x.ballooned) × (x.pages ≡ p.pages) × (x.line ≡ p.line)
+-- what counting, serving, raising and queueing leave of this, where this many pages count
+abbrev Tells : Process → ℕ → Seat → Type 0
+Tells p b x = (p.deflates ≢ x.granted → (x.held ≡ p.held) × (b ≤ x.ballooned)) × (b - p.held ≤ x.ballooned) × (x.pages ≡ p.pages) × (x.line ≡ p.line)
 
-counts_hold : (p : Process) (s : Seat) → IsKnown p s → Tells p (counting (snapshot p) s)
-counts_hold p s k = let m = k.memory in either (λ (x : Seat). Tells p x) (p.deflates == s.granted) _ _
+abbrev with_balloon : Process → ℕ → Report
+with_balloon p b = record (snapshot p) { ballooned = b }
+
+counts_hold : (p : Process) (b : ℕ) (s : Seat) → IsKnown p s → Tells p b (counting (with_balloon p b) s)
+counts_hold p b s k = let m = k.memory in either (λ (x : Seat). Tells p b x) (p.deflates == s.granted) _ _
     (λ e. (λ f. absurd (f (eq_true p.deflates s.granted e)), omega arith, omega (arith, m.pages, m.removed), refl))
     (λ _. (λ _. (refl, omega arith), omega arith, omega (arith, m.pages, m.removed), refl))
 
-serves_hold : (p : Process) (s : Seat) → s.deflates ≡ p.deflates → p.balloon - p.held ≤ s.ballooned - s.held → Tells p s → Tells p (served s)
-serves_hold p s e m h = either (λ (x : Seat). Tells p x) (covers s) _ _ (λ _. (λ f. absurd (f (sym e)), m, h.2, h.3)) (λ _. h)
+serves_hold : (p : Process) (b : ℕ) (s : Seat) → s.deflates ≡ p.deflates → b - p.held ≤ s.ballooned - s.held → Tells p b s → Tells p b (served s)
+serves_hold p b s e m h = either (λ (x : Seat). Tells p b x) (covers s) _ _ (λ _. (λ f. absurd (f (sym e)), m, h.2, h.3)) (λ _. h)
 
-raises_hold : (p : Process) (r : Report) (s : Seat) → Tells p s → Tells p (raised r s)
-raises_hold p r s h = either (λ (x : Seat). Tells p x) ((r.target_number == s.target_number) && (r.read_target == s.target)) _ _ (λ _. h) (λ _. h)
+raises_hold : (p : Process) (b : ℕ) (r : Report) (s : Seat) → Tells p b s → Tells p b (raised r s)
+raises_hold p b r s h = either (λ (x : Seat). Tells p b x) ((r.target_number == s.target_number) && (r.read_target == s.target)) _ _ (λ _. h) (λ _. h)
 
-queues_hold : (p : Process) (turn : ℕ) (old s : Seat) → Tells p s → Tells p (queuing turn old s)
-queues_hold p turn old s h = queues (λ (x : Seat). Tells p x) turn old s h (λ _. h)
+queues_hold : (p : Process) (b turn : ℕ) (old s : Seat) → Tells p b s → Tells p b (queuing turn old s)
+queues_hold p b turn old s h = queues (λ (x : Seat). Tells p b x) turn old s h (λ _. h)
 
-counted_so : (p : Process) (s : Seat) → ((counting (snapshot p) s).deflates ≡ p.deflates)
-    × (p.balloon - p.held ≤ (counting (snapshot p) s).ballooned - (counting (snapshot p) s).held)
-counted_so p s = either (λ (x : Seat). (x.deflates ≡ p.deflates) × (p.balloon - p.held ≤ x.ballooned - x.held)) (p.deflates == s.granted) _ _
+counted_so : (p : Process) (b : ℕ) (s : Seat) → ((counting (with_balloon p b) s).deflates ≡ p.deflates)
+    × (b - p.held ≤ (counting (with_balloon p b) s).ballooned - (counting (with_balloon p b) s).held)
+counted_so p b s = either (λ (x : Seat). (x.deflates ≡ p.deflates) × (b - p.held ≤ x.ballooned - x.held)) (p.deflates == s.granted) _ _
     (λ _. (refl, omega arith)) (λ _. (refl, omega arith))
 
-hears_hold : (p : Process) (turn : ℕ) (s : Seat) → IsKnown p s → Tells p (heard turn (snapshot p) s)
-hears_hold p turn s k = let c = counted_so p s in either (λ (x : Seat). Tells p x) (is_stale (snapshot p) s) _ _ (λ e. absurd (is_fresh (snapshot p) s k.memory.granted k.memory.removed e))
-    (λ _. queues_hold p turn s (raised (snapshot p) (served (counting (snapshot p) s)))
-    (raises_hold p (snapshot p) (served (counting (snapshot p) s)) (serves_hold p (counting (snapshot p) s) c.0 c.1 (counts_hold p s k))))
+counted_holds : (p : Process) (b turn : ℕ) (s : Seat) → IsKnown p s → Tells p b (queuing turn s (raised (snapshot p) (served (counting (with_balloon p b) s))))
+counted_holds p b turn s k = let c = counted_so p b s in let x = counting (with_balloon p b) s in queues_hold p b turn s (raised (snapshot p) (served x))
+    (raises_hold p b (snapshot p) (served x) (serves_hold p b x c.0 c.1 (counts_hold p b s k)))
+
+hears_hold : (p : Process) (turn : ℕ) (s : Seat) → IsKnown p s → Tells p (believed s (snapshot p)).ballooned (heard turn (snapshot p) s)
+hears_hold p turn s k = either (λ (x : Seat). Tells p (believed s (snapshot p)).ballooned x) (is_stale (snapshot p) s) _ _
+    (λ e. absurd (is_fresh (snapshot p) s k.memory.granted k.memory.removed e))
+    (λ _. believes (λ (q : Report). Tells p q.ballooned (queuing turn s (raised (snapshot p) (served (counting q s))))) (snapshot p) s
+    (λ _. counted_holds p 0 turn s k) (λ _. counted_holds p p.balloon turn s k))
+
+believed_balloon : (r : Report) (s : Seat) → s.uncounted ≡ 0 → (believed s r).ballooned ≡ r.ballooned
+believed_balloon r s e = believes (λ (q : Report). q.ballooned ≡ r.ballooned) r s (λ u. absurd (omega (arith, e, u))) (λ _. refl)
 
 target_same : (turn : ℕ) (r : Report) (s : Seat) → (heard turn r s).target ≡ s.target
-target_same turn r s = let t = targets_stay r s in either (λ (x : Seat). x.target ≡ s.target) (is_stale r s) _ _ (λ _. refl)
-    (λ _. queued_target turn s (raised r (served (counting r s))) ∙ (raised_target r (served (counting r s)) ∙ t.0)) where
+target_same turn r s = let q = believed s r in let t = targets_stay q s in either (λ (x : Seat). x.target ≡ s.target) (is_stale r s) _ _ (λ _. refl)
+    (λ _. queued_target turn s (raised r (served (counting q s))) ∙ (raised_target r (served (counting q s)) ∙ t.0)) where
       queued_target : (turn : ℕ) (old s : Seat) → (queuing turn old s).target ≡ s.target
       queued_target turn old s = queues (λ (x : Seat). x.target ≡ s.target) turn old s refl (λ _. refl)
 
@@ -203,8 +215,8 @@ has_told : (p : Process) (turn : ℕ) (s : Seat) → IsKnown p s → HasTold p s
 has_told p turn s k = let h = hears_hold p turn s k in record {
   read_target = λ d e. heard_least turn (snapshot p) s k.memory.granted k.memory.removed k.targets.least_given (not_due (snapshot p) s d) e ∙ sym (target_same turn (snapshot p) s);
   held = λ w f. waits_by (heard turn (snapshot p) s) (omega (arith, w, (h.0 f).0));
-  balloon = λ f. (h.0 f).1;
-  without = h.1;
+  balloon = λ u f. omega (arith, (h.0 f).1, believed_balloon (snapshot p) s u);
+  without = λ u. omega (arith, h.1, believed_balloon (snapshot p) s u);
   pages = h.2;
   line = h.3;
 }

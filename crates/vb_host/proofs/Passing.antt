@@ -9,7 +9,7 @@ use Rattle.vb_host.specs.Lending.{value_at, waited}
 use Rattle.vb_host.specs.Line.{ByGrants, Granted, GrantsNone, IsFirst, IsStep, Stays}
 use Rattle.vb_host.specs.Promises.{IsAfter, IsNoLoan, lent_at}
 use Rattle.vb_host.specs.Seats.{asked, covers, granting, grown, heard, lent, newcomer, possible_target, queued, rank, reclaimed, retargeted}
-use Rattle.vb_host.specs.Seats.{room_after, taken_over, uncounted, waits, starting}
+use Rattle.vb_host.specs.Seats.{room_after, taken_over, uncounting, waits, starting}
 use Rattle.vb_host.proofs.Changes.{covers_waits}
 use Rattle.vb_host.proofs.Grants.{in_turn, next_may}
 use Rattle.vb_host.proofs.LentBy.{covered_lends, hears_lend, possible_reclaims, retargets}
@@ -185,7 +185,7 @@ events_lend l (Joins n m) j h = either (λ (xs : List Seat). lent_at xs j ≤ le
       value_elsewhere lent n (grown (pages_at l.seats m)) l.seats j h,
     )) (λ _. omega arith)
 events_lend l (TakesOver n pages r) j h = omega (arith, value_elsewhere lent n (λ _. queued (next_turn l.seats) (taken_over pages r)) l.seats j h)
-events_lend l (Uncounts n) j h = omega (arith, value_elsewhere lent n uncounted l.seats j h)
+events_lend l (Uncounts n) j h = omega (arith, value_elsewhere lent n uncounting l.seats j h)
 events_lend l (Budget frames) j h = omega arith
 
 -- ---- a step leaves nothing to grant

@@ -38,6 +38,7 @@ gives s p pages k = let m = k.memory in record {
       waits_for = m.waits_for;
     };
     targets = k.targets;
+    empty = k.empty;
   };
   sent = λ o h. received_sent s p (does (Gives pages) p) o (omega arith) h;
   past = λ r h. let n = h.memory in record {
@@ -70,6 +71,7 @@ holds s p line pages l k = let m = k.memory in record {
       waits_for = λ w f. absurd (omega (arith, m.waited w, f));
     };
     targets = k.targets;
+    empty = k.empty;
   };
   sent = λ o h. received_sent s p (record p { held = pages; line = line; deflates = p.deflates + 1 }) o (omega arith) h;
   past = λ r h. let n = h.memory in record {
@@ -102,6 +104,7 @@ drops s p k = let m = k.memory in record {
       waits_for = λ _ _. omega arith;
     };
     targets = k.targets;
+    empty = k.empty;
   };
   sent = λ o h. received_sent s p (does Drops p) o (omega arith) h;
   past = λ r h. let n = h.memory in record {
@@ -115,6 +118,7 @@ reads s p k = let m = k.targets in record {
   known = record {
     memory = k.memory;
     targets = record { number = m.number; target = m.target; least_given = m.least_given; least_received = m.least_received; least_read = m.least_received };
+    empty = k.empty;
   };
   sent = λ o h. received_sent s p (does Reads p) o (omega arith) h;
   past = λ r h. record { memory = h.memory; targets = record { number = h.targets.number; same = λ t _ _ f. f } };
@@ -162,6 +166,7 @@ shrinks s p pages balloon held f k = let m = k.memory in record {
       waits_for = λ w e. omega (arith, m.waits_for w e, f.deflate);
     };
     targets = k.targets;
+    empty = k.empty;
   };
   sent = λ o h. received_sent s p (record p { pages = pages; balloon = balloon; held = held; removed = p.removed + (p.pages - pages) }) o (omega arith) h;
   past = λ r h. let n = h.memory in record {
@@ -197,6 +202,7 @@ receives s p number target l i k = let m = k.targets in record {
   known = record {
     memory = k.memory;
     targets = record { number = i.0; target = i.1; least_given = m.least_given; least_received = i.2 l; least_read = m.least_read };
+    empty = k.empty;
   };
   sent = λ o h. received_sent s p (record p { target_number = number; target = target }) o (omega (arith, l)) h;
   past = λ r h. record {
@@ -222,6 +228,7 @@ lets_go s p l k = let m = k.memory in let same : p.deflates ≡ s.granted = omeg
       waits_for = λ _ _. omega arith;
     };
     targets = k.targets;
+    empty = k.empty;
   };
   sent = λ o h. received_sent s p (record p { balloon = p.balloon - p.held; held = 0 }) o (omega arith) h;
   past = λ r h. let n = h.memory in record {

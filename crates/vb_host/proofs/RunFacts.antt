@@ -4,10 +4,12 @@ use Rattle.std.proofs.Common.{◌≡◌, ℕ, ◌≤◌, ◌<◌, ◌⊎◌, inl
 use Rattle.std.specs.List.{AllByRecursion}
 use Rattle.vb_host.specs.declared.event.Event.TheVariants.{Grants as EventGrants, Overdraws as EventOverdraws, Targets as EventTargets}
 use Rattle.vb_host.specs.declared.event.Event.TheVariants.{Joins as EventJoins, Uncounts as EventUncounts, Wants as EventWants}
+use Rattle.vb_host.specs.declared.event.Event.TheVariants.{Arrives as EventArrives, TakesOver as EventTakesOver}
+use Rattle.vb_host.specs.declared.report.Report.{Report}
 use Rattle.vb_host.specs.declared.seat.Seat.{Seat}
 use Rattle.vb_host.specs.Lending.{may_grant, may_overdraw}
-use Rattle.vb_host.specs.Promises.{IsAfter, IsNoLoan, IsOrdinary, IsTowardTarget, NeverLowers, PaysBack, used, all_lent, all_used}
-use Rattle.vb_host.specs.Seats.{heard, lent, newcomer, asked}
+use Rattle.vb_host.specs.Promises.{IsAfter, IsNoLoan, IsOrdinary, IsStillThere, IsTowardTarget, NeverLowers, PaysBack, used, all_lent, all_used}
+use Rattle.vb_host.specs.Seats.{heard, lent, newcomer, asked, waits}
 use Rattle.vb_host.specs.System.{Arrives, Budget, Confirms, Does, Drops, Fails, Forgets, Gives, Grants, Guest, Hears, Holds, Host, Joins, Lands}
 use Rattle.vb_host.specs.System.{Limits, Obeys, Overdraws, Reads, Reports, Sends, Shrinks, Step, TakesOver, Targets, Uncounts, Wants, arriving}
 use Rattle.vb_host.specs.System.{lending, opened, seats, snapshot, through, Deviates, Process}
@@ -138,6 +140,31 @@ limited = refl
 drawn : (may_grant (lending after_lacks) 0 ≡ false) × (may_overdraw (lending after_lacks) 0 ≡ true)
     × (may_overdraw (lending (through (Wants 1 1 ∷ Targets 1 ∷ []) after_lacks)) 0 ≡ false)
 drawn = (refl, refl, refl)
+
+-- ---- a guest whose balloon counts no longer
+
+-- It gives two pages, which don't count, and may take one of them back at once; then another guest is at its place, whose balloon counts. (A later lender
+-- doesn't know the third place yet.)
+abbrev gives_uncounted : List Step
+gives_uncounted = Does 1 (Gives 2) ∷ Reports 1 ∷ Hears 1 0 ∷ Does 1 (Holds 0 1) ∷ Reports 1 ∷ Hears 1 0 ∷ []
+
+abbrev after_gives_uncounted : Host
+after_gives_uncounted = through gives_uncounted after_lowers
+
+abbrev after_another : Host
+after_another = through (Arrives 1 4 0 ∷ []) after_gives_uncounted
+
+uncounted_has_all : (map lends_each (after_gives_uncounted ∷ after_another ∷ []) ≡ (4 ∷ 4 ∷ 0 ∷ []) ∷ (4 ∷ 0 ∷ 0 ∷ []) ∷ [])
+    × (map uses (after_lowers ∷ after_gives_uncounted ∷ []) ≡ (4 ∷ 3 ∷ 0 ∷ []) ∷ (4 ∷ 1 ∷ 0 ∷ []) ∷ [])
+    × (map (λ h. map (λ s. s.uncounted) (seats h.guests)) (after_taken ∷ after_lowers ∷ after_gives_uncounted ∷ after_another ∷ []) ≡ (0 ∷ 0 ∷ 1 ∷ []) ∷ (0 ∷ 1 ∷ 1 ∷ []) ∷ (0 ∷ 1 ∷ 1 ∷ []) ∷ (0 ∷ 0 ∷ 1 ∷ []) ∷ [])
+    × (map waits (seats after_gives_uncounted.guests) ≡ false ∷ false ∷ false ∷ [])
+uncounted_has_all = (refl, refl, refl, refl)
+
+still_there : IsStillThere 1 (EventUncounts 1) × IsStillThere 1 (EventJoins 1 2) × IsStillThere 1 (EventArrives 0 4 0)
+still_there = (tt, λ e. absurd (omega (arith, e)), λ e. absurd (omega (arith, e)))
+
+not_there : (IsStillThere 1 (EventArrives 1 4 0) → ⊥) × (IsStillThere 2 (EventJoins 1 2) → ⊥) × ((r : Report) → IsStillThere 1 (EventTakesOver 1 4 r) → ⊥)
+not_there = (λ l. l refl, λ l. l refl, λ _ l. l refl)
 
 -- ---- a guest that starts with 3 of its 4 pages in its balloon: it is let in where one frame is free, and keeps that target
 

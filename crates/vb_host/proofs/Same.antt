@@ -6,7 +6,7 @@ use Rattle.vb_host.specs.declared.report.Report.{Report}
 use Rattle.vb_host.specs.declared.seat.Seat.{Seat}
 use Rattle.vb_host.specs.Lending.{value_at, pages_at, each_at, may_grant, may_overdraw, next_turn, room}
 use Rattle.vb_host.specs.Promises.{IsTheLender, IsKnownAt}
-use Rattle.vb_host.specs.Seats.{reclaimed, grown, granting, heard, newcomer, taken_over, uncounted, queued, retargeted, starting}
+use Rattle.vb_host.specs.Seats.{reclaimed, grown, granting, heard, newcomer, taken_over, uncounting, queued, retargeted, starting}
 use Rattle.vb_host.specs.System.{Guest, Host, seats, lending, view, viewed, changed, by_lender, arriving, taken_up, snapshot, hearing, report_at}
 use Rattle.vb_host.specs.System.{joined, may_join, joining}
 use Rattle.vb_host.proofs.Lists.{some_is}
@@ -93,7 +93,7 @@ is_the_lender h n m = record {
   overdraws = λ k. either_lends (may_overdraw (lending h) n) h _ _ refl refl (lender_at h n granting k);
   wants = λ k pages. with_seats h _ _ (lender_at h n (λ s. record s { wanted = pages }) k);
   targets = λ k. with_seats h _ _ (lender_at h n (retargeted (room (lending h))) k);
-  uncounts = λ k. with_seats h _ _ (lender_at h n uncounted k);
+  uncounts = λ k. with_seats h _ _ (lender_at h n uncounting k);
   arrives = λ pages ballooned. with_seats h _ _ (seen_at n (λ _. arriving pages ballooned) (λ _. starting pages ballooned) h.guests (λ _ _. refl));
   joins = λ k g x l e f w r few. ap (λ (o : Option Guest). lending (joining o n m h)) e
       ∙ (either_lends (may_join n m x) h _ (each_at m (λ _. newcomer 0) (each_at n (grown (pages_at (seats h.guests) m)) (seats h.guests))) refl refl (joined_seats h n m x k e f)

@@ -6,9 +6,9 @@ use Rattle.vb_host.specs.declared.report.Report.{Report}
 use Rattle.vb_host.specs.declared.report.WaitingLine.TheVariants.{Deflates, Resets, Arrivals}
 use Rattle.vb_host.specs.declared.seat.Seat.{Seat}
 use Rattle.vb_host.specs.Lending.{may_grant, is_first, all_targeted, next_turn}
-use Rattle.vb_host.specs.Promises.{used, IsQuiet, all_keep, HasGiven}
-use Rattle.vb_host.specs.Seats.{lent, asked, waits, heard, possible_target, targeted, newcomer, uncounted, line_of, due_grant, due_target, is_done}
-use Rattle.vb_host.specs.Seats.{line_number, rank, taken_over}
+use Rattle.vb_host.specs.Promises.{counts_nothing, keeps, used, IsQuiet, all_keep, HasGiven}
+use Rattle.vb_host.specs.Seats.{lent, asked, waits, heard, possible_target, targeted, newcomer, uncounting, line_of, due_grant, due_target, is_done}
+use Rattle.vb_host.specs.Seats.{is_uncounted, line_number, rank, retargeted, taken_over}
 use Rattle.vb_host.specs.System.{opened, through, seats, Gives, Reads, Host, lending, Step, Does, Reports, Obeys, Hears, Grants, Wants, Sends, Limits}
 use Rattle.vb_host.specs.System.{Lands, Confirms, Joins, TakesOver, Forgets, Process, Shrinks, may_shrink, Targets}
 
@@ -27,6 +27,7 @@ seat ballooned least told number = record {
   granted = 2;
   removed = 0;
   turn = 0;
+  uncounted = 0;
 }
 
 -- what its process reports: its balloon, the target that was read and the number of the last one, and a deflate
@@ -44,7 +45,7 @@ report ballooned read heard held deflates = record {
 
 -- ---- what is lent: all but the part of the balloon below the least target
 
-lends : map (λ s. lent s) (seat 20 30 30 1 ∷ seat 20 10 30 1 ∷ seat 30 30 30 1 ∷ seat 70 70 70 1 ∷ newcomer 60 ∷ uncounted (newcomer 60) ∷ []) ≡ 40 ∷ 50 ∷ 30 ∷ 0 ∷ 0 ∷ 60 ∷ []
+lends : map (λ s. lent s) (seat 20 30 30 1 ∷ seat 20 10 30 1 ∷ seat 30 30 30 1 ∷ seat 70 70 70 1 ∷ newcomer 60 ∷ uncounting (newcomer 60) ∷ []) ≡ 40 ∷ 50 ∷ 30 ∷ 0 ∷ 0 ∷ 60 ∷ []
 lends = refl
 
 -- ---- a report
@@ -87,8 +88,30 @@ due : (map (λ number. due_target (report 20 25 number 0 2) (seat 20 25 30 4)) (
     × (map (λ r. due_grant r (seat 20 25 30 4)) (report 20 25 4 1 2 ∷ report 20 25 4 0 2 ∷ report 20 25 4 1 3 ∷ report 20 25 4 1 1 ∷ []) ≡ true ∷ false ∷ false ∷ false ∷ [])
 due = (refl, refl)
 
-done : map is_done (seat 29 25 30 4 ∷ seat 30 25 30 4 ∷ record (seat 29 25 30 4) { held = 1 } ∷ []) ≡ false ∷ true ∷ true ∷ []
+done : map is_done (seat 29 25 30 4 ∷ seat 30 25 30 4 ∷ record (seat 29 25 30 4) { held = 1 } ∷ record (seat 0 0 30 4) { uncounted = 1 } ∷ seat 0 0 30 4 ∷ [])
+    ≡ false ∷ true ∷ true ∷ true ∷ false ∷ []
 done = refl
+
+-- ---- a guest whose balloon counts no longer
+
+uncounts : (uncounting (seat 30 25 30 4) ≡ record (seat 0 0 30 4) { uncounted = 1 })
+    × (map is_uncounted (seat 30 25 30 4 ∷ uncounting (seat 30 25 30 4) ∷ record (seat 30 25 30 4) { uncounted = 7 } ∷ []) ≡ false ∷ true ∷ true ∷ [])
+uncounts = (refl, refl)
+
+-- a report shows an empty balloon; its deflate is granted, however deep; a target lends nothing, and takes nothing
+believed_none : (heard 9 (report 30 30 4 0 2) (uncounting (seat 30 25 30 4)) ≡ record (seat 0 30 30 4) { uncounted = 1 })
+    × (heard 9 (report 30 25 4 20 3) (uncounting (seat 30 25 30 4)) ≡ record (seat 0 0 30 4) { deflates = 3; granted = 3; uncounted = 1 })
+    × (map (λ room. lent (retargeted room (uncounting (seat 30 25 30 4)))) (0 ∷ 4 ∷ 99 ∷ []) ≡ 60 ∷ 60 ∷ 60 ∷ [])
+    × (map counts_nothing (uncounting (seat 30 25 30 4) ∷ seat 0 0 30 4 ∷ record (seat 1 0 30 4) { uncounted = 1 } ∷ []) ≡ true ∷ false ∷ false ∷ [])
+believed_none = (refl, refl, refl, refl)
+
+-- another guest at its place, and a later lender, count its balloon again
+counts_again : map (λ s. s.uncounted) (newcomer 60 ∷ taken_over 60 (report 30 25 3 5 3) ∷ []) ≡ 0 ∷ 0 ∷ []
+counts_again = refl
+
+-- it keeps all its pages, and one that waits what its grant would lend
+kept : map keeps (uncounting (seat 30 25 30 4) ∷ seat 30 25 30 4 ∷ record (seat 30 25 30 4) { held = 10 } ∷ []) ≡ 60 ∷ 30 ∷ 40 ∷ []
+kept = refl
 
 -- ---- the line: deflates, then resets, then newcomers, in each by turn, and of one turn the lowest place first
 
@@ -264,7 +287,7 @@ quiet_at_noon = (
 )
 
 given_at_noon : AllByRecursion HasGiven (noon 6).guests
-given_at_noon = (λ _. omega arith, (λ _. omega arith, tt))
+given_at_noon = (λ _ _. omega arith, (λ _ _. omega arith, tt))
 
 keep_at_noon : (all_keep (noon 6) ≡ 6) × (all_keep (noon 5) ≡ 6)
 keep_at_noon = (refl, refl)

@@ -4,7 +4,7 @@ use Rattle.std.proofs.lemmas.Bool.Decides.{nat_tests}
 use Rattle.std.specs.List.{AllByRecursion}
 use Rattle.vb_host.specs.declared.report.Report.{Report}
 use Rattle.vb_host.specs.declared.seat.Seat.{Seat}
-use Rattle.vb_host.specs.Seats.{keeps_turn, queuing, waits}
+use Rattle.vb_host.specs.Seats.{believed, is_uncounted, keeps_turn, queuing, waits}
 use Rattle.vb_host.specs.System.{Grant, Guest, Order, Process, Target}
 
 -- Of a guest's pages P, its balloon b, the deflate that its process holds h, the number of that one d and the pages that were taken away x, the lender
@@ -35,6 +35,7 @@ pub record IsTargeted (t read n t' n' least : ℕ) : Type 0 where
 pub record IsKnown (p : Process) (s : Seat) : Type 0 where
   pub memory : IsCounted p.pages p.balloon p.held p.deflates p.removed s.pages s.ballooned s.held s.deflates s.granted s.removed
   pub targets : IsTargeted p.target p.read_target p.target_number s.target s.target_number s.least_target
+  pub empty : 0 < s.uncounted → s.ballooned ≡ 0
 
 -- A report is of an earlier state of the process, or of this one; unless it was made before the
 -- last grant was heard of, no page has left the balloon since but for those of that grant, and those that were taken away.
@@ -105,6 +106,10 @@ either P false t s h k = k refl
 -- what a turn leaves as it is
 pub queues : (P : Seat → Type 0) (turn : ℕ) (old s : Seat) → P s → ((t : ℕ) → P (record s { turn = t })) → P (queuing turn old s)
 queues P turn old s h k = either P (keeps_turn old s) _ _ (λ _. h) (λ _. k (if waits s then turn else 0))
+
+-- what a report shows
+pub believes : (P : Report → Type 0) (r : Report) (s : Seat) → (0 < s.uncounted → P (record r { ballooned = 0 })) → (s.uncounted ≡ 0 → P r) → P (believed s r)
+believes P r s h k = either P (is_uncounted s) _ _ (λ t. h (lt_true 0 s.uncounted t)) (λ f. k (omega (arith, lt_false 0 s.uncounted f)))
 
 -- ---- lists
 

@@ -9,7 +9,7 @@ use Rattle.vb_host.specs.declared.event.Event.TheVariants.{Arrives, Joins, Takes
 use Rattle.vb_host.specs.declared.event.Event.TheVariants.{Budget}
 use Rattle.vb_host.specs.declared.seat.Seat.{Seat}
 use Rattle.vb_host.specs.Seats.{reclaimed, grown, lent, asked, waits, covers, granting, heard}
-use Rattle.vb_host.specs.Seats.{is_done, newcomer, taken_over, uncounted, queued, rank, retargeted}
+use Rattle.vb_host.specs.Seats.{is_done, newcomer, taken_over, uncounting, queued, rank, retargeted}
 use Rattle.vb_host.specs.Seats.{room_after, starting}
 
 -- How many frames a host has to lend; how many beyond them, where the guests can't go on otherwise;
@@ -127,7 +127,7 @@ happens l (Arrives n pages ballooned) =
 happens l (Joins n m) = record l { seats = joined_at n m l.seats }
 happens l (TakesOver n pages r) =
     record l { seats = each_at n (λ _. queued (next_turn l.seats) (taken_over pages r)) l.seats }
-happens l (Uncounts n) = record l { seats = each_at n uncounted l.seats }
+happens l (Uncounts n) = record l { seats = each_at n uncounting l.seats }
 happens l (Budget frames) = record l { frames = frames }
 
 -- ---- all targets, in the order of the places, with the room that those before leave

@@ -1,6 +1,6 @@
 -- What must hold of the whole system.
-use Rattle.std.specs.Prelude.{◌≡◌, ◌≢◌, ◌⊎◌, ℕ, ◌+◌, ◌-◌, ◌≤◌, ◌<◌, Bool, true, false, ⊤}
-use Rattle.std.specs.Prelude.{List, [], ◌∷◌, Some, sum_by, max, if◌then◌else◌, slice_get}
+use Rattle.std.specs.Prelude.{◌≡◌, ◌≢◌, ◌⊎◌, ℕ, ◌+◌, ◌-◌, ◌≤◌, ◌<◌, Bool, true, false, ⊤, ◌&&◌, ◌==◌}
+use Rattle.std.specs.Prelude.{List, [], ◌∷◌, length, Some, sum_by, max, if◌then◌else◌, slice_get}
 use Rattle.std.specs.List.{AllByRecursion}
 use Rattle.vb_host.specs.declared.event.Event.{Event}
 use Rattle.vb_host.specs.declared.event.Event.TheVariants.{Hears as EventHears}
@@ -20,6 +20,7 @@ use Rattle.vb_host.specs.Lending.{waited, is_first, may_grant, happens, held_at,
 use Rattle.vb_host.specs.Line.{GrantsNone, IsFirst, IsStep}
 use Rattle.vb_host.specs.Seats.{lent, waits, granting, heard, possible_target, covers, taken_over}
 use Rattle.vb_host.specs.Seats.{asked, due_target, due_grant, queued, line_number, line_of, rank}
+use Rattle.vb_host.specs.Seats.{is_uncounted}
 use Rattle.vb_host.specs.System.{Process, Guest, Host, Step, Hears, Grants, Overdraws, Wants}
 use Rattle.vb_host.specs.System.{Uncounts, Arrives, Joins, TakesOver, seats, Budget, snapshot}
 use Rattle.vb_host.specs.System.{through, opened, lending, goes, report_at, Targets}
@@ -134,14 +135,15 @@ pub record IsQuiet (g : Guest) : Type 0 where
   pub heard_read : g.seat.least_target ≡ g.seat.target
   pub heard_held : 0 < g.process.held → g.process.deflates ≢ g.seat.granted → waits g.seat ≡ true
 
--- What the lender knows of a guest once it received its report: in each state, of each guest.
+-- What the lender knows of a guest once it received its report: in each state, of each guest; of
+-- the balloon, where that counts.
 pub record HasTold (p : Process) (old new : Seat) : Type 0 where
   pub pages : new.pages ≡ p.pages
   pub read_target : due_target (snapshot p) old ≡ false → p.read_target ≡ old.target
       → new.least_target ≡ new.target
   pub held : 0 < p.held → p.deflates ≢ new.granted → waits new ≡ true
-  pub balloon : p.deflates ≢ new.granted → p.balloon ≤ new.ballooned
-  pub without : p.balloon - p.held ≤ new.ballooned
+  pub balloon : old.uncounted ≡ 0 → p.deflates ≢ new.granted → p.balloon ≤ new.ballooned
+  pub without : old.uncounted ≡ 0 → p.balloon - p.held ≤ new.ballooned
   pub line : new.line ≡ p.line
 
 abbrev pub ReportsTell : Type 0
@@ -150,13 +152,15 @@ ReportsTell =
     → slice_get (through steps (opened frames overdraft sizes)).guests n ≡ Some g
     → g.strict ≡ true → HasTold g.process g.seat (heard turn (snapshot g.process) g.seat)
 
--- a guest that doesn't wait has as much in its balloon as its target says
+-- a guest that doesn't wait, and whose balloon counts, has as much in it as its target says
 abbrev pub HasGiven : Guest → Type 0
-HasGiven g = (waits g.seat ≡ false) → g.seat.target ≤ g.seat.ballooned
+HasGiven g = (waits g.seat ≡ false) → g.seat.uncounted ≡ 0 → g.seat.target ≤ g.seat.ballooned
 
--- what a guest keeps once it has what it waits for, or has reached its target
+-- what a guest keeps once it has what it waits for, or has reached its target; all its pages, where
+-- its balloon counts no longer
 abbrev pub keeps : Seat → ℕ
-keeps s = if waits s then lent (granting s) else s.pages - s.target
+keeps s =
+    if waits s then lent (granting s) else if is_uncounted s then s.pages else s.pages - s.target
 
 abbrev pub all_keep : Host → ℕ
 all_keep h = sum_by (λ g. keeps g.seat) h.guests
@@ -271,6 +275,39 @@ LeavesRoom =
 -- and no target is below the one that is wanted
 abbrev pub NeverBelowWanted : Type 0
 NeverBelowWanted = (room : ℕ) (s : Seat) → s.wanted ≤ possible_target room s
+
+-- ---- a guest whose balloon counts no longer
+
+-- no page of its balloon counts
+abbrev pub counts_nothing : Seat → Bool
+counts_nothing s = is_uncounted s && (s.ballooned == 0)
+
+abbrev pub Uncounted : Type 0
+Uncounted =
+    (l : Lending) (n : ℕ) → n < length l.seats
+    → test_at counts_nothing (happens l (EventUncounts n)).seats n ≡ true
+
+-- after this event the same guest is at place n
+abbrev pub IsStillThere : ℕ → Event → Type 0
+IsStillThere n (EventArrives i pages ballooned) = n ≢ i
+IsStillThere n (EventTakesOver i pages r) = n ≢ i
+IsStillThere n (EventJoins i m) = n ≢ m
+IsStillThere n _ = ⊤
+
+-- That stays so, whatever it reports, until another guest is there.
+abbrev pub StaysUncounted : Type 0
+StaysUncounted =
+    (l : Lending) (e : Event) (n : ℕ) → IsStillThere n e
+    → test_at counts_nothing l.seats n ≡ true
+    → test_at counts_nothing (happens l e).seats n ≡ true
+
+-- After each step then all its pages are lent to it, and it doesn't wait.
+abbrev pub UncountedHasAll : Type 0
+UncountedHasAll =
+    (l m : Lending) (e : Event) (n : ℕ) → IsStep l e m
+    → test_at counts_nothing (happens l e).seats n ≡ true
+    → (test_at counts_nothing m.seats n ≡ true) × (lent_at m.seats n ≡ pages_at m.seats n)
+    × (held_at m.seats n ≡ 0)
 
 -- ---- the lender is the one of the system
 

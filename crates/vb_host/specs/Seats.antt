@@ -74,6 +74,14 @@ noting ballooned held r s =
       removed = r.removed;
     }
 
+-- its balloon counts no longer
+abbrev pub is_uncounted : Seat → Bool
+is_uncounted s = nat_lt 0 s.uncounted
+
+-- Of such a guest a report shows an empty balloon.
+abbrev pub believed : Seat → Report → Report
+believed s r = if is_uncounted s then record r { ballooned = 0 } else r
+
 -- The pages in the balloon, and the deflate that is held; the pages of a granted one have left the
 -- balloon.
 abbrev pub counting : Report → Seat → Seat
@@ -108,7 +116,7 @@ is_stale r s = nat_lt r.deflates s.granted || nat_lt r.removed s.removed
 
 abbrev pub heard : ℕ → Report → Seat → Seat
 heard turn r s =
-    if is_stale r s then s else queuing turn s (raised r (served (counting r s)))
+    if is_stale r s then s else queuing turn s (raised r (served (counting (believed s r) s)))
 
 -- ---- a target
 
@@ -138,9 +146,9 @@ retargeted room s = targeted (possible_target room s) s
 abbrev pub room_after : ℕ → Seat → ℕ
 room_after room s = room - (lent (retargeted room s) - lent s)
 
--- it waits, or has in its balloon what its target says
+-- it waits, or has in its balloon what its target says, or can give nothing that counts
 abbrev pub is_done : Seat → Bool
-is_done s = waits s || nat_le s.target s.ballooned
+is_done s = waits s || is_uncounted s || nat_le s.target s.ballooned
 
 -- ---- orders: what a seat says, until a report shows that it was obeyed
 
@@ -171,6 +179,7 @@ newcomer pages =
       granted = 0;
       removed = 0;
       turn = 0;
+      uncounted = 0;
     }
 
 -- a guest that arrives with this many pages in its balloon, which stay there
@@ -195,6 +204,7 @@ taking_over granted pages r =
       granted = granted;
       removed = r.removed;
       turn = 0;
+      uncounted = 0;
     }
 
 abbrev pub taken_over : ℕ → Report → Seat
@@ -207,7 +217,6 @@ grown pages s = record s { pages = s.pages + pages }
 
 -- ---- a guest that takes pages without a grant
 
--- Its balloon counts no longer: all its pages are lent to it. (A report of such a guest is to be
--- passed on with an empty balloon.)
-abbrev pub uncounted : Seat → Seat
-uncounted s = record s { ballooned = 0; least_target = 0 }
+-- Its balloon counts no longer, until another guest is at its place: all its pages are lent to it.
+abbrev pub uncounting : Seat → Seat
+uncounting s = record s { ballooned = 0; least_target = 0; uncounted = 1 }

@@ -5,7 +5,7 @@ use Rattle.std.specs.Prelude.{Option, Some, None, slice_get}
 use Rattle.vb_host.specs.declared.report.Report.{Report}
 use Rattle.vb_host.specs.declared.seat.Seat.{Seat}
 use Rattle.vb_host.specs.Lending.{Lending, each_at, may_grant, may_overdraw, next_turn, room}
-use Rattle.vb_host.specs.Seats.{reclaimed, lent, granting, heard, newcomer, taken_over, uncounted}
+use Rattle.vb_host.specs.Seats.{reclaimed, lent, granting, heard, newcomer, taken_over, uncounting}
 use Rattle.vb_host.specs.Seats.{queued, retargeted, starting}
 
 -- ---- a guest and its process
@@ -137,7 +137,7 @@ pub record Guest : Type 0 where
 -- many pages the one before counted: all are lent to it.
 abbrev pub viewed : Bool → Seat → Seat
 viewed true s = s
-viewed false s = uncounted (newcomer s.pages)
+viewed false s = uncounting (newcomer s.pages)
 
 abbrev pub view : Guest → Seat
 view g = viewed g.known g.seat
@@ -317,7 +317,7 @@ goes h (Limits n) = at n (λ g. record g { limit = limiting g.known g.seat g.lim
 goes h (Lands n) = at n (λ g. record g { limit = lands g.limit }) h
 goes h (Confirms n) = at n (λ g. record g { limit = confirms g.limit }) h
 goes h (Fails n) = at n (λ g. record g { limit = fails g.limit }) h
-goes h (Uncounts n) = at n (by_lender uncounted) h
+goes h (Uncounts n) = at n (by_lender uncounting) h
 goes h (Arrives n pages ballooned) = at n (λ _. arriving pages ballooned) h
 goes h (Joins n m) = joining (slice_get h.guests m) n m h
 goes h (TakesOver n) = at n (taken_up (next_turn (seats h.guests))) h

@@ -23,6 +23,7 @@ impl Seat {
             granted: 0,
             removed: 0,
             turn: 0,
+            uncounted: 0,
         }
     }
 
@@ -57,6 +58,7 @@ impl Seat {
             granted,
             removed: report.removed,
             turn: 0,
+            uncounted: 0,
         }
     }
 

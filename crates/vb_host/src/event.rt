@@ -49,7 +49,8 @@ pub enum Event {
         pages: u32,
         report: Report,
     },
-    /// A guest takes pages without a grant: its balloon counts no longer.
+    /// A guest takes pages without a grant: its balloon counts no longer, until another guest is at
+    /// its place.
     Uncounts {
         guest: usize,
     },

@@ -6,6 +6,7 @@ ghost use Rattle.vb_host.specs.Promises.{NoneIsPassed, EventsLendNothing, StepsS
 ghost use Rattle.vb_host.specs.Promises.{TargetsArePossible, OneOutcome, StepsAreEvents};
 ghost use Rattle.vb_host.specs.Promises.{LeavesRoom, NeverBelowWanted, NeverMore, IsPaidBack};
 ghost use Rattle.vb_host.specs.Promises.{ReportsTell, GrantsInTurn, ComesLast, LinesOrder};
+ghost use Rattle.vb_host.specs.Promises.{Uncounted, StaysUncounted, UncountedHasAll};
 ghost use Rattle.vb_host.specs.System.{Host};
 ghost use Rattle.std.specs.Prelude.{ℕ};
 
@@ -65,6 +66,14 @@ pub fn grants_go_in_turn()
 pub fn none_is_passed()
     ensures passed { NoneIsPassed }
     ensures events { EventsLendNothing }
+{}
+
+/// Once a guest's balloon counts no longer, that stays so until another guest is at its place:
+/// all its pages are lent to it, and it doesn't wait after any step.
+pub fn uncounted_stays()
+    ensures uncounts { Uncounted }
+    ensures stays { StaysUncounted }
+    ensures all { UncountedHasAll }
 {}
 
 /// A step has one outcome, and leaves nothing to grant, and no target that may be nearer to what is

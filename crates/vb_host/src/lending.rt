@@ -5,7 +5,7 @@ ghost use Rattle.vb_host.specs.Lending.{Lending, each_at, next_turn, may_grant, 
 ghost use Rattle.vb_host.specs.Lending.{happens, may_join_at, joined_at, pages_at, value_at};
 ghost use Rattle.vb_host.specs.Lending.{all_targeted, test_at};
 ghost use Rattle.vb_host.specs.Line.{IsNext, IsStep, ByGrants, GrantsNone};
-ghost use Rattle.vb_host.specs.Seats.{covers, granting, heard, retargeted, room_after, uncounted};
+ghost use Rattle.vb_host.specs.Seats.{covers, granting, heard, retargeted, room_after, uncounting};
 ghost use Rattle.vb_host.specs.Seats.{grown};
 ghost use Rattle.vb_host.specs.Seats.{reclaimed};
 ghost use Rattle.vb_host.specs.declared.event.Event.TheVariants.{Grants, Overdraws, Targets};
@@ -171,7 +171,7 @@ fn seat_at(seats: &mut [Seat], guest: usize, seat: Seat)
 /// A guest's balloon counts no longer.
 #[tactic(auto, using(crate::proofs::Places::at_places))]
 fn uncount(seats: &mut [Seat], guest: usize)
-    ensures { seats.new ≡ each_at guest uncounted seats.old }
+    ensures { seats.new ≡ each_at guest uncounting seats.old }
 {
     if guest < seats.len() {
         seats[guest].uncount();

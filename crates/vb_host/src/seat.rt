@@ -3,8 +3,8 @@
 ghost use Rattle.std.specs.Prelude.{◌≡◌, ◌+◌, ◌-◌, ◌<◌, ◌^◌};
 ghost use Rattle.vb_host.specs.Seats.{lent, asked, waits, covers, granting, noting, counting};
 ghost use Rattle.vb_host.specs.Seats.{served, raised, queuing, is_stale, heard, possible_target};
-ghost use Rattle.vb_host.specs.Seats.{targeted, retargeted, uncounted};
-ghost use Rattle.vb_host.specs.Seats.{is_done};
+ghost use Rattle.vb_host.specs.Seats.{targeted, retargeted, uncounting};
+ghost use Rattle.vb_host.specs.Seats.{believed, is_done, is_uncounted};
 ghost use Rattle.vb_host.specs.Seats.{due_target, due_grant, reclaimed, grown, rank, queued};
 ghost use Rattle.vb_host.specs.Seats.{room_after};
 ghost use Rattle.vb_host.specs.Seats.{keeps_turn, needs_grant};
@@ -43,6 +43,8 @@ pub struct Seat {
     pub removed: u64,
     /// Its turn among those that wait; 0 where it doesn't.
     pub turn: u64,
+    /// Whether its balloon counts no longer: 0 where it counts.
+    pub uncounted: u32,
 }
 
 impl Seat {
@@ -103,11 +105,19 @@ impl Seat {
         self.waits() && self.asked() == 0
     }
 
-    /// Whether it waits, or has in its balloon what its target says.
+    /// Whether its balloon counts no longer.
+    pub fn is_uncounted(&self) -> bool
+        ensures { result ≡ is_uncounted self.now }
+    {
+        self.uncounted > 0
+    }
+
+    /// Whether it waits, or has in its balloon what its target says, or can give nothing that
+    /// counts.
     pub(crate) fn is_done(&self) -> bool
         ensures { result ≡ is_done self.now }
     {
-        self.waits() || self.target <= self.ballooned
+        self.waits() || self.is_uncounted() || self.target <= self.ballooned
     }
 
     /// The pages of this many of which none was taken away since its last report.
@@ -131,6 +141,17 @@ impl Seat {
         self.line = report.line;
         self.deflates = report.deflates;
         self.removed = report.removed;
+    }
+
+    /// What a report shows: an empty balloon, where that counts no longer.
+    fn believe(&self, report: &Report) -> Report
+        ensures { result ≡ believed self.now report.now }
+    {
+        let mut believed = *report;
+        if self.is_uncounted() {
+            believed.ballooned = 0;
+        }
+        believed
     }
 
     /// Counts the pages in its balloon, without those of a deflate that was granted.
@@ -201,7 +222,7 @@ impl Seat {
             return;
         }
         let old = *self;
-        self.count(report);
+        self.count(&old.believe(report));
         self.serve();
         self.raise(report);
         if !self.keeps_turn(&old) {
@@ -283,9 +304,10 @@ impl Seat {
 
     /// Its balloon counts no longer: all its pages are lent to it.
     pub(crate) fn uncount(&mut self)
-        ensures { self.new ≡ uncounted self.old }
+        ensures { self.new ≡ uncounting self.old }
     {
         self.ballooned = 0;
         self.least_target = 0;
+        self.uncounted = 1;
     }
 }
