@@ -6,14 +6,14 @@ use Rattle.std.specs.List.{AllByRecursion, list_all}
 use Rattle.vb_host.specs.declared.seat.Seat.{Seat}
 use Rattle.vb_host.specs.Lending.{owed, room, each_at, value_at, test_at, held_at, is_first, may_grant, may_overdraw, next_turn}
 use Rattle.vb_host.specs.Promises.{used, all_used, NeverLowers, strictly}
-use Rattle.vb_host.specs.Seats.{lent, asked, waits, covers, granting, is_done, retargeted}
+use Rattle.vb_host.specs.Seats.{lent, asked, waits, covers, granting, is_done, preferring, retargeted}
 use Rattle.vb_host.specs.System.{Guest, Host, seats, lending, arriving, taken_up, forgotten, opened, goes, through, hearing, report_at, view, viewed}
 use Rattle.vb_host.specs.System.{changed, by_lender, limiting, lands, confirms, fails, joined, may_join, joining, Step, Does, Reports, Obeys, Hears}
 use Rattle.vb_host.specs.System.{Grants, Overdraws, Wants, Sends, Limits, Lands, Confirms, Fails, Uncounts, Arrives, Joins, TakesOver, Forgets}
-use Rattle.vb_host.specs.System.{Budget, Targets, Deviates}
+use Rattle.vb_host.specs.System.{Budget, Prefers, Targets, Deviates}
 use Rattle.vb_host.proofs.Grants.{covered_waits}
 use Rattle.vb_host.proofs.Guests.{deed_true, report_true, obey_true, hear_true, grant_true, target_true, send_true, limit_true, uncount_true}
-use Rattle.vb_host.proofs.Guests.{forget_true, arriving_true, taken_true, taken_lends, joined_true, joined_lends, join_facts, want_true}
+use Rattle.vb_host.proofs.Guests.{forget_true, arriving_true, taken_true, taken_lends, joined_true, joined_lends, join_facts, prefer_true, want_true}
 use Rattle.vb_host.proofs.LentBy.{asks_lend, changed_lends, covered_lends, hearing_lends, targets_lend}
 use Rattle.vb_host.proofs.Lists.{all_at, all_where, all_map, its_lent, lent_all, lends_at, lent_map, lent_where, lent_seen, seen_at, test_implies}
 use Rattle.vb_host.proofs.Lists.{waits_at, join_lends, all_get, strictly_by}
@@ -110,6 +110,9 @@ pub joins_same : (h : Host) (n m : ℕ) (o : Option Guest) → ((joining o n m h
 joins_same h n m None = (refl, refl)
 joins_same h n m (Some x) = either (λ (k : Host). (k.frames ≡ h.frames) × (k.overdraft ≡ h.overdraft)) (may_join n m x) _ h (λ _. (refl, refl)) (λ _. (refl, refl))
 
+pub prefers_true : (h : Host) → AllByRecursion IsTrusty h.guests → AllByRecursion IsTrusty (map (by_lender (preferring 0)) h.guests)
+prefers_true h a = all_map IsTrusty (by_lender (preferring 0)) h.guests (λ g t e. prefer_true 0 g (t e)) a
+
 pub step_true : (h : Host) (step : Step) → AllByRecursion IsTrusty h.guests → AllByRecursion IsTrusty (goes h step).guests
 step_true h (Does n deed) a = all_at IsTrusty n _ h.guests (λ g t e. deed_true deed g (t e)) a
 step_true h (Deviates n p reports) a = all_at IsTrusty n _ h.guests (λ g t e. absurd (cc)) a
@@ -118,6 +121,7 @@ step_true h (Obeys n k) a = all_at IsTrusty n _ h.guests (λ g t e. obey_true k 
 step_true h (Hears n k) a = all_at IsTrusty n _ h.guests (λ g t e. hear_true (next_turn (seats h.guests)) k g (t e)) a
 step_true h (Grants n) a = either_guests (may_grant (lending h) n) h _ (λ e. all_where IsTrusty waits n lets h.guests (λ g w t s. grant_true g w (t s)) (may_waits h n e) a) a
 step_true h (Overdraws n) a = either_guests (may_overdraw (lending h) n) h _ (λ e. all_where IsTrusty waits n lets h.guests (λ g w t s. grant_true g w (t s)) (first_waits h n (draws_first h n e)) a) a
+step_true h (Prefers n) a = all_at IsTrusty n (by_lender (preferring 1)) (map (by_lender (preferring 0)) h.guests) (λ g t e. prefer_true 1 g (t e)) (prefers_true h a)
 step_true h (Wants n pages) a = all_at IsTrusty n _ h.guests (λ g t e. want_true pages g (t e)) a
 step_true h (Targets n) a = all_at IsTrusty n _ h.guests (λ g t e. target_true (room (lending h)) g (t e)) a
 step_true h (Sends n) a = all_at IsTrusty n _ h.guests (λ g t e. send_true g (t e)) a
@@ -146,6 +150,16 @@ hears_no_more turn i g t = omega (arith, strictly_by g.strict _ (lent g.seat) 0 
 pub wants_no_more : (pages : ℕ) (g : Guest) → IsTrusty g → its_lent (by_lender (λ s. record s { wanted = pages }) g) ≤ its_lent g
 wants_no_more pages g t = omega (arith, strictly_by g.strict _ (lent g.seat) 0 (λ _. changed_lends g.known (λ s. record s { wanted = pages }) g.seat 0 (omega arith)))
 
+prefers_no_more : (preferred : ℕ) (g : Guest) → its_lent (by_lender (preferring preferred) g) ≤ its_lent g
+prefers_no_more preferred g = omega (arith, strictly_by g.strict _ (lent g.seat) 0 (λ _. changed_lends g.known (preferring preferred) g.seat 0 (omega arith)))
+
+pub prefers_lend : (h : Host) (n : ℕ) → AllByRecursion IsTrusty h.guests → lent_all (goes h (Prefers n)).guests ≤ lent_all h.guests
+prefers_lend h n a = omega (
+  arith,
+  lends_at IsTrusty 0 n (by_lender (preferring 1)) (map (by_lender (preferring 0)) h.guests) (λ g _. omega (arith, prefers_no_more 1 g)) (prefers_true h a),
+  lent_map IsTrusty (by_lender (preferring 0)) h.guests (λ g _. prefers_no_more 0 g) a,
+)
+
 -- also of a guest that isn't strict, which counts for nothing here
 pub takes_no_more : (turn : ℕ) (g : Guest) → IsTrusty g → its_lent (taken_up turn g) ≤ its_lent g
 takes_no_more turn g t = omega (arith, strictly_by g.strict (lent (taken_up turn g).seat) (lent g.seat) 0 (λ e. omega (arith, taken_lends turn g (t e))))
@@ -158,6 +172,7 @@ step_within h (Obeys n k) r i = lends_no_more h n _ (λ g _. omega arith) i
 step_within h (Hears n k) r i = lends_no_more h n _ (hears_no_more (next_turn (seats h.guests)) k) i
 step_within h (Grants n) r i = either_owed (may_grant (lending h) n) h _ (λ e. grant_owes h n e i) i.within
 step_within h (Overdraws n) r i = either_owed (may_overdraw (lending h) n) h _ (λ e. overdraws_owe h n e) i.within
+step_within h (Prefers n) r i = omega (arith, i.within, prefers_lend h n i.each)
 step_within h (Wants n pages) r i = lends_no_more h n _ (wants_no_more pages) i
 step_within h (Targets n) r i = omega (arith, i.within, target_owes (most h) h n (room (lending h)) (omega arith) refl i.each)
 step_within h (Sends n) r i = lends_no_more h n _ (λ g _. omega arith) i
@@ -207,6 +222,7 @@ run_safe h (Obeys n k ∷ steps) r i = run_safe (goes h (Obeys n k)) steps r (st
 run_safe h (Hears n k ∷ steps) r i = run_safe (goes h (Hears n k)) steps r (step_safe h (Hears n k) tt i)
 run_safe h (Grants n ∷ steps) r i = run_safe (goes h (Grants n)) steps (grants_lower h n steps r) (step_safe h (Grants n) tt i)
 run_safe h (Overdraws n ∷ steps) r i = run_safe (goes h (Overdraws n)) steps (overdraws_lower h n steps r) (step_safe h (Overdraws n) tt i)
+run_safe h (Prefers n ∷ steps) r i = run_safe (goes h (Prefers n)) steps r (step_safe h (Prefers n) tt i)
 run_safe h (Wants n pages ∷ steps) r i = run_safe (goes h (Wants n pages)) steps r (step_safe h (Wants n pages) tt i)
 run_safe h (Targets n ∷ steps) r i = run_safe (goes h (Targets n)) steps r (step_safe h (Targets n) tt i)
 run_safe h (Sends n ∷ steps) r i = run_safe (goes h (Sends n)) steps r (step_safe h (Sends n) tt i)
@@ -241,6 +257,7 @@ draft_stays h (Obeys n k) = refl
 draft_stays h (Hears n k) = refl
 draft_stays h (Grants n) = either (λ (x : Host). x.overdraft ≡ h.overdraft) (may_grant (lending h) n) _ _ (λ _. refl) (λ _. refl)
 draft_stays h (Overdraws n) = either (λ (x : Host). x.overdraft ≡ h.overdraft) (may_overdraw (lending h) n) _ _ (λ _. refl) (λ _. refl)
+draft_stays h (Prefers n) = refl
 draft_stays h (Wants n pages) = refl
 draft_stays h (Targets n) = refl
 draft_stays h (Sends n) = refl

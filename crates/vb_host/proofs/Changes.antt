@@ -3,7 +3,7 @@ use Rattle.std.proofs.Common.{◌≡◌, ℕ, ◌+◌, ◌-◌, ◌<◌, ◌≤�
 use Rattle.std.proofs.lemmas.Bool.Decides.{nat_tests}
 use Rattle.vb_host.specs.declared.report.Report.{Report}
 use Rattle.vb_host.specs.declared.seat.Seat.{Seat}
-use Rattle.vb_host.specs.Seats.{believed, counting, covers, granting, heard, is_stale, noting, raised, served, targeted, uncounting}
+use Rattle.vb_host.specs.Seats.{believed, counting, covers, granting, heard, is_stale, noting, preferring, raised, served, targeted, uncounting}
 use Rattle.vb_host.specs.System.{Grant, Order, Process, Target}
 use Rattle.vb_host.proofs.Sound.{IsKnown, IsPast, IsPastTarget, IsSent, and_left, and_right, believes, either, eq_false, eq_true, lt_false, lt_true, or_either}
 use Rattle.vb_host.proofs.Sound.{queues}
@@ -245,6 +245,13 @@ wants_sent p s pages (Grant n) h = h
 
 pub wants_follow : (p : Process) (s : Seat) (pages : ℕ) → IsKnown p s → Follows p s (record s { wanted = pages })
 wants_follow p s pages k = record { known = record { memory = k.memory; targets = k.targets; empty = k.empty }; sent = λ o h. wants_sent p s pages o h; past = λ q h. h }
+
+prefers_sent : (p : Process) (s : Seat) (preferred : ℕ) (o : Order) → IsSent p s o → IsSent p (preferring preferred s) o
+prefers_sent p s preferred (Target number target) h = h
+prefers_sent p s preferred (Grant n) h = h
+
+pub prefers_follow : (p : Process) (s : Seat) (preferred : ℕ) → IsKnown p s → Follows p s (preferring preferred s)
+prefers_follow p s preferred k = record { known = record { memory = k.memory; targets = k.targets; empty = k.empty }; sent = λ o h. prefers_sent p s preferred o h; past = λ q h. h }
 
 -- ---- its balloon counts no longer
 

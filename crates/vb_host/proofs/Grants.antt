@@ -1,14 +1,14 @@
 -- Grants, one after another, until nobody is granted.
-use Rattle.std.proofs.Common.{◌≡◌, ℕ, zero, suc, ◌+◌, ◌≤◌, ◌<◌, Bool, true, false, not, ◌&&◌, ◌||◌, ◌==◌, nat_lt, nat_le, if◌then◌else◌, List, [], ◌∷◌, length, get_or, inl, inr, ◌⊎◌, min, refl, ap, sym, ◌∙◌, arith}
+use Rattle.std.proofs.Common.{◌≡◌, ℕ, zero, suc, ◌+◌, ◌≤◌, ◌<◌, Bool, true, false, not, ◌&&◌, ◌||◌, ◌==◌, nat_lt, nat_le, ◌*◌, if◌then◌else◌, List, [], ◌∷◌, length, get_or, inl, inr, ◌⊎◌, min, refl, ap, sym, ◌∙◌, arith}
 use Rattle.std.proofs.lemmas.Bool.Decides.{nat_tests}
 use Rattle.std.specs.List.{list_all}
 use Rattle.vb_host.specs.declared.event.Event.TheVariants.{Grants, Overdraws}
 use Rattle.vb_host.specs.declared.seat.Seat.{Seat}
 use Rattle.vb_host.specs.Lending.{Lending, owed, each_at, value_at, test_at, held_at, turn_at, last_turn, next_turn, is_first, may_grant}
-use Rattle.vb_host.specs.Lending.{may_overdraw, may_join_at, joined_at, pages_at, happens}
+use Rattle.vb_host.specs.Lending.{may_overdraw, may_join_at, joined_at, line_at, pages_at, rank_at, happens}
 use Rattle.vb_host.specs.Line.{ByGrants, Stays, Granted, GrantsNone, IsFirst, IsNextGrant}
-use Rattle.vb_host.specs.Seats.{reclaimed, grown, newcomer, asked, waits, covers, granting, is_done}
-use Rattle.vb_host.proofs.Lines.{is_the_first, first_is}
+use Rattle.vb_host.specs.Seats.{reclaimed, grown, newcomer, asked, waits, covers, granting, is_done, line_rank, place_in_line, queued, rank}
+use Rattle.vb_host.proofs.Lines.{is_the_first, first_is, place_within, turn_place}
 use Rattle.vb_host.proofs.Lists.{test_implies, waits_at}
 use Rattle.vb_host.proofs.Places.{value_none, test_none, test_is}
 use Rattle.vb_host.proofs.Sound.{and_left, and_right, le_true, lt_true}
@@ -142,7 +142,7 @@ none_in_row false b c e = refl
 pub draw_beyond : (l : Lending) (n : ℕ) → length l.seats ≤ n → false ≡ may_overdraw l n
 draw_beyond l n h = none_in_row (is_first l.seats n) _ _ (first_none l.seats n h)
 
-draw_waits : (l : Lending) (n : ℕ) → may_overdraw l n ≡ true → is_first l.seats n ≡ true
+pub draw_waits : (l : Lending) (n : ℕ) → may_overdraw l n ≡ true → is_first l.seats n ≡ true
 draw_waits l n e = and_left (is_first l.seats n) _ (and_left (is_first l.seats n && list_all is_done l.seats) _ e)
 
 pub draw_there : (l : Lending) (n : ℕ) → may_overdraw l n ≡ true → n < length l.seats
@@ -187,9 +187,32 @@ last_or : (last : ℕ) (b : Bool) → nat_lt last 18446744073709551615 ≡ b →
 last_or last true e = let f : last < 18446744073709551615 = grind (arith, nat_tests) in inl (omega (arith, f))
 last_or last false e = let f : 18446744073709551615 ≤ last = grind (arith, nat_tests) in inr (omega (arith, f))
 
-pub comes_last : (xs : List Seat) (n : ℕ) → (turn_at xs n < next_turn xs) ⊎ (next_turn xs ≡ 18446744073709551615)
-comes_last xs n = elim (last_or (last_turn xs) (nat_lt (last_turn xs) 18446744073709551615) refl) [
+pub turns_rise : (xs : List Seat) (n : ℕ) → (turn_at xs n < next_turn xs) ⊎ (next_turn xs ≡ 18446744073709551615)
+turns_rise xs n = elim (last_or (last_turn xs) (nat_lt (last_turn xs) 18446744073709551615) refl) [
   | inl less ↦ inl (omega (arith, less, turns_within xs n))
+  | inr end ↦ inr end
+]
+
+ranks_within : (xs : List Seat) (n : ℕ) → rank_at xs n ≤ 18446744073709551617 * line_at xs n + (turn_at xs n + 1)
+ranks_within [] n = omega arith
+ranks_within (x ∷ xs) zero = within_by (line_rank x) (place_in_line x) x.turn (place_within x) where
+  within_by : (a p t : ℕ) → p ≤ t + 1 → 18446744073709551617 * a + p ≤ 18446744073709551617 * a + (t + 1)
+  within_by a p t l = omega (arith, l)
+ranks_within (x ∷ xs) (suc n) = ranks_within xs n
+
+queued_place : (turn : ℕ) (s : Seat) → s.preferred ≡ 0 → waits s ≡ true → place_in_line (queued turn s) ≡ turn + 1
+queued_place turn s e w = turn_place (queued turn s) e ∙ ap (λ (k : ℕ). k + 1) (taken (waits s) turn w) where
+  taken : (b : Bool) (turn : ℕ) → b ≡ true → (if b then turn else 0) ≡ turn
+  taken true turn e = refl
+  taken false turn e = absurd (cc)
+
+after_by : (a b r t turn p : ℕ) → r ≤ 18446744073709551617 * a + (t + 1) → a ≡ b → t < turn → p ≡ turn + 1 → r < 18446744073709551617 * b + p
+after_by a b r t turn p l e h f = omega (arith, l, e, h, f)
+
+pub comes_last : (xs : List Seat) (n : ℕ) (s : Seat) → s.preferred ≡ 0 → waits s ≡ true → line_at xs n ≡ line_rank s
+    → (rank_at xs n < rank (queued (next_turn xs) s)) ⊎ (next_turn xs ≡ 18446744073709551615)
+comes_last xs n s e w h = elim (turns_rise xs n) [
+  | inl less ↦ inl (after_by (line_at xs n) (line_rank s) (rank_at xs n) (turn_at xs n) (next_turn xs) (place_in_line (queued (next_turn xs) s)) (ranks_within xs n) h less (queued_place (next_turn xs) s e w))
   | inr end ↦ inr end
 ]
 

@@ -4,11 +4,11 @@ use Rattle.std.proofs.lemmas.Bool.Decides.{nat_tests}
 use Rattle.std.specs.List.{AllByRecursion}
 use Rattle.vb_host.specs.declared.report.Report.{Report}
 use Rattle.vb_host.specs.declared.seat.Seat.{Seat}
-use Rattle.vb_host.specs.Seats.{reclaimed, lent, possible_target, taking_over, waits, granting, taken_over, uncounting, retargeted}
+use Rattle.vb_host.specs.Seats.{reclaimed, lent, possible_target, preferring, taking_over, waits, granting, taken_over, uncounting, retargeted}
 use Rattle.vb_host.specs.System.{Process, snapshot, Order, Target, Grant, Deed, does, Guest, arriving, taken_up, forgotten, obeying, order_at}
 use Rattle.vb_host.specs.System.{hearing, report_at, view, viewed, changed, by_lender, sending, Limit, joined, may_join}
 use Rattle.vb_host.proofs.Changes.{Follows, follows_same, grants_follow, hears_follow, sends_grant, sends_target, targets_follow, uncounts_follow}
-use Rattle.vb_host.proofs.Changes.{turn_follows, wants_follow}
+use Rattle.vb_host.proofs.Changes.{prefers_follow, turn_follows, wants_follow}
 use Rattle.vb_host.proofs.Processes.{Moves, does_moves, obeys_moves, reports_now, moves_same}
 use Rattle.vb_host.proofs.Sound.{IsKnown, IsPast, IsSent, IsSound, all_of, either, lt_false, and_left, and_right, eq_true, lt_true}
 
@@ -135,6 +135,9 @@ target_true room g h = lender_true (retargeted room) g (λ _. targets_follow g.p
 
 pub want_true : (pages : ℕ) (g : Guest) → IsSound g → IsSound (by_lender (λ s. record s { wanted = pages }) g)
 want_true pages g h = lender_true (λ s. record s { wanted = pages }) g (λ _. wants_follow g.process g.seat pages h.known) h
+
+pub prefer_true : (preferred : ℕ) (g : Guest) → IsSound g → IsSound (by_lender (preferring preferred) g)
+prefer_true preferred g h = lender_true (preferring preferred) g (λ _. prefers_follow g.process g.seat preferred h.known) h
 
 pub uncount_true : (g : Guest) → IsSound g → IsSound (by_lender uncounting g)
 uncount_true g h = lender_true uncounting g (λ _. uncounts_follow g.process g.seat h.known) h

@@ -14,6 +14,7 @@ pub mod Same
 pub mod Targeting
 pub mod Passing
 pub mod Uncounted
+pub mod Preferring
 pub mod Possible
 pub mod Outcome
 pub mod Events

@@ -5,10 +5,10 @@ use Rattle.std.specs.List.{list_all}
 use Rattle.vb_host.specs.declared.seat.Seat.{Seat}
 use Rattle.vb_host.specs.Lending.{held_at, comes_at, is_first, comes_first, rank_at}
 use Rattle.vb_host.specs.Line.{IsFirst, FirstBelow}
-use Rattle.vb_host.specs.Promises.{ComesBefore}
-use Rattle.vb_host.specs.Seats.{rank, line_number, line_of}
+use Rattle.vb_host.specs.Seats.{is_preferred, line_rank, place_in_line, rank}
+use Rattle.vb_host.specs.Turns.{ComesBefore, IsEarlier}
 use Rattle.vb_host.proofs.Places.{value_there}
-use Rattle.vb_host.proofs.Sound.{and_left, and_right, eq_false, eq_true, lt_false, lt_true}
+use Rattle.vb_host.proofs.Sound.{and_left, and_right, either, eq_false, eq_true, lt_false, lt_true}
 
 -- what holds of each number below a limit, where it holds at the limit too
 rank_below : (xs : List Seat) (least limit : ℕ) → ((k : ℕ) → k < limit → 0 < held_at xs k → least ≤ rank_at xs k) → (0 < held_at xs limit → least ≤ rank_at xs limit)
@@ -74,18 +74,24 @@ come_all : (first : ℕ) (xs : List Seat) → ((i : ℕ) → 0 < held_at xs i �
 come_all first [] h = refl
 come_all first (x ∷ xs) h = and_both (comes_at first x) (list_all (comes_at first) xs) (comes_of x.held first (rank x) (h zero)) (come_all first xs (λ i. h (suc i)))
 
+above : (a b : ℕ) → a + 1 ≤ b → (a ≤ b) × (a < b)
+above a b l = (omega (arith, l), omega (arith, l))
+
 firsts : (first n : ℕ) (xs : List Seat) → comes_first first n xs ≡ true → (i : ℕ) → 0 < held_at xs i → (first ≤ rank_at xs i) × (i < n → first < rank_at xs i)
 firsts first zero xs e i w = (all_come first xs e i w, λ l. absurd (omega (arith, l)))
 firsts first (suc n) [] e i w = absurd (omega arith)
-firsts first (suc n) (x ∷ xs) e zero w = let c = comes_by x.held (first + 1) (rank x) (and_left (comes_at (first + 1) x) _ e) w in (omega (arith, c), λ _. omega (arith, c))
+firsts first (suc n) (x ∷ xs) e zero w = let c = above first (rank x) (comes_by x.held (first + 1) (rank x) (and_left (comes_at (first + 1) x) _ e) w) in (c.0, λ _. c.1)
 firsts first (suc n) (x ∷ xs) e (suc i) w = let r = firsts first n xs (and_right (comes_at (first + 1) x) _ e) i w in (r.0, λ l. r.1 (omega (arith, l)))
+
+next_above : (a b : ℕ) → a < b → a + 1 ≤ b
+next_above a b l = omega (arith, l)
 
 firsts_by : (first n : ℕ) (xs : List Seat) → ((i : ℕ) → 0 < held_at xs i → first ≤ rank_at xs i) → ((i : ℕ) → i < n → 0 < held_at xs i → first < rank_at xs i)
     → comes_first first n xs ≡ true
 firsts_by first zero xs h l = come_all first xs h
 firsts_by first (suc n) [] h l = refl
 firsts_by first (suc n) (x ∷ xs) h l = and_both (comes_at (first + 1) x) (comes_first first n xs)
-    (comes_of x.held (first + 1) (rank x) (λ w. let c : first < rank x = l zero (omega arith) w in omega (arith, c)))
+    (comes_of x.held (first + 1) (rank x) (λ w. next_above first (rank x) (l zero (omega arith) w)))
     (firsts_by first n xs (λ i. h (suc i)) (λ i b. l (suc i) (omega (arith, b))))
 
 pub first_is : (xs : List Seat) (n : ℕ) → is_first xs n ≡ true → IsFirst xs n
@@ -112,25 +118,73 @@ pub one_first : (xs : List Seat) (a b : ℕ) → IsFirst xs a → IsFirst xs b �
 one_first xs a b h k = same_by_order a b (nat_lt a b) (nat_lt b a) refl refl
     (λ l. omega (arith, k.lowest a l h.waits, h.before_all b k.waits)) (λ l. omega (arith, h.lowest b l k.waits, k.before_all a h.waits))
 
--- ---- by line, then by turn
+-- ---- by line, then by the place in it
 
-before_by : (a b t u : ℕ) (x y : Bool) → nat_lt a b ≡ x → nat_lt b a ≡ y → t < 18446744073709551616 → u < 18446744073709551616
-    → 18446744073709551616 * a + t < 18446744073709551616 * b + u → (a < b) ⊎ ((a ≡ b) × (t < u))
-before_by a b t u true y e f i j l = inl (lt_true a b e)
-before_by a b t u false true e f i j l = absurd (omega (arith, lt_true b a f, i, j, l))
-before_by a b t u false false e f i j l = let same : a ≡ b = omega (arith, lt_false a b e, lt_false b a f) in inr (same, omega (arith, same, l))
+pub first_place : (s : Seat) → 0 < s.preferred → place_in_line s ≡ 0
+first_place s h = either (λ (n : ℕ). n ≡ 0) (is_preferred s) 0 (s.turn + 1) (λ _. refl) (λ f. absurd (omega (arith, h, lt_false 0 s.preferred f)))
 
-ranks_by : (a b t u : ℕ) → t < 18446744073709551616 → (a < b) ⊎ ((a ≡ b) × (t < u)) → 18446744073709551616 * a + t < 18446744073709551616 * b + u
-ranks_by a b t u i c = elim c [
+pub turn_place : (s : Seat) → s.preferred ≡ 0 → place_in_line s ≡ s.turn + 1
+turn_place s h = either (λ (n : ℕ). n ≡ s.turn + 1) (is_preferred s) 0 (s.turn + 1) (λ t. absurd (omega (arith, h, lt_true 0 s.preferred t))) (λ _. refl)
+
+pub place_within : (s : Seat) → place_in_line s ≤ s.turn + 1
+place_within s = either (λ (n : ℕ). n ≤ s.turn + 1) (is_preferred s) 0 (s.turn + 1) (λ _. omega arith) (λ _. omega arith)
+
+less_by : (a b c d : ℕ) → a < b → a ≡ c → b ≡ d → c < d
+less_by a b c d l e f = omega (arith, l, e, f)
+
+not_less : (n k : ℕ) → n < k → k ≡ 0 → ⊥
+not_less n k l e = omega (arith, l, e)
+
+preferred_not : (s : Seat) → is_preferred s ≡ false → s.preferred ≡ 0
+preferred_not s e = omega (arith, lt_false 0 s.preferred e)
+
+earlier_by : (s t : Seat) (x y : Bool) → is_preferred s ≡ x → is_preferred t ≡ y → place_in_line s < place_in_line t → IsEarlier s t
+earlier_by s t x true e f l = absurd (not_less (place_in_line s) (place_in_line t) l (first_place t (lt_true 0 t.preferred f)))
+earlier_by s t true false e f l = inl (lt_true 0 s.preferred e, preferred_not t f)
+earlier_by s t false false e f l = let a = preferred_not s e in let b = preferred_not t f in
+    inr (a, b, less_turn s.turn t.turn (less_by (place_in_line s) (place_in_line t) (s.turn + 1) (t.turn + 1) l (turn_place s a) (turn_place t b))) where
+      less_turn : (t u : ℕ) → t + 1 < u + 1 → t < u
+      less_turn t u l = omega (arith, l)
+
+earlier_of : (s t : Seat) → IsEarlier s t → place_in_line s < place_in_line t
+earlier_of s t h = elim h [
+  | inl first ↦ less_by 0 (t.turn + 1) (place_in_line s) (place_in_line t) (omega arith) (sym (first_place s first.0)) (sym (turn_place t first.1))
+  | inr turn ↦ less_by (s.turn + 1) (t.turn + 1) (place_in_line s) (place_in_line t) (omega (arith, turn.2)) (sym (turn_place s turn.0)) (sym (turn_place t turn.1))
+]
+
+before_by : (a b p q : ℕ) (x y : Bool) → nat_lt a b ≡ x → nat_lt b a ≡ y → p < 18446744073709551617 → q < 18446744073709551617
+    → 18446744073709551617 * a + p < 18446744073709551617 * b + q → (a < b) ⊎ ((a ≡ b) × (p < q))
+before_by a b p q true y e f i j l = inl (lt_true a b e)
+before_by a b p q false true e f i j l = absurd (omega (arith, lt_true b a f, i, j, l))
+before_by a b p q false false e f i j l = let same : a ≡ b = omega (arith, lt_false a b e, lt_false b a f) in inr (same, omega (arith, same, l))
+
+ranks_by : (a b p q : ℕ) → p < 18446744073709551617 → (a < b) ⊎ ((a ≡ b) × (p < q)) → 18446744073709551617 * a + p < 18446744073709551617 * b + q
+ranks_by a b p q i c = elim c [
   | inl less ↦ omega (arith, i, less)
   | inr same ↦ omega (arith, same.0, same.1)
 ]
 
+place_below : (s : Seat) → s.turn < 18446744073709551616 → place_in_line s < 18446744073709551617
+place_below s h = below_by (place_in_line s) s.turn (place_within s) h where
+  below_by : (p t : ℕ) → p ≤ t + 1 → t < 18446744073709551616 → p < 18446744073709551617
+  below_by p t l h = omega (arith, l, h)
+
 pub lines_order : (s t : Seat) → s.turn < 18446744073709551616 → t.turn < 18446744073709551616 → (rank s < rank t → ComesBefore s t) × (ComesBefore s t → rank s < rank t)
 lines_order s t i j = (
-  before_by (line_number (line_of s.line)) (line_number (line_of t.line)) s.turn t.turn _ _ refl refl i j,
-  ranks_by (line_number (line_of s.line)) (line_number (line_of t.line)) s.turn t.turn i,
-)
+  λ l. comes_before s t (before_by (line_rank s) (line_rank t) (place_in_line s) (place_in_line t) _ _ refl refl (place_below s i) (place_below t j) l),
+  λ c. ranks_by (line_rank s) (line_rank t) (place_in_line s) (place_in_line t) (place_below s i) (of_places s t c),
+) where
+  comes_before : (s t : Seat) → (line_rank s < line_rank t) ⊎ ((line_rank s ≡ line_rank t) × (place_in_line s < place_in_line t)) → ComesBefore s t
+  comes_before s t h = elim h [
+    | inl less ↦ inl less
+    | inr same ↦ inr (same.0, earlier_by s t (is_preferred s) (is_preferred t) refl refl same.1)
+  ]
+
+  of_places : (s t : Seat) → ComesBefore s t → (line_rank s < line_rank t) ⊎ ((line_rank s ≡ line_rank t) × (place_in_line s < place_in_line t))
+  of_places s t h = elim h [
+    | inl less ↦ inl less
+    | inr same ↦ inr (same.0, earlier_of s t same.1)
+  ]
 
 -- ---- the test as code makes it
 

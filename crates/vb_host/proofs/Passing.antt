@@ -1,19 +1,19 @@
 -- While a guest waits, none that comes after it is lent more.
-use Rattle.std.proofs.Common.{◌≡◌, ◌≢◌, ℕ, zero, suc, ◌-◌, ◌<◌, ◌≤◌, inl, inr, Bool, true, false, ◌==◌, List, [], ◌∷◌, ◌&&◌, nat_lt, sum_by, if◌then◌else◌, min, refl, subst, sym, ap, ◌∙◌, arith}
+use Rattle.std.proofs.Common.{◌≡◌, ◌≢◌, ℕ, zero, suc, ◌-◌, ◌<◌, ◌≤◌, inl, inr, Bool, true, false, ◌==◌, List, [], ◌∷◌, ◌&&◌, nat_lt, map, sum_by, if◌then◌else◌, min, refl, subst, sym, ap, ◌∙◌, arith}
 use Rattle.std.proofs.lemmas.List.Sums.{sum_by-cons}
 use Rattle.vb_host.specs.declared.event.Event.{Event}
-use Rattle.vb_host.specs.declared.event.Event.TheVariants.{Hears, Grants, Overdraws, Wants, Targets, Arrives, Joins, TakesOver, Uncounts, Budget}
+use Rattle.vb_host.specs.declared.event.Event.TheVariants.{Hears, Grants, Overdraws, Wants, Targets, Arrives, Joins, TakesOver, Uncounts, Budget, Prefers}
 use Rattle.vb_host.specs.declared.seat.Seat.{Seat}
 use Rattle.vb_host.specs.Lending.{Lending, all_targeted, each_at, happens, held_at, may_grant, may_join_at, next_turn, pages_at, room, test_at}
-use Rattle.vb_host.specs.Lending.{value_at, waited}
+use Rattle.vb_host.specs.Lending.{lent_at, value_at, waited}
 use Rattle.vb_host.specs.Line.{ByGrants, Granted, GrantsNone, IsFirst, IsStep, Stays}
-use Rattle.vb_host.specs.Promises.{IsAfter, IsNoLoan, lent_at}
 use Rattle.vb_host.specs.Seats.{asked, covers, granting, grown, heard, lent, newcomer, possible_target, queued, rank, reclaimed, retargeted}
-use Rattle.vb_host.specs.Seats.{room_after, taken_over, uncounting, waits, starting}
+use Rattle.vb_host.specs.Seats.{preferring, room_after, taken_over, uncounting, waits, starting}
+use Rattle.vb_host.specs.Turns.{IsAfter, IsNoLoan}
 use Rattle.vb_host.proofs.Changes.{covers_waits}
 use Rattle.vb_host.proofs.Grants.{in_turn, next_may}
 use Rattle.vb_host.proofs.LentBy.{covered_lends, hears_lend, possible_reclaims, retargets}
-use Rattle.vb_host.proofs.Places.{value_elsewhere, value_less, value_within}
+use Rattle.vb_host.proofs.Places.{value_elsewhere, value_less, value_map, value_same, value_within}
 use Rattle.vb_host.proofs.Sound.{either, eq_false, eq_true}
 
 -- ---- a target where there is no room
@@ -110,7 +110,7 @@ covered_at zero (x ∷ xs) e = covered_lends x e
 covered_at (suc n) (x ∷ xs) e = covered_at n xs e
 
 -- the first that waits doesn't come after another that waits
-not_after : (xs : List Seat) (i j : ℕ) → 0 < held_at xs i → IsAfter xs i j → IsFirst xs j → ⊥
+pub not_after : (xs : List Seat) (i j : ℕ) → 0 < held_at xs i → IsAfter xs i j → IsFirst xs j → ⊥
 not_after xs i j w a f = elim (a f.waits) [
   | inl less ↦ omega (arith, less, f.before_all i w)
   | inr same ↦ omega (arith, same.0, f.lowest i same.1 w)
@@ -136,7 +136,7 @@ still_after l n i j e d a false f w = let r = granted_value rank l n i d in let 
       | inr same ↦ inr (omega (arith, r, t, same.0), same.1)
     ]
 
-lends_no_more_by : (l : Lending) (n i j : ℕ) → 0 < held_at l.seats i → may_grant l n ≡ true → IsAfter l.seats i j → (b : Bool) → (j == n) ≡ b → lent_at (happens l (Grants n)).seats j ≤ lent_at l.seats j
+pub lends_no_more_by : (l : Lending) (n i j : ℕ) → 0 < held_at l.seats i → may_grant l n ≡ true → IsAfter l.seats i j → (b : Bool) → (j == n) ≡ b → lent_at (happens l (Grants n)).seats j ≤ lent_at l.seats j
 lends_no_more_by l n i j w e a true f = let same = eq_true j n f in
     subst (λ (k : ℕ). lent_at (happens l (Grants k)).seats j ≤ lent_at l.seats j) same (granted_lends l i j w a (subst (λ (k : ℕ). may_grant l k ≡ true) (sym same) e))
 lends_no_more_by l n i j w e a false f = omega (arith, granted_value lent l n j (eq_false j n f))
@@ -187,6 +187,7 @@ events_lend l (Joins n m) j h = either (λ (xs : List Seat). lent_at xs j ≤ le
 events_lend l (TakesOver n pages r) j h = omega (arith, value_elsewhere lent n (λ _. queued (next_turn l.seats) (taken_over pages r)) l.seats j h)
 events_lend l (Uncounts n) j h = omega (arith, value_elsewhere lent n uncounting l.seats j h)
 events_lend l (Budget frames) j h = omega arith
+events_lend l (Prefers n) j h = omega (arith, value_same lent n (preferring 1) (map (preferring 0) l.seats) j (λ _. refl), value_map lent (preferring 0) l.seats j (λ _. refl))
 
 -- ---- a step leaves nothing to grant
 

@@ -1,18 +1,19 @@
 -- A worked run in which each step occurs: two guests of 4 pages on 6 frames, with an overdraft of 2, and a place for memory that is added; with the
 -- premises of the laws, where they hold and where they don't.
-use Rattle.std.proofs.Common.{◌≡◌, ℕ, ◌≤◌, ◌<◌, ◌⊎◌, inl, inr, true, false, List, [], ◌∷◌, map, get_or, refl, arith}
+use Rattle.std.proofs.Common.{◌≡◌, ℕ, ◌≤◌, ◌<◌, ◌⊎◌, inl, inr, Bool, true, false, List, [], ◌∷◌, map, get_or, refl, arith}
 use Rattle.std.specs.List.{AllByRecursion}
 use Rattle.vb_host.specs.declared.event.Event.TheVariants.{Grants as EventGrants, Overdraws as EventOverdraws, Targets as EventTargets}
 use Rattle.vb_host.specs.declared.event.Event.TheVariants.{Joins as EventJoins, Uncounts as EventUncounts, Wants as EventWants}
-use Rattle.vb_host.specs.declared.event.Event.TheVariants.{Arrives as EventArrives, TakesOver as EventTakesOver}
+use Rattle.vb_host.specs.declared.event.Event.TheVariants.{Arrives as EventArrives, Prefers as EventPrefers, TakesOver as EventTakesOver}
 use Rattle.vb_host.specs.declared.report.Report.{Report}
 use Rattle.vb_host.specs.declared.seat.Seat.{Seat}
 use Rattle.vb_host.specs.Lending.{may_grant, may_overdraw}
-use Rattle.vb_host.specs.Promises.{IsAfter, IsNoLoan, IsOrdinary, IsStillThere, IsTowardTarget, NeverLowers, PaysBack, used, all_lent, all_used}
+use Rattle.vb_host.specs.Promises.{IsOrdinary, IsStillThere, IsTowardTarget, NeverLowers, PaysBack, used, all_lent, all_used}
 use Rattle.vb_host.specs.Seats.{heard, lent, newcomer, asked, waits}
 use Rattle.vb_host.specs.System.{Arrives, Budget, Confirms, Does, Drops, Fails, Forgets, Gives, Grants, Guest, Hears, Holds, Host, Joins, Lands}
 use Rattle.vb_host.specs.System.{Limits, Obeys, Overdraws, Reads, Reports, Sends, Shrinks, Step, TakesOver, Targets, Uncounts, Wants, arriving}
-use Rattle.vb_host.specs.System.{lending, opened, seats, snapshot, through, Deviates, Process}
+use Rattle.vb_host.specs.System.{lending, opened, seats, snapshot, through, Deviates, Prefers, Process}
+use Rattle.vb_host.specs.Turns.{IsAfter, IsBefore, IsNoLoan, IsNoPreference}
 
 -- The first guest is let in once its limit is sure, and has the target 0.
 abbrev arrives : List Step
@@ -166,6 +167,58 @@ still_there = (tt, λ e. absurd (omega (arith, e)), λ e. absurd (omega (arith, 
 not_there : (IsStillThere 1 (EventArrives 1 4 0) → ⊥) × (IsStillThere 2 (EventJoins 1 2) → ⊥) × ((r : Report) → IsStillThere 1 (EventTakesOver 1 4 r) → ⊥)
 not_there = (λ l. l refl, λ l. l refl, λ _ l. l refl)
 
+-- ---- two guests of 6 pages on 5 frames, each let in with 2 of them, each of which wants a page more and then another one
+
+abbrev let_in : ℕ → List Step
+let_in n = Arrives n 6 4 ∷ Reports n ∷ Hears n 0 ∷ Grants n ∷ Targets n ∷ Limits n ∷ Confirms n ∷ Sends n ∷ Obeys n 1 ∷ Obeys n 0 ∷ Does n Reads ∷ Reports n ∷ Hears n 0 ∷ []
+
+abbrev requests : ℕ → List Step
+requests n = Does n (Holds 0 1) ∷ Reports n ∷ Hears n 0 ∷ []
+
+-- its request is granted, and it has another one
+abbrev proceeds : ℕ → List Step
+proceeds n = Grants n ∷ Limits n ∷ Confirms n ∷ Sends n ∷ Obeys n 1 ∷ Reports n ∷ Hears n 0 ∷ Does n (Holds 0 1) ∷ Reports n ∷ Hears n 0 ∷ []
+
+abbrev both_ask : Host
+both_ask = through (requests 1) (through (requests 0) (through (let_in 1) (through (let_in 0) (opened 5 0 (6 ∷ 6 ∷ [])))))
+
+-- the second, which has the later turn, is preferred; each frame that becomes free is for it
+abbrev prefers : Host
+prefers = through (Prefers 1 ∷ []) both_ask
+
+abbrev after_one : Host
+after_one = through (proceeds 1) prefers
+
+abbrev after_two : Host
+after_two = through (proceeds 1) (through (Budget 6 ∷ []) after_one)
+
+abbrev after_three : Host
+after_three = through (proceeds 1) (through (Budget 7 ∷ []) after_two)
+
+-- who may be granted, of both
+abbrev may_each : Host → List Bool
+may_each h = map (may_grant (lending h)) (0 ∷ 1 ∷ [])
+
+one_at_a_time : (map lends_each (both_ask ∷ after_one ∷ after_two ∷ after_three ∷ []) ≡ (2 ∷ 2 ∷ []) ∷ (2 ∷ 3 ∷ []) ∷ (2 ∷ 4 ∷ []) ∷ (2 ∷ 5 ∷ []) ∷ [])
+    × (map uses (both_ask ∷ after_one ∷ after_two ∷ after_three ∷ []) ≡ (2 ∷ 2 ∷ []) ∷ (2 ∷ 3 ∷ []) ∷ (2 ∷ 4 ∷ []) ∷ (2 ∷ 5 ∷ []) ∷ [])
+    × (map may_each (both_ask ∷ prefers ∷ after_one ∷ through (Budget 6 ∷ []) after_one ∷ []) ≡ (true ∷ false ∷ []) ∷ (false ∷ true ∷ []) ∷ (false ∷ false ∷ []) ∷ (false ∷ true ∷ []) ∷ [])
+    × (map (λ s. waits s) (seats after_three.guests) ≡ true ∷ true ∷ [])
+one_at_a_time = (refl, refl, refl, refl)
+
+-- once another is preferred, or none is, that one is granted next, by its turn
+another_next : map may_each (through (Prefers 0 ∷ Budget 8 ∷ []) after_three ∷ through (Prefers 2 ∷ Budget 8 ∷ []) after_three ∷ through (Budget 8 ∷ []) after_three ∷ [])
+    ≡ (true ∷ false ∷ []) ∷ (true ∷ false ∷ []) ∷ (false ∷ true ∷ []) ∷ []
+another_next = refl
+
+before_it : IsBefore (seats prefers.guests) 1 0
+before_it = record { preferred = omega arith; other = refl; line = omega arith }
+
+not_before_it : (IsBefore (seats prefers.guests) 0 1 → ⊥) × (IsBefore (seats both_ask.guests) 1 0 → ⊥)
+not_before_it = (λ b. let e : 0 < 0 = b.preferred in absurd (omega (arith, e)), λ b. let e : 0 < 0 = b.preferred in absurd (omega (arith, e)))
+
+no_preference : IsNoPreference (EventGrants 0) × (IsNoPreference (EventPrefers 0) → ⊥)
+no_preference = (tt, λ p. p)
+
 -- ---- a guest that starts with 3 of its 4 pages in its balloon: it is let in where one frame is free, and keeps that target
 
 abbrev starts : Host
@@ -238,7 +291,7 @@ after_both = (λ _. inr (refl, omega arith), λ _. inl (omega arith), λ a. not_
     | inr same ↦ omega (arith, same.1)
   ]
 
-  not_before : (r : ℕ) → 6 < r → (r < 6) ⊎ ((r ≡ 6) × (0 < 2)) → ⊥
+  not_before : (r : ℕ) → 7 < r → (r < 7) ⊎ ((r ≡ 7) × (0 < 2)) → ⊥
   not_before r l e = elim e [
     | inl less ↦ omega (arith, l, less)
     | inr same ↦ omega (arith, l, same.0)

@@ -1,12 +1,12 @@
 -- The code's lender is the one of the system.
-use Rattle.std.proofs.Common.{◌≡◌, ℕ, zero, suc, ◌+◌, ◌<◌, Bool, true, false, not, ◌&&◌, ◌==◌, nat_lt, if◌then◌else◌, List, [], ◌∷◌, length, Option, Some, refl, ap, sym, ◌∙◌, arith}
+use Rattle.std.proofs.Common.{◌≡◌, ℕ, zero, suc, ◌+◌, ◌<◌, Bool, true, false, not, ◌&&◌, ◌==◌, nat_lt, if◌then◌else◌, List, [], ◌∷◌, length, map, Option, Some, refl, ap, sym, ◌∙◌, arith}
 use Rattle.std.proofs.lemmas.Bool.Decides.{nat_tests}
 use Rattle.std.specs.Prelude.{slice_get}
 use Rattle.vb_host.specs.declared.report.Report.{Report}
 use Rattle.vb_host.specs.declared.seat.Seat.{Seat}
-use Rattle.vb_host.specs.Lending.{value_at, pages_at, each_at, may_grant, may_overdraw, next_turn, room}
+use Rattle.vb_host.specs.Lending.{value_at, pages_at, each_at, may_grant, may_overdraw, next_turn, preferring_at, room}
 use Rattle.vb_host.specs.Promises.{IsTheLender, IsKnownAt}
-use Rattle.vb_host.specs.Seats.{reclaimed, grown, granting, heard, newcomer, taken_over, uncounting, queued, retargeted, starting}
+use Rattle.vb_host.specs.Seats.{reclaimed, grown, granting, heard, newcomer, preferring, taken_over, uncounting, queued, retargeted, starting}
 use Rattle.vb_host.specs.System.{Guest, Host, seats, lending, view, viewed, changed, by_lender, arriving, taken_up, snapshot, hearing, report_at}
 use Rattle.vb_host.specs.System.{joined, may_join, joining}
 use Rattle.vb_host.proofs.Lists.{some_is}
@@ -84,6 +84,24 @@ joined_seats h n m x k e f =
     (seen_at n (joined x) (grown x.seat.pages) h.guests (λ g l. joined_view x g g.known refl (k g l))
     ∙ ap (λ (p : ℕ). each_at n (grown p) (seats h.guests)) (sym (value_seen (λ s. s.pages) h.guests m x e ∙ ap (λ (b : Bool). (viewed b x.seat).pages) f)))
 
+-- ---- one is preferred
+
+known_after : (n : ℕ) (xs : List Guest) → ((g : Guest) → slice_get xs n ≡ Some g → g.known ≡ true) → (g : Guest) → slice_get (map (by_lender (preferring 0)) xs) n ≡ Some g → g.known ≡ true
+known_after n [] k g e = absurd (cc)
+known_after zero (x ∷ xs) k g e = ap (λ (y : Guest). y.known) (sym (some_is (by_lender (preferring 0) x) g e)) ∙ k x refl
+known_after (suc n) (x ∷ xs) k g e = known_after n xs k g e
+
+none_seen : (xs : List Guest) → seats (map (by_lender (preferring 0)) xs) ≡ map (preferring 0) (seats xs)
+none_seen [] = refl
+none_seen (x ∷ xs) = ap (λ (s : Seat). s ∷ seats (map (by_lender (preferring 0)) xs)) (none_of x.known x.seat) ∙ ap (λ (ss : List Seat). preferring 0 (view x) ∷ ss) (none_seen xs) where
+  none_of : (b : Bool) (s : Seat) → viewed b (changed b (preferring 0) s) ≡ preferring 0 (viewed b s)
+  none_of true s = refl
+  none_of false s = refl
+
+prefers_seats : (h : Host) (n : ℕ) → IsKnownAt h n → seats (each_at n (by_lender (preferring 1)) (map (by_lender (preferring 0)) h.guests)) ≡ preferring_at n (seats h.guests)
+prefers_seats h n k = seen_at n (by_lender (preferring 1)) (preferring 1) (map (by_lender (preferring 0)) h.guests)
+    (λ g e. by_known g.known (preferring 1) g.seat (known_after n h.guests k g e)) ∙ ap (λ (ss : List Seat). each_at n (preferring 1) ss) (none_seen h.guests)
+
 pub is_the_lender : (h : Host) (n m : ℕ) → IsTheLender h n m
 is_the_lender h n m = record {
   hears = λ k i g r e f. with_seats h _ _
@@ -91,6 +109,7 @@ is_the_lender h n m = record {
       (λ x l. heard_by (next_turn (seats h.guests)) i x g r (some_is x g (sym l ∙ e)) f (k x l)));
   grants = λ k. either_lends (may_grant (lending h) n) h _ _ refl refl (lender_at h n granting k);
   overdraws = λ k. either_lends (may_overdraw (lending h) n) h _ _ refl refl (lender_at h n granting k);
+  prefers = λ k. with_seats h _ _ (prefers_seats h n k);
   wants = λ k pages. with_seats h _ _ (lender_at h n (λ s. record s { wanted = pages }) k);
   targets = λ k. with_seats h _ _ (lender_at h n (retargeted (room (lending h))) k);
   uncounts = λ k. with_seats h _ _ (lender_at h n uncounting k);

@@ -5,10 +5,10 @@ use Rattle.std.specs.List.{AllByRecursion}
 use Rattle.vb_host.specs.declared.report.Report.{Report}
 use Rattle.vb_host.specs.declared.report.WaitingLine.TheVariants.{Deflates, Resets, Arrivals}
 use Rattle.vb_host.specs.declared.seat.Seat.{Seat}
-use Rattle.vb_host.specs.Lending.{may_grant, is_first, all_targeted, next_turn}
+use Rattle.vb_host.specs.Lending.{may_grant, is_first, all_targeted, next_turn, preferring_at}
 use Rattle.vb_host.specs.Promises.{counts_nothing, keeps, used, IsQuiet, all_keep, HasGiven}
 use Rattle.vb_host.specs.Seats.{lent, asked, waits, heard, possible_target, targeted, newcomer, uncounting, line_of, due_grant, due_target, is_done}
-use Rattle.vb_host.specs.Seats.{is_uncounted, line_number, rank, retargeted, taken_over}
+use Rattle.vb_host.specs.Seats.{is_preferred, is_uncounted, line_number, preferring, rank, retargeted, taken_over}
 use Rattle.vb_host.specs.System.{opened, through, seats, Gives, Reads, Host, lending, Step, Does, Reports, Obeys, Hears, Grants, Wants, Sends, Limits}
 use Rattle.vb_host.specs.System.{Lands, Confirms, Joins, TakesOver, Forgets, Process, Shrinks, may_shrink, Targets}
 
@@ -28,6 +28,7 @@ seat ballooned least told number = record {
   removed = 0;
   turn = 0;
   uncounted = 0;
+  preferred = 0;
 }
 
 -- what its process reports: its balloon, the target that was read and the number of the last one, and a deflate
@@ -122,7 +123,7 @@ lines : map line_of (0 ∷ 1 ∷ 2 ∷ 4294967295 ∷ []) ≡ Deflates ∷ Reset
 lines = refl
 
 ranks : (map line_number (Deflates ∷ Resets ∷ Arrivals ∷ []) ≡ 0 ∷ 1 ∷ 2 ∷ [])
-    × (map rank (waiting 0 7 ∷ waiting 1 7 ∷ waiting 2 7 ∷ []) ≡ 7 ∷ 18446744073709551623 ∷ 36893488147419103239 ∷ [])
+    × (map rank (waiting 0 7 ∷ waiting 1 7 ∷ waiting 2 7 ∷ []) ≡ 8 ∷ 18446744073709551625 ∷ 36893488147419103242 ∷ [])
 ranks = (refl, refl)
 
 turns : map next_turn ([] ∷ (waiting 0 7 ∷ waiting 1 9 ∷ waiting 2 8 ∷ []) ∷ (waiting 0 18446744073709551614 ∷ []) ∷ (waiting 0 18446744073709551615 ∷ []) ∷ [])
@@ -141,6 +142,18 @@ resets_first = refl
 lowest_first : (first_of (seat 30 25 30 4 ∷ waiting 2 5 ∷ waiting 9 5 ∷ waiting 2 6 ∷ []) ≡ false ∷ true ∷ false ∷ false ∷ [])
     × (first_of (seat 30 25 30 4 ∷ seat 30 25 30 4 ∷ []) ≡ false ∷ false ∷ false ∷ false ∷ [])
 lowest_first = (refl, refl)
+
+-- a guest that is preferred comes before all of its line, also before one that has no turn, and after those of earlier lines
+preferred_first : (first_of (waiting 1 0 ∷ preferring 1 (waiting 1 9) ∷ waiting 1 2 ∷ waiting 2 1 ∷ []) ≡ false ∷ true ∷ false ∷ false ∷ [])
+    × (first_of (waiting 1 2 ∷ preferring 1 (waiting 1 9) ∷ waiting 0 18446744073709551615 ∷ []) ≡ false ∷ false ∷ true ∷ false ∷ [])
+    × (map rank (preferring 1 (waiting 0 7) ∷ preferring 3 (waiting 1 7) ∷ waiting 1 0 ∷ []) ≡ 0 ∷ 18446744073709551617 ∷ 18446744073709551618 ∷ [])
+preferred_first = (refl, refl, refl)
+
+-- one is preferred, or none; nothing else changes
+prefers_one : (map (λ n. map (λ s. s.preferred) (preferring_at n (waiting 0 1 ∷ preferring 7 (waiting 0 2) ∷ waiting 0 3 ∷ []))) (0 ∷ 2 ∷ 3 ∷ []) ≡ (1 ∷ 0 ∷ 0 ∷ []) ∷ (0 ∷ 0 ∷ 1 ∷ []) ∷ (0 ∷ 0 ∷ 0 ∷ []) ∷ [])
+    × (preferring_at 0 (waiting 0 1 ∷ preferring 7 (waiting 0 2) ∷ []) ≡ preferring 1 (waiting 0 1) ∷ waiting 0 2 ∷ [])
+    × (map is_preferred (newcomer 60 ∷ taken_over 60 (report 30 25 3 5 3) ∷ preferring 2 (newcomer 60) ∷ []) ≡ false ∷ false ∷ true ∷ [])
+prefers_one = (refl, refl, refl)
 
 -- until a granted deflate is let go, its pages are in the balloon that is reported, and don't count
 counts_without : heard 9 (report 30 25 3 5 3) (record (seat 25 25 30 4) { deflates = 3; granted = 3 }) ≡ record (seat 25 25 30 4) { deflates = 3; granted = 3 }

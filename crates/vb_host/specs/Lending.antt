@@ -1,16 +1,16 @@
 -- A lender of many guests: what may happen to it, and what it decides.
 use Rattle.std.specs.Prelude.{length, not, ◌==◌, ℕ, zero, suc, ◌+◌, ◌-◌, Bool, true, false, ◌&&◌}
 use Rattle.std.specs.Prelude.{◌||◌, nat_lt, nat_le}
-use Rattle.std.specs.Prelude.{if◌then◌else◌, max, min, List, [], ◌∷◌, sum_by}
+use Rattle.std.specs.Prelude.{if◌then◌else◌, max, min, List, [], ◌∷◌, map, sum_by}
 use Rattle.std.specs.List.{list_all}
 use Rattle.vb_host.specs.declared.event.Event.{Event}
 use Rattle.vb_host.specs.declared.event.Event.TheVariants.{Hears, Grants, Overdraws, Wants, Targets}
 use Rattle.vb_host.specs.declared.event.Event.TheVariants.{Arrives, Joins, TakesOver, Uncounts}
-use Rattle.vb_host.specs.declared.event.Event.TheVariants.{Budget}
+use Rattle.vb_host.specs.declared.event.Event.TheVariants.{Budget, Prefers}
 use Rattle.vb_host.specs.declared.seat.Seat.{Seat}
 use Rattle.vb_host.specs.Seats.{reclaimed, grown, lent, asked, waits, covers, granting, heard}
 use Rattle.vb_host.specs.Seats.{is_done, newcomer, taken_over, uncounting, queued, rank, retargeted}
-use Rattle.vb_host.specs.Seats.{room_after, starting}
+use Rattle.vb_host.specs.Seats.{room_after, starting, line_rank, preferring}
 
 -- How many frames a host has to lend; how many beyond them, where the guests can't go on otherwise;
 -- and what its lender knows of each guest.
@@ -80,6 +80,16 @@ comes_first first (suc n) (s ∷ seats) = comes_at (first + 1) s && comes_first 
 abbrev pub is_first : List Seat → ℕ → Bool
 is_first seats n = nat_lt 0 (held_at seats n) && comes_first (rank_at seats n) n seats
 
+abbrev pub line_at : List Seat → ℕ → ℕ
+line_at seats n = value_at line_rank seats n
+
+abbrev pub preferred_at : List Seat → ℕ → ℕ
+preferred_at seats n = value_at (λ s. s.preferred) seats n
+
+-- of all guests just guest n is preferred
+abbrev pub preferring_at : ℕ → List Seat → List Seat
+preferring_at n seats = each_at n (preferring 1) (map (preferring 0) seats)
+
 -- A deflate is granted that takes nothing which isn't lent already, and the first that waits where
 -- there is room.
 abbrev pub may_grant : Lending → ℕ → Bool
@@ -94,6 +104,9 @@ abbrev pub may_overdraw : Lending → ℕ → Bool
 may_overdraw l n =
     is_first l.seats n && list_all is_done l.seats
     && nat_le (owed l.seats + value_at asked l.seats n) (l.frames + l.overdraft)
+
+abbrev pub lent_at : List Seat → ℕ → ℕ
+lent_at seats n = value_at lent seats n
 
 -- The memory at a place may join a guest, where none of it has to stay in a balloon, and both have
 -- fewer than 2^32 pages together.
@@ -129,6 +142,7 @@ happens l (TakesOver n pages r) =
     record l { seats = each_at n (λ _. queued (next_turn l.seats) (taken_over pages r)) l.seats }
 happens l (Uncounts n) = record l { seats = each_at n uncounting l.seats }
 happens l (Budget frames) = record l { frames = frames }
+happens l (Prefers n) = record l { seats = preferring_at n l.seats }
 
 -- ---- all targets, in the order of the places, with the room that those before leave
 

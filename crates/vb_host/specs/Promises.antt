@@ -13,17 +13,18 @@ use Rattle.vb_host.specs.declared.event.Event.TheVariants.{TakesOver as EventTak
 use Rattle.vb_host.specs.declared.event.Event.TheVariants.{Joins as EventJoins}
 use Rattle.vb_host.specs.declared.event.Event.TheVariants.{Uncounts as EventUncounts}
 use Rattle.vb_host.specs.declared.event.Event.TheVariants.{Budget as EventBudget}
+use Rattle.vb_host.specs.declared.event.Event.TheVariants.{Prefers as EventPrefers}
 use Rattle.vb_host.specs.declared.report.Report.{Report}
 use Rattle.vb_host.specs.declared.seat.Seat.{Seat}
-use Rattle.vb_host.specs.Lending.{pages_at, turn_at, next_turn, test_at, value_at, Lending, owed}
-use Rattle.vb_host.specs.Lending.{waited, is_first, may_grant, happens, held_at, rank_at, room, run}
-use Rattle.vb_host.specs.Line.{GrantsNone, IsFirst, IsStep}
+use Rattle.vb_host.specs.Lending.{pages_at, test_at, Lending, owed, lent_at}
+use Rattle.vb_host.specs.Lending.{waited, is_first, may_grant, happens, held_at, room, run}
+use Rattle.vb_host.specs.Line.{GrantsNone, IsStep}
 use Rattle.vb_host.specs.Seats.{lent, waits, granting, heard, possible_target, covers, taken_over}
-use Rattle.vb_host.specs.Seats.{asked, due_target, due_grant, queued, line_number, line_of, rank}
+use Rattle.vb_host.specs.Seats.{due_target, due_grant, queued}
 use Rattle.vb_host.specs.Seats.{is_uncounted}
 use Rattle.vb_host.specs.System.{Process, Guest, Host, Step, Hears, Grants, Overdraws, Wants}
 use Rattle.vb_host.specs.System.{Uncounts, Arrives, Joins, TakesOver, seats, Budget, snapshot}
-use Rattle.vb_host.specs.System.{through, opened, lending, goes, report_at, Targets}
+use Rattle.vb_host.specs.System.{through, opened, lending, goes, report_at, Targets, Prefers}
 
 -- ---- 1. the budget
 
@@ -189,62 +190,7 @@ NobodyWaits =
     → slice_get (through steps (opened frames overdraft sizes)).guests n ≡ Some g
     → g.process.held ≡ 0
 
--- ---- who is granted, and the targets of those that don't wait
-
--- What is granted lends nothing, or is what the first that waits asks for, with room for it.
-abbrev pub GrantsInTurn : Type 0
-GrantsInTurn =
-    (l : Lending) (n : ℕ) → may_grant l n ≡ true → (test_at covers l.seats n ≡ true)
-    ⊎ (IsFirst l.seats n × (owed l.seats + value_at asked l.seats n ≤ l.frames))
-
--- A guest that waits from now on comes after all that wait in its line (until 2^64 - 1 turns were
--- given).
-abbrev pub ComesLast : Type 0
-ComesLast =
-    (seats : List Seat) (n : ℕ) → turn_at seats n < next_turn seats
-    ⊎ (next_turn seats ≡ 18446744073709551615)
-
--- A guest ranks before another just where its line comes before, or both are in one line and its
--- turn comes before.
-abbrev pub ComesBefore : Seat → Seat → Type 0
-ComesBefore s t = (line_number (line_of s.line) < line_number (line_of t.line))
-    ⊎ ((line_number (line_of s.line) ≡ line_number (line_of t.line)) × (s.turn < t.turn))
-
-abbrev pub LinesOrder : Type 0
-LinesOrder =
-    (s t : Seat) → s.turn < 18446744073709551616 → t.turn < 18446744073709551616
-    → (rank s < rank t → ComesBefore s t) × (ComesBefore s t → rank s < rank t)
-
--- guest j comes after guest i, if it waits
-abbrev pub IsAfter : List Seat → ℕ → ℕ → Type 0
-IsAfter seats i j = 0 < held_at seats j
-    → (rank_at seats i < rank_at seats j) ⊎ ((rank_at seats i ≡ rank_at seats j) × (i < j))
-
-abbrev pub lent_at : List Seat → ℕ → ℕ
-lent_at seats n = value_at lent seats n
-
--- Where guest i still waits after a step, no guest that doesn't wait once its event has happened,
--- or comes after guest i, is lent more by that step; in whatever state, for any events and budgets.
-abbrev pub NoneIsPassed : Type 0
-NoneIsPassed =
-    (l m : Lending) (e : Event) (i j : ℕ) → IsStep l e m → 0 < held_at m.seats i
-    → IsAfter (happens l e).seats i j → lent_at m.seats j ≤ lent_at (happens l e).seats j
-
--- Nor does the event itself lend anything to guest j: it is no grant and no target, it doesn't take
--- over guest j, or have memory join it, and its balloon counts.
-abbrev pub IsNoLoan : ℕ → Event → Type 0
-IsNoLoan j (EventGrants n) = ⊥
-IsNoLoan j (EventOverdraws n) = ⊥
-IsNoLoan j (EventTargets n) = ⊥
-IsNoLoan j (EventJoins n m) = j ≢ n
-IsNoLoan j (EventTakesOver n pages r) = j ≢ n
-IsNoLoan j (EventUncounts n) = j ≢ n
-IsNoLoan j _ = ⊤
-
-abbrev pub EventsLendNothing : Type 0
-EventsLendNothing =
-    (l : Lending) (e : Event) (j : ℕ) → IsNoLoan j e
-    → lent_at (happens l e).seats j ≤ lent_at l.seats j
+-- ---- steps, and the targets of those that don't wait
 
 -- A step leaves nothing to grant, its targets included.
 abbrev pub StepsSettle : Type 0
@@ -344,6 +290,8 @@ pub record IsTheLender (h : Host) (n m : ℕ) : Type 0 where
       → lending (goes h (Grants n)) ≡ happens (lending h) (EventGrants n)
   pub overdraws : IsKnownAt h n
       → lending (goes h (Overdraws n)) ≡ happens (lending h) (EventOverdraws n)
+  pub prefers : IsKnownAt h n
+      → lending (goes h (Prefers n)) ≡ happens (lending h) (EventPrefers n)
   pub wants : IsKnownAt h n → (pages : ℕ)
       → lending (goes h (Wants n pages)) ≡ happens (lending h) (EventWants n pages)
   pub targets : IsKnownAt h n

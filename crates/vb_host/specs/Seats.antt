@@ -31,10 +31,25 @@ line_number Arrivals = 2
 abbrev pub line_of : ℕ → WaitingLine
 line_of number = if number == 0 then Deflates else if number == 1 then Resets else Arrivals
 
--- The rank of a guest among those that wait: in each line its turn, after all turns of the lines
+abbrev pub line_rank : Seat → ℕ
+line_rank s = line_number (line_of s.line)
+
+-- it comes before all others of its line
+abbrev pub is_preferred : Seat → Bool
+is_preferred s = nat_lt 0 s.preferred
+
+-- In a line those that are preferred come first, and then the others by their turns.
+abbrev pub place_in_line : Seat → ℕ
+place_in_line s = if is_preferred s then 0 else s.turn + 1
+
+-- The rank of a guest among those that wait: its place in its line, after all places of the lines
 -- before.
 abbrev pub rank : Seat → ℕ
-rank s = 18446744073709551616 * line_number (line_of s.line) + s.turn
+rank s = 18446744073709551617 * line_rank s + place_in_line s
+
+-- it is preferred from now on, or it isn't
+abbrev pub preferring : ℕ → Seat → Seat
+preferring preferred s = record s { preferred = preferred }
 
 -- ---- a deflate that its process holds back
 
@@ -180,6 +195,7 @@ newcomer pages =
       removed = 0;
       turn = 0;
       uncounted = 0;
+      preferred = 0;
     }
 
 -- a guest that arrives with this many pages in its balloon, which stay there
@@ -205,6 +221,7 @@ taking_over granted pages r =
       removed = r.removed;
       turn = 0;
       uncounted = 0;
+      preferred = 0;
     }
 
 abbrev pub taken_over : ℕ → Report → Seat

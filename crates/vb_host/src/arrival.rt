@@ -24,6 +24,7 @@ impl Seat {
             removed: 0,
             turn: 0,
             uncounted: 0,
+            preferred: 0,
         }
     }
 
@@ -59,6 +60,7 @@ impl Seat {
             removed: report.removed,
             turn: 0,
             uncounted: 0,
+            preferred: 0,
         }
     }
 

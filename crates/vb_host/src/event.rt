@@ -58,4 +58,9 @@ pub enum Event {
     Budget {
         frames: u32,
     },
+    /// Of all guests just this one is preferred from now on: where it waits, it comes before all
+    /// others of its line. None is, where there is no such place.
+    Prefers {
+        guest: usize,
+    },
 }

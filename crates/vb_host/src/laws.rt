@@ -2,10 +2,13 @@
 
 ghost use Rattle.vb_host.specs.Promises.{BudgetHolds, LimitsHold, TowardNeverWaits, NeverStuck};
 ghost use Rattle.vb_host.specs.Promises.{TowardNeverWaitsLater, NobodyWaits, IsTheLender};
-ghost use Rattle.vb_host.specs.Promises.{NoneIsPassed, EventsLendNothing, StepsSettle};
+ghost use Rattle.vb_host.specs.Promises.{StepsSettle};
 ghost use Rattle.vb_host.specs.Promises.{TargetsArePossible, OneOutcome, StepsAreEvents};
 ghost use Rattle.vb_host.specs.Promises.{LeavesRoom, NeverBelowWanted, NeverMore, IsPaidBack};
-ghost use Rattle.vb_host.specs.Promises.{ReportsTell, GrantsInTurn, ComesLast, LinesOrder};
+ghost use Rattle.vb_host.specs.Promises.{ReportsTell};
+ghost use Rattle.vb_host.specs.Turns.{GrantsInTurn, TurnsRise, ComesLast, LinesOrder, NoneIsPassed};
+ghost use Rattle.vb_host.specs.Turns.{EventsLendNothing, JustOne, IsPreferred, StaysPreferred};
+ghost use Rattle.vb_host.specs.Turns.{OneProceeds, OneProceedsBySteps};
 ghost use Rattle.vb_host.specs.Promises.{Uncounted, StaysUncounted, UncountedHasAll};
 ghost use Rattle.vb_host.specs.System.{Host};
 ghost use Rattle.std.specs.Prelude.{ℕ};
@@ -53,10 +56,12 @@ pub fn the_lender_is_the_systems()
     ensures steps { StepsAreEvents }
 {}
 
-/// A grant that lends anything is that of the first that waits; a guest that waits from now on
-/// comes last in its line; and those of an earlier line come first.
+/// A grant that lends anything is that of the first that waits; a guest that waits from now on, and
+/// isn't preferred, comes last in its line; those of an earlier line come first, and in one line
+/// those that are preferred.
 pub fn grants_go_in_turn()
     ensures first { GrantsInTurn }
+    ensures turns { TurnsRise }
     ensures last { ComesLast }
     ensures lines { LinesOrder }
 {}
@@ -66,6 +71,16 @@ pub fn grants_go_in_turn()
 pub fn none_is_passed()
     ensures passed { NoneIsPassed }
     ensures events { EventsLendNothing }
+{}
+
+/// The host prefers one guest at a time; while that waits, no other guest of its line, or of a later
+/// one, is lent anything by a grant, or by a step after its event.
+pub fn one_proceeds()
+    ensures just_one { JustOne }
+    ensures preferred { IsPreferred }
+    ensures stays { StaysPreferred }
+    ensures grants { OneProceeds }
+    ensures steps { OneProceedsBySteps }
 {}
 
 /// Once a guest's balloon counts no longer, that stays so until another guest is at its place:

@@ -1,12 +1,12 @@
 //! What happens to a lender, and its one step.
 
-ghost use Rattle.std.specs.Prelude.{◌≡◌, ℕ, ◌+◌, ◌<◌, ◌^◌, length, nat_lt, false};
+ghost use Rattle.std.specs.Prelude.{◌≡◌, ℕ, ◌+◌, ◌<◌, ◌^◌, length, map, nat_lt, false};
 ghost use Rattle.vb_host.specs.Lending.{Lending, each_at, next_turn, may_grant, may_overdraw, room};
 ghost use Rattle.vb_host.specs.Lending.{happens, may_join_at, joined_at, pages_at, value_at};
-ghost use Rattle.vb_host.specs.Lending.{all_targeted, test_at};
+ghost use Rattle.vb_host.specs.Lending.{all_targeted, preferring_at, test_at};
 ghost use Rattle.vb_host.specs.Line.{IsNext, IsStep, ByGrants, GrantsNone};
 ghost use Rattle.vb_host.specs.Seats.{covers, granting, heard, retargeted, room_after, uncounting};
-ghost use Rattle.vb_host.specs.Seats.{grown};
+ghost use Rattle.vb_host.specs.Seats.{grown, preferring};
 ghost use Rattle.vb_host.specs.Seats.{reclaimed};
 ghost use Rattle.vb_host.specs.declared.event.Event.TheVariants.{Grants, Overdraws, Targets};
 
@@ -178,6 +178,33 @@ fn uncount(seats: &mut [Seat], guest: usize)
     }
 }
 
+/// No guest is preferred.
+fn prefer_none(seats: &mut [Seat])
+    ensures { seats.new ≡ map (preferring 0) seats.old }
+{
+    for guest in 0..seats.len() {
+        set_preferred(seats, guest, 0);
+    }
+}
+
+/// A guest is preferred from now on, or it isn't.
+#[tactic(auto, using(crate::proofs::Places::at_places))]
+fn set_preferred(seats: &mut [Seat], guest: usize, preferred: u32)
+    ensures { seats.new ≡ each_at guest (preferring preferred) seats.old }
+{
+    if guest < seats.len() {
+        seats[guest].prefer(preferred);
+    }
+}
+
+/// Of all guests just this one is preferred from now on.
+fn prefer(seats: &mut [Seat], guest: usize)
+    ensures { seats.new ≡ preferring_at guest seats.old }
+{
+    prefer_none(seats);
+    set_preferred(seats, guest, 1);
+}
+
 /// The pages of a guest.
 fn pages_of(seats: &[Seat], guest: usize) -> u32
     requires { guest < length seats.now }
@@ -273,6 +300,7 @@ pub fn happen(frames: &mut u32, overdraft: u32, seats: &mut [Seat], event: &Even
         }
         Event::Uncounts { guest } => uncount(seats, guest),
         Event::Budget { frames: more } => *frames = more,
+        Event::Prefers { guest } => prefer(seats, guest),
     }
 }
 

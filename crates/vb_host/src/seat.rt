@@ -4,15 +4,16 @@ ghost use Rattle.std.specs.Prelude.{◌≡◌, ◌+◌, ◌-◌, ◌<◌, ◌^�
 ghost use Rattle.vb_host.specs.Seats.{lent, asked, waits, covers, granting, noting, counting};
 ghost use Rattle.vb_host.specs.Seats.{served, raised, queuing, is_stale, heard, possible_target};
 ghost use Rattle.vb_host.specs.Seats.{targeted, retargeted, uncounting};
-ghost use Rattle.vb_host.specs.Seats.{believed, is_done, is_uncounted};
+ghost use Rattle.vb_host.specs.Seats.{believed, is_done, is_uncounted, is_preferred, place_in_line};
+ghost use Rattle.vb_host.specs.Seats.{preferring};
 ghost use Rattle.vb_host.specs.Seats.{due_target, due_grant, reclaimed, grown, rank, queued};
 ghost use Rattle.vb_host.specs.Seats.{room_after};
 ghost use Rattle.vb_host.specs.Seats.{keeps_turn, needs_grant};
 
 use crate::{Report, WaitingLine};
 
-/// How many turns there are.
-const TURNS: u128 = 1 << 64;
+/// How many places a line has: the first one, and one for each turn.
+const PLACES: u128 = (1 << 64) + 1;
 
 /// What a lender knows of a guest. What is lent to it follows from this alone.
 #[repr(C)]
@@ -45,6 +46,8 @@ pub struct Seat {
     pub turn: u64,
     /// Whether its balloon counts no longer: 0 where it counts.
     pub uncounted: u32,
+    /// Whether it comes before all others of its line: 0 where it doesn't.
+    pub preferred: u32,
 }
 
 impl Seat {
@@ -184,12 +187,38 @@ impl Seat {
         }
     }
 
+    /// Whether it comes before all others of its line.
+    pub fn is_preferred(&self) -> bool
+        ensures { result ≡ is_preferred self.now }
+    {
+        self.preferred > 0
+    }
+
+    /// Its place in its line.
+    fn place_in_line(&self) -> u128
+        ensures value { result ≡ place_in_line self.now }
+        ensures small { result < 2 ^ 65 }
+    {
+        if self.is_preferred() {
+            0
+        } else {
+            u128::from(self.turn) + 1
+        }
+    }
+
     /// Its rank among those that wait.
     pub(crate) fn rank(&self) -> u128
         ensures { result ≡ rank self.now }
     {
         let line = WaitingLine::of(self.line).number();
-        TURNS * u128::from(line) + u128::from(self.turn)
+        PLACES * u128::from(line) + self.place_in_line()
+    }
+
+    /// It is preferred from now on, or it isn't.
+    pub(crate) fn prefer(&mut self, preferred: u32)
+        ensures { self.new ≡ preferring preferred self.old }
+    {
+        self.preferred = preferred;
     }
 
     /// It has this turn from now on, if it waits.
