@@ -161,8 +161,8 @@ uncounted_has_all : (map lends_each (after_gives_uncounted ∷ after_another ∷
     × (map waits (seats after_gives_uncounted.guests) ≡ false ∷ false ∷ false ∷ [])
 uncounted_has_all = (refl, refl, refl, refl)
 
-still_there : IsStillThere 1 (EventUncounts 1) × IsStillThere 1 (EventJoins 1 2) × IsStillThere 1 (EventArrives 0 4 0)
-still_there = (tt, λ e. absurd (omega (arith, e)), λ e. absurd (omega (arith, e)))
+still_there : IsStillThere 1 (EventUncounts 1) × IsStillThere 1 (EventJoins 1 2) × IsStillThere 1 (EventArrives 0 4 0) × ((r : Report) → IsStillThere 1 (EventTakesOver 0 4 r))
+still_there = (tt, λ e. absurd (omega (arith, e)), λ e. absurd (omega (arith, e)), λ _ e. absurd (omega (arith, e)))
 
 not_there : (IsStillThere 1 (EventArrives 1 4 0) → ⊥) × (IsStillThere 2 (EventJoins 1 2) → ⊥) × ((r : Report) → IsStillThere 1 (EventTakesOver 1 4 r) → ⊥)
 not_there = (λ l. l refl, λ l. l refl, λ _ l. l refl)

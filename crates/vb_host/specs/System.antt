@@ -267,7 +267,8 @@ lending h = record { frames = h.frames; overdraft = h.overdraft; seats = seats h
 -- the overdraft, prefers it to all others, wants pages in its balloon, sets its target, sends its
 -- last target and grant, asks for a write of its limit, which takes force, is confirmed or fails,
 -- or counts its balloon no longer; a guest arrives in its place; the memory of guest m joins it;
--- its process connects to a later lender. To the host: a lender starts that knows nothing, and the budget is set.
+-- its process connects to a later lender. To the host: a lender starts that knows nothing, and the
+-- budget is set.
 pub data Step : Type 0 where
   Does : ℕ → Deed → Step
   Deviates : ℕ → Process → List Report → Step

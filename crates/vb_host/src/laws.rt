@@ -73,8 +73,8 @@ pub fn none_is_passed()
     ensures events { EventsLendNothing }
 {}
 
-/// The host prefers one guest at a time; while that waits, no other guest of its line, or of a later
-/// one, is lent anything by a grant, or by a step after its event.
+/// The host prefers one guest at a time; while that waits, no other guest of its line, or of a
+/// later one, is lent anything by a grant, or by a step after its event.
 pub fn one_proceeds()
     ensures just_one { JustOne }
     ensures preferred { IsPreferred }
