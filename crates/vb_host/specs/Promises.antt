@@ -1,6 +1,7 @@
 -- What must hold of the whole system.
 use Rattle.std.specs.Prelude.{◌≡◌, ◌≢◌, ◌⊎◌, ℕ, ◌+◌, ◌-◌, ◌≤◌, ◌<◌, ◌==◌, Bool, true, false}
-use Rattle.std.specs.Prelude.{◌&&◌, ⊤, List, [], ◌∷◌, length, Some, sum_by, max, if◌then◌else◌, slice_get}
+use Rattle.std.specs.Prelude.{◌&&◌, ⊤, List, [], ◌∷◌, length, Some, sum_by, max, slice_get}
+use Rattle.std.specs.Prelude.{if◌then◌else◌}
 use Rattle.std.specs.List.{AllByRecursion}
 use Rattle.vb_host.specs.declared.event.Event.{Event}
 use Rattle.vb_host.specs.declared.event.Event.TheVariants.{Hears as EventHears}
