@@ -3,6 +3,7 @@
 #ifndef REFERENCE_CALLS_H
 #define REFERENCE_CALLS_H
 #include "vb.h"
+#include "vb_host.h"
 #include "vb_lending.h"
 
 #define REFERENCE(call) extern __typeof__(vb_##call) reference_##call
@@ -56,4 +57,13 @@ REFERENCE(loan_class_targets);
 REFERENCE(guest_need);
 REFERENCE(guest_targets);
 REFERENCE(needs_guest_targets);
+REFERENCE(host_step);
+REFERENCE(host_owed);
+REFERENCE(host_room);
+REFERENCE(host_first);
+REFERENCE(seat_lent);
+REFERENCE(seat_asked);
+REFERENCE(seat_waits);
+REFERENCE(seat_due_target);
+REFERENCE(seat_due_grant);
 #endif

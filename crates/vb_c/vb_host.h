@@ -1,0 +1,173 @@
+/* Bigvasta: a host's lender as one step. An event goes in, and out comes what each guest may use,
+ * which deflate is granted and which target each guest has. A part of the library of vb.h.
+ *
+ * Each guest has a process, as vhost_user_balloon is one. It holds back each deflate request, each
+ * reset and the start of its guest until the lender grants them: all three are deflates, and each
+ * has a number. It reports what it is at a moment (VbReport), and obeys targets and grants. The
+ * caller keeps a VbSeat for each guest, in an array: what the lender knows of it. A guest is its
+ * place there; zeros are a place without a guest. The library keeps nothing. Any numbers may be
+ * passed, also in a VbSeat: each call answers. Of the bytes between fields nothing is read, and
+ * nothing is said. The laws of crates/vb_host hold where a seat is written by vb_host_step alone.
+ *
+ * After each step, of each guest by its last report, as often and as late as the caller wants:
+ *
+ *     its limit by the kernel     is to be vb_seat_lent: it may be lowered to that at once
+ *     vb_seat_due_target          its target is sent, with its number: `target`, `target_number`
+ *     vb_seat_due_grant           the grant is sent, with its number (`granted`), once the limit in
+ *                                 force is at least vb_seat_lent
+ *
+ * A process obeys a target unless it has received one of a higher number, and a grant where it
+ * holds the deflate of this number. Messages may be late, come again, or be lost.
+ */
+#ifndef VB_HOST_H
+#define VB_HOST_H
+#include "vb.h"
+
+#ifdef __cplusplus
+extern "C" {
+#define VB_ASSERT(what) static_assert(what, #what)
+#else
+#define VB_ASSERT(what) _Static_assert(what, #what)
+#endif
+
+/* In which line a deflate waits. Those of an earlier line come before all of a later one, and those
+ * of one line in the order of their turns. Any other number is VB_LINE_ARRIVALS. */
+enum {
+    VB_LINE_DEFLATES = 0,       /* a guest that waits in a deflate gives no pages */
+    VB_LINE_RESETS = 1,         /* of a guest that boots again: all that is in its balloon */
+    VB_LINE_ARRIVALS = 2,       /* of newcomers, and of memory that is added */
+};
+
+/* What a guest's process reports: what it is at that moment. Any numbers may come. */
+typedef struct {
+    uint32_t ballooned;         /* pages in its balloon, without those that couldn't be discarded */
+    uint32_t target;            /* the last target that it has received, in pages */
+    uint32_t read_target;       /* the target that its driver has read last, in pages; where reads
+                                   aren't seen, one that it may have read */
+    uint32_t held;              /* pages of the deflate that it holds back; 0 where it holds none */
+    uint32_t line;              /* in which that deflate waits: VB_LINE_DEFLATES .. */
+    uint64_t target_number;     /* of the last target that it has received */
+    uint64_t deflates;          /* how many deflates it has held back, this one included: the number
+                                   of this one */
+    uint64_t removed;           /* pages that were taken away from its memory so far */
+} VbReport;
+
+/* What the lender knows of a guest. What is lent to it is all its pages but min(ballooned,
+ * least_target) (vb_seat_lent). */
+typedef struct {
+    uint32_t pages;             /* that it may have frames for, in a memory slot or outside; 0 where
+                                   no guest is there */
+    uint32_t ballooned;         /* in its balloon, as last reported, without those of a granted
+                                   deflate */
+    uint32_t least_target;      /* the least of all targets that its driver may still obey, in
+                                   pages */
+    uint32_t target;            /* its last target, in pages */
+    uint32_t wanted;            /* pages that are wanted in its balloon: its target is this or
+                                   above */
+    uint32_t held;              /* pages of the deflate that waits; 0 where none does */
+    uint32_t line;              /* in which it waits: VB_LINE_DEFLATES .. */
+    uint64_t target_number;     /* of its last target: how many it was sent */
+    uint64_t deflates;          /* how many its process has held back, by its last report */
+    uint64_t granted;           /* the number of the last deflate that was granted; 0 until the
+                                   guest was let in */
+    uint64_t removed;           /* pages that were taken away from its memory, by its last report */
+    uint64_t turn;              /* its turn among those that wait; 0 where it doesn't */
+} VbSeat;
+
+typedef struct {
+    uint32_t frames;            /* the budget: how many frames guests may use together */
+    uint32_t overdraft;         /* how many beyond it VB_OVERDRAWS may lend */
+} VbHost;
+
+/* What may happen to a lender: `kind` of an event, and which of its other fields that reads. Where
+ * there is no seat at a place, or the event isn't possible, it has no effect. */
+enum {
+    VB_HEARS = 1,               /* guest, report: its process has reported. Its balloon is counted:
+                                   never fewer pages than before, but for granted deflates and what
+                                   was taken away. A deflate that lends nothing more is granted.
+                                   Once its driver has read its last target, least_target rises to
+                                   that. A deflate that waits from now on gets the next turn. No
+                                   effect: a report of before the last grant, or of before memory
+                                   was taken away that is known of */
+    VB_GRANTS = 2,              /* guest: its deflate is granted. Possible where that lends nothing
+                                   more, or it is the first that waits and there is room */
+    VB_OVERDRAWS = 3,           /* guest: its deflate is granted from the overdraft. Possible where
+                                   it is the first that waits, all others wait or have in their
+                                   balloons what their targets say, and there is room with the
+                                   overdraft */
+    VB_WANTS = 4,               /* guest, pages: these are wanted in its balloon */
+    VB_TARGETS = 5,             /* guest: it has the target from now on that is possible: what is
+                                   wanted, or min(ballooned, least_target) less what there is room
+                                   for, whichever is more. There is no room for one that waits, or
+                                   that no deflate was granted yet */
+    VB_ARRIVES = 6,             /* guest, pages, ballooned: another guest is at this place, with all
+                                   its pages in its balloon. It waits once it has reported its first
+                                   deflate, of all but `ballooned`, which are wanted in its balloon.
+                                   Of no pages: the guest has gone */
+    VB_JOINS = 7,               /* guest, added: the memory at the place `added`, which waited as a
+                                   guest of its own, joins the guest, and its place is vacant.
+                                   Possible where all that memory is lent, both places differ, and
+                                   they have fewer than 2^32 pages together */
+    VB_TAKES_OVER = 8,          /* guest, pages, report: the first report to a later lender of a
+                                   guest that has `pages`, whichever was at its place */
+    VB_UNCOUNTS = 9,            /* guest: it takes pages without a grant, so all are lent to it. Its
+                                   later reports are to be passed with ballooned 0 */
+    VB_BUDGET = 10,             /* frames: the budget from now on */
+};
+
+typedef struct {
+    uint32_t kind;              /* VB_HEARS .. VB_BUDGET */
+    size_t guest, added;        /* places */
+    uint32_t pages, ballooned;
+    uint32_t frames;
+    VbReport report;
+} VbHostEvent;
+
+VB_ASSERT(sizeof(VbReport) == 48 && offsetof(VbReport, target) == 4);
+VB_ASSERT(offsetof(VbReport, read_target) == 8 && offsetof(VbReport, held) == 12);
+VB_ASSERT(offsetof(VbReport, line) == 16 && offsetof(VbReport, target_number) == 24);
+VB_ASSERT(offsetof(VbReport, deflates) == 32 && offsetof(VbReport, removed) == 40);
+VB_ASSERT(sizeof(VbSeat) == 72 && offsetof(VbSeat, ballooned) == 4);
+VB_ASSERT(offsetof(VbSeat, least_target) == 8 && offsetof(VbSeat, target) == 12);
+VB_ASSERT(offsetof(VbSeat, wanted) == 16 && offsetof(VbSeat, held) == 20);
+VB_ASSERT(offsetof(VbSeat, line) == 24 && offsetof(VbSeat, target_number) == 32);
+VB_ASSERT(offsetof(VbSeat, deflates) == 40 && offsetof(VbSeat, granted) == 48);
+VB_ASSERT(offsetof(VbSeat, removed) == 56 && offsetof(VbSeat, turn) == 64);
+VB_ASSERT(sizeof(VbHost) == 8 && offsetof(VbHost, overdraft) == 4 && sizeof(VbHostEvent) == 88);
+VB_ASSERT(offsetof(VbHostEvent, guest) == 8 && offsetof(VbHostEvent, added) == 16);
+VB_ASSERT(offsetof(VbHostEvent, pages) == 24 && offsetof(VbHostEvent, ballooned) == 28);
+VB_ASSERT(offsetof(VbHostEvent, frames) == 32 && offsetof(VbHostEvent, report) == 40);
+
+/* One step: the event; then grants until none is possible, first those that lend nothing more, from
+ * the lowest place, then that of the first that waits, while there is room; then the target of each
+ * guest, in the order of their places with the room that those before leave. VB_OK, also where the
+ * event has no effect; VB_BAD_ARGUMENT where its kind is none of the above, and then nothing
+ * changes. */
+uint32_t vb_host_step(VbHost *host, VbSeat *seats, size_t count, const VbHostEvent *event);
+
+/* How many frames are lent to a guest: its limit. */
+uint32_t vb_seat_lent(const VbSeat *seat);
+/* How many more a grant of its deflate would lend; 0 where it doesn't wait. */
+uint32_t vb_seat_asked(const VbSeat *seat);
+/* 1 where a deflate of it waits, else 0. */
+uint32_t vb_seat_waits(const VbSeat *seat);
+/* 1 where its process, of which this is the last report, hasn't received its last target, else
+ * 0. */
+uint32_t vb_seat_due_target(const VbSeat *seat, const VbReport *report);
+/* 1 where its process, of which this is the last report, holds a deflate that was granted, else
+ * 0. */
+uint32_t vb_seat_due_grant(const VbSeat *seat, const VbReport *report);
+
+/* How many frames are lent to all guests together (2^64 - 1 where it is more). */
+uint64_t vb_host_owed(const VbSeat *seats, size_t count);
+/* How many frames of the budget are neither lent nor waited for. */
+uint32_t vb_host_room(const VbHost *host, const VbSeat *seats, size_t count);
+/* The place of the guest that waits first, of two with one turn in one line the lower; SIZE_MAX
+ * where no guest waits. */
+size_t vb_host_first(const VbSeat *seats, size_t count);
+
+#undef VB_ASSERT
+#ifdef __cplusplus
+}
+#endif
+#endif
