@@ -9,4 +9,5 @@ pub mod Serving
 pub mod Places
 pub mod Queues
 pub mod Lending
+pub mod Seats
 pub mod Hosting

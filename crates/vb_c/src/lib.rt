@@ -14,6 +14,7 @@ mod places;
 mod queues;
 mod registers;
 mod saving;
+mod seats;
 mod serving;
 mod sharing;
 mod showing;

@@ -1,0 +1,178 @@
+//! A host's lender as one step: seats, events as plain numbers, and what a seat says.
+
+ghost use Rattle.std.specs.Prelude.{◌≡◌, ◌-◌, ◌^◌, min};
+ghost use Rattle.vb_virtio.specs.Tests.{one_if};
+ghost use Rattle.vb_host.specs.Lending.{owed, room};
+ghost use Rattle.vb_host.specs.Seats.{asked, due_grant, due_target, lent, waits};
+ghost use Rattle.vb_c.specs.Seats.{event_of, lending_of, FirstFor, StepsFor};
+
+use vb_host::{Event, Report, Seat, first_in_line, owed, room, step};
+use vb_monitor::{BAD_ARGUMENT, OK};
+
+/// A guest's process has reported.
+const HEARS: u32 = 1;
+
+/// A guest's deflate is granted.
+const GRANTS: u32 = 2;
+
+/// A guest's deflate is granted from the overdraft.
+const OVERDRAWS: u32 = 3;
+
+/// Pages are wanted in a guest's balloon.
+const WANTS: u32 = 4;
+
+/// A guest has the target that is possible.
+const TARGETS: u32 = 5;
+
+/// A guest arrives at a place.
+const ARRIVES: u32 = 6;
+
+/// The memory at a place joins a guest.
+const JOINS: u32 = 7;
+
+/// A guest sends its first report to a later lender.
+const TAKES_OVER: u32 = 8;
+
+/// A guest's balloon counts no longer.
+const UNCOUNTS: u32 = 9;
+
+/// The budget is set.
+const BUDGET: u32 = 10;
+
+/// How many frames a host has to lend, and how many beyond them.
+#[repr(C)]
+#[derive(Clone, Copy, Debug)]
+pub struct VbHost {
+    pub frames: u32,
+    pub overdraft: u32,
+}
+
+/// What may happen to a lender, by its kind.
+#[repr(C)]
+#[derive(Clone, Copy, Debug)]
+pub struct VbHostEvent {
+    pub kind: u32,
+    pub guest: usize,
+    pub added: usize,
+    pub pages: u32,
+    pub ballooned: u32,
+    pub frames: u32,
+    pub report: Report,
+}
+
+impl VbHostEvent {
+    /// The event of its kind, if that is one.
+    pub(crate) fn event(&self) -> Option<Event>
+        ensures { result ≡ event_of self.now }
+    {
+        let (guest, pages, report) = (self.guest, self.pages, self.report);
+        Some(match self.kind {
+            HEARS => Event::Hears { guest, report },
+            GRANTS => Event::Grants { guest },
+            OVERDRAWS => Event::Overdraws { guest },
+            WANTS => Event::Wants { guest, pages },
+            TARGETS => Event::Targets { guest },
+            ARRIVES => Event::Arrives {
+                guest,
+                pages,
+                ballooned: self.ballooned,
+            },
+            JOINS => Event::Joins {
+                guest,
+                added: self.added,
+            },
+            TAKES_OVER => Event::TakesOver {
+                guest,
+                pages,
+                report,
+            },
+            UNCOUNTS => Event::Uncounts { guest },
+            BUDGET => Event::Budget {
+                frames: self.frames,
+            },
+            _ => return None,
+        })
+    }
+}
+
+/// One step of a host's lender.
+#[unsafe(no_mangle)]
+pub extern "C" fn vb_host_step(host: &mut VbHost, seats: &mut [Seat], event: &VbHostEvent) -> u32
+    ensures { StepsFor host.old host.new seats.old seats.new event.now result }
+{
+    match event.event() {
+        Some(event) => {
+            step(&mut host.frames, host.overdraft, seats, &event);
+            OK
+        }
+        None => BAD_ARGUMENT,
+    }
+}
+
+/// What is lent to a guest.
+#[unsafe(no_mangle)]
+pub extern "C" fn vb_seat_lent(seat: &Seat) -> u32
+    ensures { result ≡ lent seat.now }
+{
+    seat.lent()
+}
+
+/// What a grant would lend to a guest beyond that.
+#[unsafe(no_mangle)]
+pub extern "C" fn vb_seat_asked(seat: &Seat) -> u32
+    ensures { result ≡ asked seat.now }
+{
+    seat.asked()
+}
+
+/// Whether a deflate of a guest waits.
+#[unsafe(no_mangle)]
+pub extern "C" fn vb_seat_waits(seat: &Seat) -> u32
+    ensures { result ≡ one_if (waits seat.now) }
+{
+    u32::from(seat.waits())
+}
+
+/// Whether a guest's process is to be sent its target.
+#[unsafe(no_mangle)]
+pub extern "C" fn vb_seat_due_target(seat: &Seat, report: &Report) -> u32
+    ensures { result ≡ one_if (due_target report.now seat.now) }
+{
+    u32::from(seat.due_target(report))
+}
+
+/// Whether a guest's process is to be sent the grant of the deflate that it holds back.
+#[unsafe(no_mangle)]
+pub extern "C" fn vb_seat_due_grant(seat: &Seat, report: &Report) -> u32
+    ensures { result ≡ one_if (due_grant report.now seat.now) }
+{
+    u32::from(seat.due_grant(report))
+}
+
+/// What is lent to all guests together.
+#[unsafe(no_mangle)]
+pub extern "C" fn vb_host_owed(seats: &[Seat]) -> u64
+    ensures { result ≡ min (owed seats.now) (2 ^ 64 - 1) }
+{
+    let most = u128::from(u64::MAX);
+    owed(seats).min(most) as u64
+}
+
+/// The frames that are neither lent nor waited for.
+#[unsafe(no_mangle)]
+pub extern "C" fn vb_host_room(host: &VbHost, seats: &[Seat]) -> u32
+    ensures { result ≡ room (lending_of host.now seats.now) }
+{
+    room(host.frames, seats)
+}
+
+/// The place of the guest that waits first.
+#[unsafe(no_mangle)]
+pub extern "C" fn vb_host_first(seats: &[Seat]) -> usize
+    ensures { FirstFor seats.now result }
+{
+    match first_in_line(seats) {
+        Some(guest) => guest,
+        None => usize::MAX,
+    }
+}
