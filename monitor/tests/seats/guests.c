@@ -102,7 +102,8 @@ static void hold(struct guest *guest)
 static void shrink(struct guest *guest)
 {
     VbReport *now = &guest->now;
-    uint32_t taken = chance(less(guest->pages, 8) + 1), from = chance(less(taken, now->ballooned) + 1);
+    uint32_t taken = chance(less(guest->pages, 8) + 1);
+    uint32_t from = chance(less(taken, now->ballooned) + 1);
     uint32_t others = guest->pages - now->ballooned;
     if (taken - from > others)
         from = taken - others;

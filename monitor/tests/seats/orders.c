@@ -94,19 +94,22 @@ static VbSeat guest(uint32_t pages, uint32_t ballooned, uint32_t wanted)
     return seat;
 }
 
-/* Of four guests of 50 pages, 30 of them in each balloon, the first waits for 30 pages or not, and
- * the last has no grant yet: their targets after a step. */
+/* Of four guests of 50 pages, 30 of them in each balloon, one holds a deflate or not, and the last
+ * has no grant yet: their targets after a step. Each has another number once it is no longer 30. */
 static const struct {
     const char *what;
     VbHostEvent event;
+    size_t holder;
     uint32_t held, frames, targets[4];
 } targets[] = {
     { "18 frames of room, in the order of places: 2, then 16",
-      { .kind = VB_WANTS, .guest = 4 }, 0, 98, { 28, 14, 30, 30 } },
+      { .kind = VB_WANTS, .guest = 4 }, 0, 0, 98, { 28, 14, 30, 30 } },
     { "10 of them to the guest of the event, then 2, then 6",
-      { .kind = VB_TARGETS, .guest = 2 }, 0, 98, { 28, 24, 20, 30 } },
+      { .kind = VB_TARGETS, .guest = 2 }, 0, 0, 98, { 28, 24, 20, 30 } },
     { "no frame is left of what is waited for",
-      { .kind = VB_TARGETS, .guest = 2 }, 30, 109, { 30, 30, 30, 30 } },
+      { .kind = VB_TARGETS, .guest = 2 }, 0, 30, 109, { 30, 30, 30, 30 } },
+    { "a guest that waits has no room by its target; once it is granted, 5 frames are left",
+      { .kind = VB_TARGETS, .guest = 1 }, 1, 30, 115, { 28, 10, 27, 30 } },
 };
 
 void check_targets(void)
@@ -115,12 +118,16 @@ void check_targets(void)
         VbSeat seats[] = { guest(50, 30, 28), guest(50, 30, 10), guest(50, 30, 20),
                            guest(50, 30, 0) };
         VbHost host = { .frames = targets[i].frames, .overdraft = 50 };
-        seats[0].held = targets[i].held;
-        seats[0].turn = targets[i].held != 0;
+        VbSeat *holder = &seats[targets[i].holder];
+        holder->held = targets[i].held;
+        holder->turn = targets[i].held != 0;
         seats[3].granted = 0;
         expect(vb_host_step(&host, seats, 4, &targets[i].event) == VB_OK, targets[i].what);
-        for (size_t place = 0; place < 4; place++)
-            expect(seats[place].target == targets[i].targets[place], targets[i].what);
+        for (size_t place = 0; place < 4; place++) {
+            uint32_t target = targets[i].targets[place];
+            expect(seats[place].target == target, targets[i].what);
+            expect(seats[place].target_number == (target != 30), targets[i].what);
+        }
     }
 }
 
@@ -233,13 +240,34 @@ static void check_less(void)
     VbHostEvent event = { .kind = VB_HEARS, .report = { 20, 30, 30, 0, 0, 0, 1, UINT64_MAX } };
     expect(step(&host, seats, event) == VB_OK, "heard");
     expect(seats[0].pages == 0 && seats[0].ballooned == 20, "nothing is left but what is reported");
-    event = (VbHostEvent){ .kind = VB_TAKES_OVER, .guest = 1, .pages = 70, .report = { 9, 8, 7, 6, 1, 5, 0, 3 } };
-    expect(step(&host, seats, event) == VB_OK, "taken over");
-    expect(seats[1].granted == 0 && seats[1].deflates == 0 && seats[1].turn == 1, "none was granted");
+    event = (VbHostEvent){ .kind = VB_TAKES_OVER, .guest = 1, .pages = 70 };
+    event.report = (VbReport){ 9, 7, 8, 6, 1, 5, 0, 3 };
+    expect(step(&host, seats, event) == VB_OK && seats[1].pages == 70, "taken over");
+    expect(seats[1].least_target == 7 && seats[1].target == 7, "the lower of both targets");
+    expect(seats[1].granted == 0 && seats[1].turn == 1, "none was granted before");
+}
+
+/* Both wait, the second with a target that it hasn't reached: the first is granted. */
+static void check_overdraft(void)
+{
+    VbHost host = { .frames = 40, .overdraft = 5 };
+    VbSeat seats[2] = { guest(50, 30, 30), guest(50, 30, 40) };
+    seats[0].held = 5;
+    seats[1].held = 3;
+    seats[0].turn = 1;
+    seats[1].turn = 2;
+    seats[1].target = 40;
+    expect(step(&host, seats, (VbHostEvent){ .kind = VB_OVERDRAWS, .guest = 1 }) == VB_OK
+               && seats[0].held == 5 && seats[1].held == 3,
+           "no overdraft for the second that waits");
+    expect(step(&host, seats, (VbHostEvent){ .kind = VB_OVERDRAWS, .guest = 0 }) == VB_OK
+               && seats[0].held == 0 && seats[1].held == 3,
+           "all wait");
 }
 
 void check_largest(void)
 {
+    check_overdraft();
     check_last();
     check_sums();
     check_less();

@@ -62,7 +62,8 @@ static VbReport odd_report(const VbSeat *seat)
 
 static VbSeat odd_seat(void)
 {
-    VbSeat seat = { .pages = odd_number(), .ballooned = odd_number(), .least_target = odd_number() };
+    VbSeat seat = { .pages = odd_number(), .ballooned = odd_number() };
+    seat.least_target = odd_number();
     seat.target = odd_number();
     seat.wanted = odd_number();
     seat.held = chance(2) ? odd_number() : 0;
@@ -173,12 +174,12 @@ static void check_readers(const struct day *day)
             != reference_host_room(&day->host, seats, day->count)
         || vb_host_first(seats, day->count) != reference_host_first(seats, day->count))
         fail(day, "the plain implementation reads something else of all");
-    for (size_t i = 0; i < day->count; i++)
-        if (vb_seat_lent(&seats[i]) != reference_seat_lent(&seats[i])
-            || vb_seat_asked(&seats[i]) != reference_seat_asked(&seats[i])
-            || vb_seat_waits(&seats[i]) != reference_seat_waits(&seats[i])
-            || vb_seat_due_target(&seats[i], &report) != reference_seat_due_target(&seats[i], &report)
-            || vb_seat_due_grant(&seats[i], &report) != reference_seat_due_grant(&seats[i], &report))
+    for (const VbSeat *it = seats; it < seats + day->count; it++)
+        if (vb_seat_lent(it) != reference_seat_lent(it)
+            || vb_seat_asked(it) != reference_seat_asked(it)
+            || vb_seat_waits(it) != reference_seat_waits(it)
+            || vb_seat_due_target(it, &report) != reference_seat_due_target(it, &report)
+            || vb_seat_due_grant(it, &report) != reference_seat_due_grant(it, &report))
             fail(day, "the plain implementation reads something else of a seat");
 }
 
