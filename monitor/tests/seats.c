@@ -1,5 +1,6 @@
-/* A host's lender by the comments of vb_host.h: each event, refusal and order by rows that were worked
- * out by hand, and random steps beside the plain implementation, which has to leave the same.
+/* A host's lender by the comments of vb_host.h: each event, refusal and order by rows that were
+ * worked out by hand, and random steps beside the plain implementation, which has to leave the
+ * same.
  *
  *     seats [STEPS]
  */
@@ -11,19 +12,19 @@ enum { STEPS = 1000000 };
 
 bool same_seat(const VbSeat *one, const VbSeat *other)
 {
-    return one->pages == other->pages && one->ballooned == other->ballooned
-        && one->least_target == other->least_target && one->target == other->target
-        && one->wanted == other->wanted && one->held == other->held && one->line == other->line
-        && one->target_number == other->target_number && one->deflates == other->deflates
-        && one->granted == other->granted && one->removed == other->removed
-        && one->turn == other->turn;
+    return one->pages == other->pages && one->ballooned == other->ballooned &&
+           one->least_target == other->least_target && one->target == other->target &&
+           one->wanted == other->wanted && one->held == other->held && one->line == other->line &&
+           one->target_number == other->target_number && one->deflates == other->deflates &&
+           one->granted == other->granted && one->removed == other->removed &&
+           one->turn == other->turn;
 }
 
 void print_seat(size_t place, const VbSeat *seat)
 {
-    fprintf(stderr, "  %zu: pages %u, ballooned %u, least %u, target %u, wanted %u, held %u, line %u,",
-            place, seat->pages, seat->ballooned, seat->least_target, seat->target, seat->wanted,
-            seat->held, seat->line);
+    fprintf(stderr, "  %zu: pages %u, ballooned %u, least %u, target %u, wanted %u,", place,
+            seat->pages, seat->ballooned, seat->least_target, seat->target, seat->wanted);
+    fprintf(stderr, " held %u, line %u,", seat->held, seat->line);
     fprintf(stderr, " number %llu, deflates %llu, granted %llu, removed %llu, turn %llu\n",
             (unsigned long long)seat->target_number, (unsigned long long)seat->deflates,
             (unsigned long long)seat->granted, (unsigned long long)seat->removed,

@@ -7,6 +7,7 @@
 mod balloon;
 mod held;
 mod hints;
+pub mod lender;
 pub mod lending;
 mod obey;
 mod pause;

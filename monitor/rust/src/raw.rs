@@ -1,4 +1,4 @@
-//! vb.h and vb_lending.h as bindgen has them (`rust/bind`), and safe calls over slices. Each call requires what the headers say of
+//! The library's headers as bindgen has them (`rust/bind`), and safe calls over slices. Each call requires what the headers say of
 //! pointers with lengths, and nothing else.
 
 // All that the headers have, whether this crate needs it or not, and by C's names of types.

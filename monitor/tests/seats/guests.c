@@ -28,7 +28,7 @@ void guest_arrive(struct guest *guest, uint32_t pages, uint32_t ballooned)
 {
     memset(guest, 0, sizeof *guest);
     guest->pages = pages;
-    guest->now = (VbReport){ .ballooned = pages, .target = pages, .read_target = pages };
+    guest->now = (VbReport){.ballooned = pages, .target = pages, .read_target = pages};
     guest->now.held = pages > ballooned ? pages - ballooned : 0;
     guest->now.line = VB_LINE_ARRIVALS;
     guest->now.deflates = 1;

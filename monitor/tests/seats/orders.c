@@ -17,17 +17,20 @@ static void expect(bool is_so, const char *what)
 
 static const struct {
     const char *what;
-    struct { uint32_t held, line; uint64_t turn; } seats[3];
+    struct {
+        uint32_t held, line;
+        uint64_t turn;
+    } seats[3];
     size_t first;
 } lines[] = {
-    { "nobody waits", { { 0, 0, 1 }, { 0, 0, 1 }, { 0, 0, 1 } }, SIZE_MAX },
-    { "one waits", { { 0, 0, 0 }, { 0, 0, 0 }, { 1, 2, 9 } }, 2 },
-    { "a lower turn", { { 1, 0, 3 }, { 1, 0, 2 }, { 1, 0, 4 } }, 1 },
-    { "the lower place of one turn", { { 0, 0, 2 }, { 1, 0, 2 }, { 1, 0, 2 } }, 1 },
-    { "deflates before resets", { { 1, 1, 1 }, { 1, 0, 9 }, { 1, 1, 2 } }, 1 },
-    { "resets before arrivals", { { 1, 2, 1 }, { 1, 2, 2 }, { 1, 1, 9 } }, 2 },
-    { "any other line is that of arrivals", { { 1, UINT32_MAX, 2 }, { 1, 2, 3 }, { 1, 3, 1 } }, 2 },
-    { "the last turn of a line", { { 1, 1, 0 }, { 1, 0, UINT64_MAX }, { 1, 1, 0 } }, 1 },
+    {"nobody waits", {{0, 0, 1}, {0, 0, 1}, {0, 0, 1}}, SIZE_MAX},
+    {"one waits", {{0, 0, 0}, {0, 0, 0}, {1, 2, 9}}, 2},
+    {"a lower turn", {{1, 0, 3}, {1, 0, 2}, {1, 0, 4}}, 1},
+    {"the lower place of one turn", {{0, 0, 2}, {1, 0, 2}, {1, 0, 2}}, 1},
+    {"deflates before resets", {{1, 1, 1}, {1, 0, 9}, {1, 1, 2}}, 1},
+    {"resets before arrivals", {{1, 2, 1}, {1, 2, 2}, {1, 1, 9}}, 2},
+    {"any other line is that of arrivals", {{1, UINT32_MAX, 2}, {1, 2, 3}, {1, 3, 1}}, 2},
+    {"the last turn of a line", {{1, 1, 0}, {1, 0, UINT64_MAX}, {1, 1, 0}}, 1},
 };
 
 void check_lines(void)
@@ -52,18 +55,18 @@ static const struct {
     VbReport report;
     uint32_t target, grant;
 } orders[] = {
-    { "all is received", { 20, 30, 30, 0, 0, 4, 6, 0 }, 0, 0 },
-    { "an older target", { 20, 30, 30, 0, 0, 3, 6, 0 }, 1, 0 },
-    { "a target of an earlier lender", { 20, 30, 30, 0, 0, 5, 6, 0 }, 1, 0 },
-    { "another target of this number", { 20, 31, 29, 0, 0, 4, 6, 0 }, 0, 0 },
-    { "it still holds what was granted", { 20, 30, 30, 2, 0, 4, 6, 0 }, 0, 1 },
-    { "an older deflate", { 20, 30, 30, 2, 0, 4, 5, 0 }, 0, 0 },
-    { "the deflate that waits", { 20, 30, 30, 2, 0, 3, 7, 0 }, 1, 0 },
+    {"all is received", {20, 30, 30, 0, 0, 4, 6, 0}, 0, 0},
+    {"an older target", {20, 30, 30, 0, 0, 3, 6, 0}, 1, 0},
+    {"a target of an earlier lender", {20, 30, 30, 0, 0, 5, 6, 0}, 1, 0},
+    {"another target of this number", {20, 31, 29, 0, 0, 4, 6, 0}, 0, 0},
+    {"it still holds what was granted", {20, 30, 30, 2, 0, 4, 6, 0}, 0, 1},
+    {"an older deflate", {20, 30, 30, 2, 0, 4, 5, 0}, 0, 0},
+    {"the deflate that waits", {20, 30, 30, 2, 0, 3, 7, 0}, 1, 0},
 };
 
 void check_orders(void)
 {
-    VbSeat seat = { .pages = 60, .ballooned = 25, .least_target = 20, .target = 30, .held = 8 };
+    VbSeat seat = {.pages = 60, .ballooned = 25, .least_target = 20, .target = 30, .held = 8};
     seat.target_number = 4;
     seat.deflates = 7;
     seat.granted = 6;
@@ -86,7 +89,7 @@ void check_orders(void)
 /* A guest that was let in, and may take what it has above the pages that are wanted. */
 static VbSeat guest(uint32_t pages, uint32_t ballooned, uint32_t wanted)
 {
-    VbSeat seat = { .pages = pages, .ballooned = ballooned, .least_target = ballooned };
+    VbSeat seat = {.pages = pages, .ballooned = ballooned, .least_target = ballooned};
     seat.target = ballooned;
     seat.wanted = wanted;
     seat.deflates = 1;
@@ -102,22 +105,38 @@ static const struct {
     size_t holder;
     uint32_t held, frames, targets[4];
 } targets[] = {
-    { "18 frames of room, in the order of places: 2, then 16",
-      { .kind = VB_WANTS, .guest = 4 }, 0, 0, 98, { 28, 14, 30, 30 } },
-    { "10 of them to the guest of the event, then 2, then 6",
-      { .kind = VB_TARGETS, .guest = 2 }, 0, 0, 98, { 28, 24, 20, 30 } },
-    { "no frame is left of what is waited for",
-      { .kind = VB_TARGETS, .guest = 2 }, 0, 30, 109, { 30, 30, 30, 30 } },
-    { "a guest that waits has no room by its target; once it is granted, 5 frames are left",
-      { .kind = VB_TARGETS, .guest = 1 }, 1, 30, 115, { 28, 10, 27, 30 } },
+    {"18 frames of room, in the order of places: 2, then 16",
+     {.kind = VB_WANTS, .guest = 4},
+     0,
+     0,
+     98,
+     {28, 14, 30, 30}},
+    {"10 of them to the guest of the event, then 2, then 6",
+     {.kind = VB_TARGETS, .guest = 2},
+     0,
+     0,
+     98,
+     {28, 24, 20, 30}},
+    {"no frame is left of what is waited for",
+     {.kind = VB_TARGETS, .guest = 2},
+     0,
+     30,
+     109,
+     {30, 30, 30, 30}},
+    {"a guest that waits has no room by its target; once it is granted, 5 frames are left",
+     {.kind = VB_TARGETS, .guest = 1},
+     1,
+     30,
+     115,
+     {28, 10, 27, 30}},
 };
 
 void check_targets(void)
 {
     for (size_t i = 0; i < sizeof targets / sizeof *targets; i++) {
-        VbSeat seats[] = { guest(50, 30, 28), guest(50, 30, 10), guest(50, 30, 20),
-                           guest(50, 30, 0) };
-        VbHost host = { .frames = targets[i].frames, .overdraft = 50 };
+        VbSeat seats[] = {guest(50, 30, 28), guest(50, 30, 10), guest(50, 30, 20),
+                          guest(50, 30, 0)};
+        VbHost host = {.frames = targets[i].frames, .overdraft = 50};
         VbSeat *holder = &seats[targets[i].holder];
         holder->held = targets[i].held;
         holder->turn = targets[i].held != 0;
@@ -145,13 +164,13 @@ static void unsettle(VbSeat *seats)
 
 static void check_refusals(void)
 {
-    static const uint32_t kinds[] = { 0, VB_BUDGET + 1, 256 + VB_WANTS, UINT32_MAX };
+    static const uint32_t kinds[] = {0, VB_BUDGET + 1, 256 + VB_WANTS, UINT32_MAX};
     VbSeat seats[2], before[2];
     unsettle(seats);
     unsettle(before);
     for (size_t i = 0; i < sizeof kinds / sizeof *kinds; i++) {
-        VbHost host = { .frames = 60, .overdraft = 7 };
-        const VbHostEvent event = { .kind = kinds[i], .pages = 3, .frames = 9 };
+        VbHost host = {.frames = 60, .overdraft = 7};
+        const VbHostEvent event = {.kind = kinds[i], .pages = 3, .frames = 9};
         expect(vb_host_step(&host, seats, 2, &event) == VB_BAD_ARGUMENT, "a kind that is none");
         expect(same_seat(&seats[0], &before[0]) && same_seat(&seats[1], &before[1]),
                "a refusal leaves all seats");
@@ -162,12 +181,12 @@ static void check_refusals(void)
 /* An event of no place has no effect, and what was possible already is done. */
 static void check_nowhere(void)
 {
-    static const size_t places[] = { 2, SIZE_MAX };
+    static const size_t places[] = {2, SIZE_MAX};
     for (uint32_t kind = VB_HEARS; kind < VB_BUDGET; kind++)
         for (size_t i = 0; i < 2; i++) {
             VbSeat seats[2];
-            VbHost host = { .frames = 60, .overdraft = 7 };
-            const VbHostEvent event = { .kind = kind, .guest = places[i], .pages = 3, .frames = 9 };
+            VbHost host = {.frames = 60, .overdraft = 7};
+            const VbHostEvent event = {.kind = kind, .guest = places[i], .pages = 3, .frames = 9};
             unsettle(seats);
             expect(vb_host_step(&host, seats, 2, &event) == VB_OK, "no such place is no refusal");
             expect(host.frames == 60 && host.overdraft == 7, "the budget stays");
@@ -194,15 +213,15 @@ static uint32_t step(VbHost *host, VbSeat *seats, VbHostEvent event)
 /* The last turn is given again, and the last number of a target stays, and so does the target. */
 static void check_last(void)
 {
-    VbHost host = { .frames = 40 };
-    VbSeat seats[2] = { guest(50, 30, 30), guest(50, 30, 30) };
+    VbHost host = {.frames = 40};
+    VbSeat seats[2] = {guest(50, 30, 30), guest(50, 30, 30)};
     seats[0].held = 1;
     seats[0].turn = UINT64_MAX;
     seats[1].target_number = UINT64_MAX;
-    VbHostEvent event = { .kind = VB_HEARS, .guest = 1, .report = { 30, 30, 30, 4, 0, 0, 2, 0 } };
+    VbHostEvent event = {.kind = VB_HEARS, .guest = 1, .report = {30, 30, 30, 4, 0, 0, 2, 0}};
     expect(step(&host, seats, event) == VB_OK && seats[1].turn == UINT64_MAX, "the last turn");
     expect(vb_host_first(seats, 2) == 0, "of one turn the lower place");
-    expect(step(&host, seats, (VbHostEvent){ .kind = VB_WANTS, .guest = 1, .pages = 35 }) == VB_OK,
+    expect(step(&host, seats, (VbHostEvent){.kind = VB_WANTS, .guest = 1, .pages = 35}) == VB_OK,
            "wanted");
     expect(seats[1].target == 30 && seats[1].least_target == 30, "no target without a number");
     expect(seats[1].target_number == UINT64_MAX && seats[1].wanted == 35, "the last number");
@@ -211,11 +230,11 @@ static void check_last(void)
 /* Sums of 33 bits: a budget, an overdraft, what is lent, and what two places have together. */
 static void check_sums(void)
 {
-    VbHost host = { .frames = UINT32_MAX, .overdraft = UINT32_MAX - 1 };
-    VbSeat seats[2] = { guest(UINT32_MAX, 0, 0), guest(UINT32_MAX, UINT32_MAX, UINT32_MAX) };
+    VbHost host = {.frames = UINT32_MAX, .overdraft = UINT32_MAX - 1};
+    VbSeat seats[2] = {guest(UINT32_MAX, 0, 0), guest(UINT32_MAX, UINT32_MAX, UINT32_MAX)};
     seats[1].held = UINT32_MAX;
     seats[1].turn = 1;
-    VbHostEvent event = { .kind = VB_OVERDRAWS, .guest = 1 };
+    VbHostEvent event = {.kind = VB_OVERDRAWS, .guest = 1};
     expect(step(&host, seats, event) == VB_OK && seats[1].held != 0, "a frame less");
     expect(vb_seat_asked(&seats[1]) == UINT32_MAX, "it asks for all");
     host.overdraft++;
@@ -223,7 +242,7 @@ static void check_sums(void)
     expect(vb_host_owed(seats, 2) == 2ull * UINT32_MAX, "more is owed than 32 bits say");
     expect(vb_host_room(&host, seats, 2) == 0, "no room");
     expect(vb_host_owed(NULL, 0) == 0 && vb_host_room(&host, NULL, 0) == UINT32_MAX, "no guest");
-    event = (VbHostEvent){ .kind = VB_JOINS, .guest = 0, .added = 1 };
+    event = (VbHostEvent){.kind = VB_JOINS, .guest = 0, .added = 1};
     seats[0].pages = UINT32_MAX - 5;
     seats[1].pages = 6;
     expect(step(&host, seats, event) == VB_OK && seats[1].pages == 6, "2^32 pages together");
@@ -235,13 +254,13 @@ static void check_sums(void)
 /* More is taken away than there is; the first deflate of all is held at a takeover. */
 static void check_less(void)
 {
-    VbHost host = { .frames = 0 };
-    VbSeat seats[2] = { guest(50, 30, 0), guest(50, 30, 0) };
-    VbHostEvent event = { .kind = VB_HEARS, .report = { 20, 30, 30, 0, 0, 0, 1, UINT64_MAX } };
+    VbHost host = {.frames = 0};
+    VbSeat seats[2] = {guest(50, 30, 0), guest(50, 30, 0)};
+    VbHostEvent event = {.kind = VB_HEARS, .report = {20, 30, 30, 0, 0, 0, 1, UINT64_MAX}};
     expect(step(&host, seats, event) == VB_OK, "heard");
     expect(seats[0].pages == 0 && seats[0].ballooned == 20, "nothing is left but what is reported");
-    event = (VbHostEvent){ .kind = VB_TAKES_OVER, .guest = 1, .pages = 70 };
-    event.report = (VbReport){ 9, 7, 8, 6, 1, 5, 0, 3 };
+    event = (VbHostEvent){.kind = VB_TAKES_OVER, .guest = 1, .pages = 70};
+    event.report = (VbReport){9, 7, 8, 6, 1, 5, 0, 3};
     expect(step(&host, seats, event) == VB_OK && seats[1].pages == 70, "taken over");
     expect(seats[1].least_target == 7 && seats[1].target == 7, "the lower of both targets");
     expect(seats[1].granted == 0 && seats[1].turn == 1, "none was granted before");
@@ -250,18 +269,18 @@ static void check_less(void)
 /* Both wait, the second with a target that it hasn't reached: the first is granted. */
 static void check_overdraft(void)
 {
-    VbHost host = { .frames = 40, .overdraft = 5 };
-    VbSeat seats[2] = { guest(50, 30, 30), guest(50, 30, 40) };
+    VbHost host = {.frames = 40, .overdraft = 5};
+    VbSeat seats[2] = {guest(50, 30, 30), guest(50, 30, 40)};
     seats[0].held = 5;
     seats[1].held = 3;
     seats[0].turn = 1;
     seats[1].turn = 2;
     seats[1].target = 40;
-    expect(step(&host, seats, (VbHostEvent){ .kind = VB_OVERDRAWS, .guest = 1 }) == VB_OK
-               && seats[0].held == 5 && seats[1].held == 3,
+    expect(step(&host, seats, (VbHostEvent){.kind = VB_OVERDRAWS, .guest = 1}) == VB_OK &&
+               seats[0].held == 5 && seats[1].held == 3,
            "no overdraft for the second that waits");
-    expect(step(&host, seats, (VbHostEvent){ .kind = VB_OVERDRAWS, .guest = 0 }) == VB_OK
-               && seats[0].held == 0 && seats[1].held == 3,
+    expect(step(&host, seats, (VbHostEvent){.kind = VB_OVERDRAWS, .guest = 0}) == VB_OK &&
+               seats[0].held == 0 && seats[1].held == 3,
            "all wait");
 }
 

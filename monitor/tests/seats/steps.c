@@ -49,8 +49,8 @@ static uint64_t odd_count(void)
 
 static VbReport odd_report(const VbSeat *seat)
 {
-    VbReport report = { odd_number(), odd_number(), odd_number(), odd_number(), odd_number(),
-                        odd_count(), odd_count(), odd_count() };
+    VbReport report = {odd_number(), odd_number(), odd_number(), odd_number(),
+                       odd_number(), odd_count(),  odd_count(),  odd_count()};
     if (chance(2))
         report.read_target = seat->target, report.target_number = seat->target_number;
     if (chance(3))
@@ -62,7 +62,7 @@ static VbReport odd_report(const VbSeat *seat)
 
 static VbSeat odd_seat(void)
 {
-    VbSeat seat = { .pages = odd_number(), .ballooned = odd_number() };
+    VbSeat seat = {.pages = odd_number(), .ballooned = odd_number()};
     seat.least_target = odd_number();
     seat.target = odd_number();
     seat.wanted = odd_number();
@@ -78,9 +78,10 @@ static VbSeat odd_seat(void)
 
 static uint32_t any_kind(void)
 {
-    static const uint32_t often[] = { VB_HEARS, VB_HEARS, VB_HEARS, VB_HEARS, VB_HEARS, VB_HEARS,
-                                      VB_GRANTS, VB_OVERDRAWS, VB_OVERDRAWS, VB_WANTS, VB_WANTS,
-                                      VB_TARGETS, VB_ARRIVES, VB_JOINS, VB_TAKES_OVER, VB_BUDGET };
+    static const uint32_t often[] = {VB_HEARS,     VB_HEARS, VB_HEARS,      VB_HEARS,
+                                     VB_HEARS,     VB_HEARS, VB_GRANTS,     VB_OVERDRAWS,
+                                     VB_OVERDRAWS, VB_WANTS, VB_WANTS,      VB_TARGETS,
+                                     VB_ARRIVES,   VB_JOINS, VB_TAKES_OVER, VB_BUDGET};
     return chance(64) ? often[chance(sizeof often / sizeof *often)] : VB_UNCOUNTS;
 }
 
@@ -113,7 +114,7 @@ static bool may_join(const struct day *day, size_t added)
 
 static VbHostEvent any_event(struct day *day)
 {
-    VbHostEvent event = { .kind = any_kind(), .frames = 20 + chance(200) };
+    VbHostEvent event = {.kind = any_kind(), .frames = 20 + chance(200)};
     size_t first = vb_host_first(day->seats, day->count);
     event.guest = chance(40) ? chance((uint32_t)day->count) : day->count + chance(2);
     if (event.kind == VB_OVERDRAWS && first < day->count && chance(4))
@@ -137,8 +138,8 @@ static void follow(struct day *day, const VbSeat *before)
         guest_arrive(guest, event->pages, event->ballooned);
     else if (event->kind == VB_TAKES_OVER)
         guest_connect(guest);
-    else if (event->kind == VB_JOINS && event->added < day->count
-             && day->seats[event->guest].pages > before[event->guest].pages)
+    else if (event->kind == VB_JOINS && event->added < day->count &&
+             day->seats[event->guest].pages > before[event->guest].pages)
         guest_join(guest, &day->guests[event->added]);
 }
 
@@ -159,7 +160,7 @@ static void check_settled(const struct day *day)
 {
     VbHost host = day->host;
     VbSeat seats[PLACES];
-    VbHostEvent event = { .kind = VB_WANTS, .guest = day->count };
+    VbHostEvent event = {.kind = VB_WANTS, .guest = day->count};
     memcpy(seats, day->seats, sizeof seats);
     vb_host_step(&host, seats, day->count, &event);
     check_same(day, &host, seats, "a step leaves something to do");
@@ -169,17 +170,17 @@ static void check_readers(const struct day *day)
 {
     const VbSeat *seats = day->seats;
     VbReport report = odd_report(&seats[0]);
-    if (vb_host_owed(seats, day->count) != reference_host_owed(seats, day->count)
-        || vb_host_room(&day->host, seats, day->count)
-            != reference_host_room(&day->host, seats, day->count)
-        || vb_host_first(seats, day->count) != reference_host_first(seats, day->count))
+    if (vb_host_owed(seats, day->count) != reference_host_owed(seats, day->count) ||
+        vb_host_room(&day->host, seats, day->count) !=
+            reference_host_room(&day->host, seats, day->count) ||
+        vb_host_first(seats, day->count) != reference_host_first(seats, day->count))
         fail(day, "the plain implementation reads something else of all");
     for (const VbSeat *it = seats; it < seats + day->count; it++)
-        if (vb_seat_lent(it) != reference_seat_lent(it)
-            || vb_seat_asked(it) != reference_seat_asked(it)
-            || vb_seat_waits(it) != reference_seat_waits(it)
-            || vb_seat_due_target(it, &report) != reference_seat_due_target(it, &report)
-            || vb_seat_due_grant(it, &report) != reference_seat_due_grant(it, &report))
+        if (vb_seat_lent(it) != reference_seat_lent(it) ||
+            vb_seat_asked(it) != reference_seat_asked(it) ||
+            vb_seat_waits(it) != reference_seat_waits(it) ||
+            vb_seat_due_target(it, &report) != reference_seat_due_target(it, &report) ||
+            vb_seat_due_grant(it, &report) != reference_seat_due_grant(it, &report))
             fail(day, "the plain implementation reads something else of a seat");
 }
 
@@ -190,8 +191,8 @@ static void check_laws(const struct day *day, const VbSeat *before)
     uint32_t kind = day->event.kind;
     if (kind == VB_OVERDRAWS)
         budget += day->host.overdraft;
-    if (kind != VB_UNCOUNTS && kind != VB_TAKES_OVER
-        && vb_host_owed(day->seats, day->count) > (most > budget ? most : budget))
+    if (kind != VB_UNCOUNTS && kind != VB_TAKES_OVER &&
+        vb_host_owed(day->seats, day->count) > (most > budget ? most : budget))
         fail(day, "more is lent than there is");
     for (size_t i = 0; i < day->count; i++)
         if (day->guests[i].pages - day->guests[i].now.ballooned > vb_seat_lent(&day->seats[i]))
@@ -201,7 +202,7 @@ static void check_laws(const struct day *day, const VbSeat *before)
 static void note_effect(const struct day *day, const VbSeat *before, VbHost host)
 {
     VbSeat seats[PLACES];
-    VbHostEvent nothing = { .kind = VB_WANTS, .guest = day->count };
+    VbHostEvent nothing = {.kind = VB_WANTS, .guest = day->count};
     memcpy(seats, before, sizeof seats);
     vb_host_step(&host, seats, day->count, &nothing);
     bool same = host.frames == day->host.frames;
@@ -233,8 +234,8 @@ static void play(struct day *day)
             day->seats[i] = day->twins[i] = odd_seat();
     memcpy(before, day->seats, sizeof before);
     day->event = any_event(day);
-    if (vb_host_step(&day->host, day->seats, day->count, &day->event) != VB_OK
-        || reference_host_step(&day->twin, day->twins, day->count, &day->event) != VB_OK)
+    if (vb_host_step(&day->host, day->seats, day->count, &day->event) != VB_OK ||
+        reference_host_step(&day->twin, day->twins, day->count, &day->event) != VB_OK)
         fail(day, "an event is refused");
     check_same(day, &day->twin, day->twins, "the plain implementation leaves something else");
     check_readers(day);

@@ -1,0 +1,160 @@
+//! A host's lender as one step: the calls of vb_host.h over a list of seats. A guest is its place in
+//! the list; [`Seat::default`] is a place without a guest. Any numbers may be passed.
+//!
+//! After each step a guest's limit by the kernel is to be [`Seat::lent`]. Its process is to be sent
+//! its target where [`Seat::due_target`] says so of its last report, and the grant of its deflate
+//! where [`Seat::due_grant`] does and its limit in force is at least what is lent.
+
+use crate::raw::*;
+
+pub use crate::raw::{Report, Seat};
+
+/// In which line a deflate waits, as `line` of a [`Report`] has it. Those of an earlier line come
+/// before all of a later one.
+#[derive(Clone, Copy, Debug, PartialEq, Eq)]
+pub enum Line {
+    Deflates = LINE_DEFLATES as isize,
+    /// Of a guest that boots again.
+    Resets = LINE_RESETS as isize,
+    /// Of newcomers, and of memory that is added.
+    Arrivals = LINE_ARRIVALS as isize,
+}
+
+/// What may happen to a lender. Where there is no seat at a place, or the event isn't possible, it
+/// has no effect.
+#[derive(Clone, Copy, Debug, PartialEq, Eq)]
+pub enum Event {
+    /// A guest's process has reported.
+    Hears { guest: usize, report: Report },
+    /// A guest's deflate is granted, where that lends nothing more, or it is the first that waits
+    /// and there is room.
+    Grants { guest: usize },
+    /// The deflate of the guest that waits first is granted from the overdraft, where all others
+    /// wait or have in their balloons what their targets say.
+    Overdraws { guest: usize },
+    /// These pages of a guest are wanted in its balloon.
+    Wants { guest: usize, pages: u32 },
+    /// A guest has the target that is possible.
+    Targets { guest: usize },
+    /// Another guest is at a place, with all its pages in its balloon, `ballooned` of which are
+    /// wanted there; of no pages: the guest has gone.
+    Arrives { guest: usize, pages: u32, ballooned: u32 },
+    /// The memory at the place `added`, all of which is lent, joins a guest.
+    Joins { guest: usize, added: usize },
+    /// A guest of these pages sends its first report to a later lender.
+    TakesOver { guest: usize, pages: u32, report: Report },
+    /// A guest takes pages without a grant: all are lent to it.
+    Uncounts { guest: usize },
+    /// The budget from now on.
+    Budget { frames: u32 },
+}
+
+impl Event {
+    /// The event of a kind at a place.
+    fn at(kind: u32, guest: usize) -> HostEvent {
+        HostEvent { kind, guest, ..HostEvent::default() }
+    }
+
+    fn plain(self) -> HostEvent {
+        match self {
+            Event::Hears { guest, report } => HostEvent { report, ..Event::at(HEARS, guest) },
+            Event::Grants { guest } => Event::at(GRANTS, guest),
+            Event::Overdraws { guest } => Event::at(OVERDRAWS, guest),
+            Event::Wants { guest, pages } => HostEvent { pages, ..Event::at(WANTS, guest) },
+            Event::Targets { guest } => Event::at(TARGETS, guest),
+            Event::Arrives { guest, pages, ballooned } => HostEvent { pages, ballooned, ..Event::at(ARRIVES, guest) },
+            Event::Joins { guest, added } => HostEvent { added, ..Event::at(JOINS, guest) },
+            Event::TakesOver { guest, pages, report } => HostEvent { pages, report, ..Event::at(TAKES_OVER, guest) },
+            Event::Uncounts { guest } => Event::at(UNCOUNTS, guest),
+            Event::Budget { frames } => HostEvent { frames, ..Event::at(BUDGET, 0) },
+        }
+    }
+}
+
+impl Seat {
+    /// How many frames are lent to it: its limit.
+    pub fn lent(&self) -> u32 {
+        // SAFETY: the pointer is of a `&`.
+        unsafe { vb_seat_lent(self) }
+    }
+
+    /// How many more a grant of its deflate would lend.
+    pub fn asked(&self) -> u32 {
+        // SAFETY: the pointer is of a `&`.
+        unsafe { vb_seat_asked(self) }
+    }
+
+    /// Whether a deflate of it waits.
+    pub fn waits(&self) -> bool {
+        // SAFETY: the pointer is of a `&`.
+        unsafe { vb_seat_waits(self) != 0 }
+    }
+
+    /// Whether its process, of which this is the last report, hasn't received its last target.
+    pub fn due_target(&self, report: &Report) -> bool {
+        // SAFETY: the pointers are of `&`.
+        unsafe { vb_seat_due_target(self, report) != 0 }
+    }
+
+    /// Whether its process, of which this is the last report, holds a deflate that was granted.
+    pub fn due_grant(&self, report: &Report) -> bool {
+        // SAFETY: the pointers are of `&`.
+        unsafe { vb_seat_due_grant(self, report) != 0 }
+    }
+}
+
+/// A lender: a budget, an overdraft, and what is known of each guest.
+#[derive(Clone, Debug, Default, PartialEq, Eq)]
+pub struct Lender {
+    host: Host,
+    seats: Vec<Seat>,
+}
+
+impl Lender {
+    /// A lender of these frames, and beyond them of an overdraft, with no place yet.
+    pub fn new(frames: u32, overdraft: u32) -> Lender {
+        Lender { host: Host { frames, overdraft }, seats: Vec::new() }
+    }
+
+    /// Adds a place without a guest, and says which one.
+    pub fn add_place(&mut self) -> usize {
+        self.seats.push(Seat::default());
+        self.seats.len() - 1
+    }
+
+    /// One step: the event; then grants until none is possible; then the target of each guest.
+    pub fn step(&mut self, event: Event) {
+        let plain = event.plain();
+        // SAFETY: the pointers are of `&mut` and `&`, and of a slice with its length.
+        unsafe { vb_host_step(&mut self.host, self.seats.as_mut_ptr(), self.seats.len(), &plain) };
+    }
+
+    /// What is known of each guest.
+    pub fn seats(&self) -> &[Seat] {
+        &self.seats
+    }
+
+    /// The budget.
+    pub fn frames(&self) -> u32 {
+        self.host.frames
+    }
+
+    /// How many frames are lent to all guests together.
+    pub fn owed(&self) -> u64 {
+        // SAFETY: the pointer is of a slice with its length.
+        unsafe { vb_host_owed(self.seats.as_ptr(), self.seats.len()) }
+    }
+
+    /// How many frames of the budget are neither lent nor waited for.
+    pub fn room(&self) -> u32 {
+        // SAFETY: the pointers are of a `&`, and of a slice with its length.
+        unsafe { vb_host_room(&self.host, self.seats.as_ptr(), self.seats.len()) }
+    }
+
+    /// The guest that waits first.
+    pub fn first(&self) -> Option<usize> {
+        // SAFETY: the pointer is of a slice with its length.
+        let place = unsafe { vb_host_first(self.seats.as_ptr(), self.seats.len()) };
+        (place < self.seats.len()).then_some(place)
+    }
+}

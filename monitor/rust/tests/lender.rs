@@ -1,0 +1,125 @@
+//! A host of 100 frames and two guests, by pencil: vb_host.h over a list of seats.
+
+use vb_balloon::lender::{Event, Lender, Line, Report, Seat};
+
+/// What the process of a guest of these pages reports before it is let in.
+fn coming(pages: u32, ballooned: u32) -> Report {
+    Report {
+        ballooned: pages,
+        target: pages,
+        read_target: pages,
+        held: pages - ballooned,
+        line: Line::Arrivals as u32,
+        deflates: 1,
+        ..Report::default()
+    }
+}
+
+/// The first guest has 60 pages, 10 of which stay in its balloon; the second has 86, and waits.
+fn host() -> Lender {
+    let mut lender = Lender::new(100, 6);
+    assert_eq!((lender.add_place(), lender.add_place()), (0, 1));
+    lender.step(Event::Arrives { guest: 0, pages: 60, ballooned: 10 });
+    lender.step(Event::Hears { guest: 0, report: coming(60, 10) });
+    lender.step(Event::Arrives { guest: 1, pages: 86, ballooned: 0 });
+    lender.step(Event::Hears { guest: 1, report: coming(86, 0) });
+    lender
+}
+
+/// The first has given 40 pages for its target, and its driver has read that.
+fn given() -> Report {
+    Report { ballooned: 40, target: 40, read_target: 40, target_number: 2, deflates: 1, ..Report::default() }
+}
+
+#[test]
+fn a_guest_is_let_in_where_there_is_room_and_another_one_waits() {
+    let lender = host();
+    let first = Seat {
+        pages: 60,
+        ballooned: 10,
+        least_target: 10,
+        target: 10,
+        wanted: 10,
+        line: Line::Arrivals as u32,
+        target_number: 1,
+        deflates: 1,
+        granted: 1,
+        ..Seat::default()
+    };
+    assert_eq!(lender.seats()[0], first);
+    assert_eq!((lender.owed(), lender.room(), lender.first()), (50, 0, Some(1)));
+    assert_eq!((first.lent(), first.asked(), first.waits()), (50, 0, false));
+    let second = lender.seats()[1];
+    assert_eq!((second.lent(), second.asked(), second.waits(), second.turn), (0, 86, true, 1));
+}
+
+#[test]
+fn orders_are_due_until_a_report_shows_them() {
+    let seat = host().seats()[0];
+    assert!(seat.due_target(&coming(60, 10)) && seat.due_grant(&coming(60, 10)));
+    let shown = Report { target_number: 1, held: 0, ..coming(60, 10) };
+    assert!(!seat.due_target(&shown) && !seat.due_grant(&shown));
+}
+
+#[test]
+fn an_overdraft_is_lent_once_all_others_have_reached_their_targets() {
+    let mut lender = host();
+    lender.step(Event::Wants { guest: 0, pages: 40 });
+    lender.step(Event::Overdraws { guest: 1 });
+    assert_eq!((lender.seats()[0].target, lender.first()), (40, Some(1)));
+    lender.step(Event::Hears { guest: 0, report: given() });
+    lender.step(Event::Grants { guest: 1 });
+    assert_eq!((lender.owed(), lender.first()), (20, Some(1)), "86 beside 20 are 6 too many");
+    lender.step(Event::Overdraws { guest: 1 });
+    assert_eq!((lender.owed(), lender.room(), lender.first()), (106, 0, None));
+}
+
+#[test]
+fn a_budget_lets_in_and_a_guest_that_has_gone_makes_room() {
+    let mut lender = host();
+    lender.step(Event::Budget { frames: 135 });
+    assert_eq!((lender.frames(), lender.first()), (135, Some(1)));
+    lender.step(Event::Budget { frames: 136 });
+    assert_eq!((lender.owed(), lender.first()), (136, None));
+    lender.step(Event::Arrives { guest: 0, pages: 0, ballooned: 0 });
+    assert_eq!((lender.seats()[0], lender.owed()), (Seat::default(), 86));
+    lender.step(Event::Targets { guest: 1 });
+    assert_eq!((lender.room(), lender.seats()[1].target), (50, 0));
+}
+
+#[test]
+fn memory_that_was_let_in_joins_a_guest() {
+    let mut lender = Lender::new(200, 0);
+    assert_eq!((lender.add_place(), lender.add_place()), (0, 1));
+    lender.step(Event::Arrives { guest: 0, pages: 60, ballooned: 0 });
+    lender.step(Event::Hears { guest: 0, report: coming(60, 0) });
+    lender.step(Event::Arrives { guest: 1, pages: 8, ballooned: 0 });
+    lender.step(Event::Joins { guest: 0, added: 1 });
+    assert_eq!(lender.seats()[0].pages, 60, "none of it is lent yet");
+    lender.step(Event::Hears { guest: 1, report: coming(8, 0) });
+    lender.step(Event::Joins { guest: 0, added: 1 });
+    assert_eq!((lender.seats()[0].pages, lender.seats()[1]), (68, Seat::default()));
+    lender.step(Event::Joins { guest: 0, added: 2 });
+    assert_eq!(lender.owed(), 68);
+}
+
+#[test]
+fn a_later_lender_goes_by_the_first_report() {
+    let mut lender = Lender::new(33, 0);
+    assert_eq!(lender.add_place(), 0);
+    let report = Report {
+        ballooned: 38,
+        target: 40,
+        read_target: 30,
+        held: 12,
+        line: Line::Resets as u32,
+        target_number: 7,
+        deflates: 5,
+        removed: 3,
+    };
+    lender.step(Event::TakesOver { guest: 0, pages: 60, report });
+    let seat = lender.seats()[0];
+    assert_eq!((seat.lent(), seat.asked(), seat.granted, seat.turn), (30, 4, 4, 1));
+    lender.step(Event::Uncounts { guest: 0 });
+    assert_eq!((lender.owed(), lender.seats()[0].ballooned), (60, 0));
+}
