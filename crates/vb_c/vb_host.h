@@ -40,37 +40,35 @@ enum {
 
 /* What a guest's process reports: what it is at that moment. Any numbers may come. */
 typedef struct {
-    uint32_t ballooned;     /* pages in its balloon, without those that couldn't be discarded */
-    uint32_t target;        /* the last target that it has received, in pages */
-    uint32_t read_target;   /* the target that its driver has read last, in pages; where reads
-                                   aren't seen, one that it may have read */
+    uint32_t ballooned; /* pages in its balloon, without those that couldn't be discarded */
+    uint32_t target;    /* the last target that it has received, in pages */
+    /* The target that its driver has read last, in pages; where reads aren't seen, one that it may
+     * have read. */
+    uint32_t read_target;
     uint32_t held;          /* pages of the deflate that it holds back; 0 where it holds none */
     uint32_t line;          /* in which that deflate waits: VB_LINE_DEFLATES .. */
     uint64_t target_number; /* of the last target that it has received */
-    uint64_t deflates;      /* how many deflates it has held back, this one included: the number
-                                   of this one */
-    uint64_t removed;       /* pages that were taken away from its memory so far */
+    /* How many deflates it has held back, this one included: the number of this one. */
+    uint64_t deflates;
+    uint64_t removed; /* pages that were taken away from its memory so far */
 } VbReport;
 
 /* What the lender knows of a guest. What is lent to it is all its pages but min(ballooned,
  * least_target) (vb_seat_lent). */
 typedef struct {
-    uint32_t pages;         /* that it may have frames for, in a memory slot or outside; 0 where
-                                   no guest is there */
-    uint32_t ballooned;     /* in its balloon, as last reported, without those of a granted
-                                   deflate */
-    uint32_t least_target;  /* the least of all targets that its driver may still obey, in
-                                   pages */
+    /* Pages that it may have frames for, in a memory slot or outside; 0 where no guest is there. */
+    uint32_t pages;
+    /* Pages in its balloon, as last reported, without those of a granted deflate. */
+    uint32_t ballooned;
+    uint32_t least_target;  /* the least of all targets that its driver may still obey, in pages */
     uint32_t target;        /* its last target, in pages */
-    uint32_t wanted;        /* pages that are wanted in its balloon: its target is this or
-                                   above */
+    uint32_t wanted;        /* pages wanted in its balloon: its target is this or above */
     uint32_t held;          /* pages of the deflate that waits; 0 where none does */
     uint32_t line;          /* in which it waits: VB_LINE_DEFLATES .. */
     uint64_t target_number; /* of its last target: how many it was sent */
     uint64_t deflates;      /* how many its process has held back, by its last report */
-    uint64_t granted;       /* the number of the last deflate that was granted; 0 until the
-                                   guest was let in */
-    uint64_t removed;       /* pages that were taken away from its memory, by its last report */
+    uint64_t granted;       /* the number of the last granted deflate; 0 before it was let in */
+    uint64_t removed;       /* pages taken away from its memory, by its last report */
     uint64_t turn;          /* its turn among those that wait; 0 where it doesn't */
 } VbSeat;
 
@@ -82,37 +80,41 @@ typedef struct {
 /* What may happen to a lender: `kind` of an event, and which of its other fields that reads. Where
  * there is no seat at a place, or the event isn't possible, it has no effect. */
 enum {
-    VB_HEARS = 1,      /* guest, report: its process has reported. Its balloon is counted:
-                                   never fewer pages than before, but for granted deflates and what
-                                   was taken away. A deflate that lends nothing more is granted.
-                                   Once its driver has read its last target, least_target rises to
-                                   that. A deflate that waits from now on gets the next turn. No
-                                   effect: a report of before the last grant, or of before memory
-                                   was taken away that is known of */
-    VB_GRANTS = 2,     /* guest: its deflate is granted. Possible where that lends nothing
-                                   more, or it is the first that waits and there is room */
-    VB_OVERDRAWS = 3,  /* guest: its deflate is granted from the overdraft. Possible where
-                                   it is the first that waits, all others wait or have in their
-                                   balloons what their targets say, and there is room with the
-                                   overdraft */
-    VB_WANTS = 4,      /* guest, pages: these are wanted in its balloon */
-    VB_TARGETS = 5,    /* guest: it has the target from now on that is possible: what is
-                                   wanted, or min(ballooned, least_target) less what there is room
-                                   for, whichever is more. There is no room for one that waits, or
-                                   that no deflate was granted yet */
-    VB_ARRIVES = 6,    /* guest, pages, ballooned: another guest is at this place, with all
-                                   its pages in its balloon. It waits once it has reported its first
-                                   deflate, of all but `ballooned`, which are wanted in its balloon.
-                                   Of no pages: the guest has gone */
-    VB_JOINS = 7,      /* guest, added: the memory at the place `added`, which waited as a
-                                   guest of its own, joins the guest, and its place is vacant.
-                                   Possible where all that memory is lent, both places differ, and
-                                   they have fewer than 2^32 pages together */
-    VB_TAKES_OVER = 8, /* guest, pages, report: the first report to a later lender of a
-                                   guest that has `pages`, whichever was at its place */
-    VB_UNCOUNTS = 9,   /* guest: it takes pages without a grant, so all are lent to it. Its
-                                   later reports are to be passed with ballooned 0 */
-    VB_BUDGET = 10,    /* frames: the budget from now on */
+    /* guest, report: its process has reported. Its balloon is counted: never fewer pages than
+     * before, but for granted deflates and what was taken away. A deflate that lends nothing more
+     * is granted. Once its driver has read its last target, least_target rises to that. A deflate
+     * that waits from now on gets the next turn. No effect: a report of before the last grant, or
+     * of before memory was taken away that is known of. */
+    VB_HEARS = 1,
+    /* guest: its deflate is granted. Possible where that lends nothing more, or it is the first
+     * that waits and there is room. */
+    VB_GRANTS = 2,
+    /* guest: its deflate is granted from the overdraft. Possible where it is the first that waits,
+     * all others wait or have in their balloons what their targets say, and there is room with the
+     * overdraft. */
+    VB_OVERDRAWS = 3,
+    /* guest, pages: these are wanted in its balloon. */
+    VB_WANTS = 4,
+    /* guest: it has the target from now on that is possible: what is wanted, or min(ballooned,
+     * least_target) less what there is room for, whichever is more. There is no room for one that
+     * waits, or of which no deflate was granted yet. */
+    VB_TARGETS = 5,
+    /* guest, pages, ballooned: another guest is at this place, with all its pages in its balloon.
+     * It waits once it has reported its first deflate, of all but `ballooned`, which are wanted in
+     * its balloon. Of no pages: the guest has gone. */
+    VB_ARRIVES = 6,
+    /* guest, added: the memory at the place `added`, which waited as a guest of its own, joins the
+     * guest, and its place is vacant. Possible where all that memory is lent, both places differ,
+     * and they have fewer than 2^32 pages together. */
+    VB_JOINS = 7,
+    /* guest, pages, report: the first report to a later lender of a guest that has `pages`,
+     * whichever was at its place. */
+    VB_TAKES_OVER = 8,
+    /* guest: it takes pages without a grant, so all are lent to it. Its later reports are to be
+     * passed with ballooned 0. */
+    VB_UNCOUNTS = 9,
+    /* frames: the budget from now on. */
+    VB_BUDGET = 10,
 };
 
 typedef struct {
@@ -151,11 +153,9 @@ uint32_t vb_seat_lent(const VbSeat *seat);
 uint32_t vb_seat_asked(const VbSeat *seat);
 /* 1 where a deflate of it waits, else 0. */
 uint32_t vb_seat_waits(const VbSeat *seat);
-/* 1 where its process, of which this is the last report, hasn't received its last target, else
- * 0. */
+/* 1 where its process hasn't received its last target, by its last report, else 0. */
 uint32_t vb_seat_due_target(const VbSeat *seat, const VbReport *report);
-/* 1 where its process, of which this is the last report, holds a deflate that was granted, else
- * 0. */
+/* 1 where its process holds a deflate that was granted, by its last report, else 0. */
 uint32_t vb_seat_due_grant(const VbSeat *seat, const VbReport *report);
 
 /* How many frames are lent to all guests together (2^64 - 1 where it is more). */

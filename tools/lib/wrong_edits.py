@@ -11,7 +11,7 @@ OBEY, BALLOON, HELD, SERVED = (
     "rust/src/served.rs",
 )
 PAUSE = "rust/src/pause.rs"
-LENDING, HINTS = "rust/src/lending.rs", "rust/src/hints.rs"
+LENDER, LENDING, HINTS = "rust/src/lender.rs", "rust/src/lending.rs", "rust/src/hints.rs"
 
 # name, file, the text, what replaces it.
 WRONG = [
@@ -1628,6 +1628,25 @@ WRONG = [
         LENDING,
         "SHORT => Err(NoTargets::Short(said.missing)),",
         "SHORT => Ok(()),",
+    ),
+    ("an overdraft that is a grant", LENDER, "Event::at(OVERDRAWS,", "Event::at(GRANTS,"),
+    (
+        "a guest that arrives with nothing in its balloon",
+        LENDER,
+        "HostEvent { pages, ballooned, ..Event::at(ARRIVES, guest) }",
+        "HostEvent { pages, ballooned: 0 * ballooned, ..Event::at(ARRIVES, guest) }",
+    ),
+    (
+        "a guest where none waits",
+        LENDER,
+        "(place < self.seats.len()).then_some(place)",
+        "Some(place)",
+    ),
+    (
+        "a grant that is due for a target",
+        LENDER,
+        "vb_seat_due_grant(self, report) != 0",
+        "vb_seat_due_target(self, report) != 0",
     ),
 ]
 
