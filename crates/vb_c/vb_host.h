@@ -70,6 +70,8 @@ typedef struct {
     uint64_t granted;       /* the number of the last granted deflate; 0 before it was let in */
     uint64_t removed;       /* pages taken away from its memory, by its last report */
     uint64_t turn;          /* its turn among those that wait; 0 where it doesn't */
+    uint32_t uncounted;     /* its balloon counts no longer; 0 where it counts */
+    uint32_t preferred;     /* it comes before all others of its line; 0 where it doesn't */
 } VbSeat;
 
 typedef struct {
@@ -110,15 +112,18 @@ enum {
     /* guest, pages, report: the first report to a later lender of a guest that has `pages`,
      * whichever was at its place. */
     VB_TAKES_OVER = 8,
-    /* guest: it takes pages without a grant, so all are lent to it. Its later reports are to be
-     * passed with ballooned 0. */
+    /* guest: it takes pages without a grant. All are lent to it, also those that it reports in its
+     * balloon, until another guest is at its place. */
     VB_UNCOUNTS = 9,
     /* frames: the budget from now on. */
     VB_BUDGET = 10,
+    /* guest: of all guests just this one comes before all others of its line from now on, whenever
+     * it waits; none does where there is no such place. */
+    VB_PREFERS = 11,
 };
 
 typedef struct {
-    uint32_t kind;       /* VB_HEARS .. VB_BUDGET */
+    uint32_t kind;       /* VB_HEARS .. VB_PREFERS */
     size_t guest, added; /* places */
     uint32_t pages, ballooned;
     uint32_t frames;
@@ -129,12 +134,13 @@ VB_ASSERT(sizeof(VbReport) == 48 && offsetof(VbReport, target) == 4);
 VB_ASSERT(offsetof(VbReport, read_target) == 8 && offsetof(VbReport, held) == 12);
 VB_ASSERT(offsetof(VbReport, line) == 16 && offsetof(VbReport, target_number) == 24);
 VB_ASSERT(offsetof(VbReport, deflates) == 32 && offsetof(VbReport, removed) == 40);
-VB_ASSERT(sizeof(VbSeat) == 72 && offsetof(VbSeat, ballooned) == 4);
+VB_ASSERT(sizeof(VbSeat) == 80 && offsetof(VbSeat, ballooned) == 4);
 VB_ASSERT(offsetof(VbSeat, least_target) == 8 && offsetof(VbSeat, target) == 12);
 VB_ASSERT(offsetof(VbSeat, wanted) == 16 && offsetof(VbSeat, held) == 20);
 VB_ASSERT(offsetof(VbSeat, line) == 24 && offsetof(VbSeat, target_number) == 32);
 VB_ASSERT(offsetof(VbSeat, deflates) == 40 && offsetof(VbSeat, granted) == 48);
 VB_ASSERT(offsetof(VbSeat, removed) == 56 && offsetof(VbSeat, turn) == 64);
+VB_ASSERT(offsetof(VbSeat, uncounted) == 72 && offsetof(VbSeat, preferred) == 76);
 VB_ASSERT(sizeof(VbHost) == 8 && offsetof(VbHost, overdraft) == 4 && sizeof(VbHostEvent) == 88);
 VB_ASSERT(offsetof(VbHostEvent, guest) == 8 && offsetof(VbHostEvent, added) == 16);
 VB_ASSERT(offsetof(VbHostEvent, pages) == 24 && offsetof(VbHostEvent, ballooned) == 28);

@@ -73,7 +73,8 @@ uint32_t vb_seat_due_grant(const VbSeat *seat, const VbReport *report)
  * its pages have left the balloon. */
 static VbSeat counted(VbSeat seat, const VbReport *report)
 {
-    uint64_t taken = without(report->removed, seat.removed), ballooned = report->ballooned;
+    uint64_t taken = without(report->removed, seat.removed);
+    uint64_t ballooned = seat.uncounted ? 0 : report->ballooned;
     bool was_granted = report->deflates == seat.granted;
     if (was_granted)
         ballooned = without(ballooned, report->held);
@@ -120,10 +121,10 @@ static VbSeat targeted(VbSeat seat, uint64_t room)
     return seat;
 }
 
-/* Whether it waits, or has in its balloon what its target says. */
+/* Whether it waits, is uncounted, or has in its balloon what its target says. */
 static bool is_done(const VbSeat *seat)
 {
-    return seat->held || seat->target <= seat->ballooned;
+    return seat->held || seat->uncounted || seat->target <= seat->ballooned;
 }
 
 /* ---- arrivals */
@@ -190,13 +191,16 @@ static uint64_t next_turn(const VbSeat *seats, size_t count)
     return last == UINT64_MAX ? last : last + 1;
 }
 
-/* Whether a guest waits before another one that waits: by lines, then turns, then places. */
+/* Whether a guest waits before another one that waits: by lines, then whether it is preferred, then
+ * turns of those that aren't, then places. */
 static bool waits_before(const VbSeat *one, const VbSeat *other)
 {
     uint64_t line = least(one->line, VB_LINE_ARRIVALS), next = least(other->line, VB_LINE_ARRIVALS);
     if (line != next)
         return line < next;
-    return one->turn != other->turn ? one->turn < other->turn : one < other;
+    if (!one->preferred != !other->preferred)
+        return one->preferred;
+    return one->preferred || one->turn == other->turn ? one < other : one->turn < other->turn;
 }
 
 static bool is_first(const VbSeat *seats, size_t count, size_t guest)
@@ -269,6 +273,12 @@ static void join(VbSeat *seats, size_t count, size_t guest, size_t added)
     seats[added] = arrived(0, 0);
 }
 
+static void prefer(VbSeat *seats, size_t count, size_t guest)
+{
+    for (size_t i = 0; i < count; i++)
+        seats[i].preferred = i == guest;
+}
+
 /* What an event makes of the guest at its place. */
 static VbSeat seat_then(const VbHost *host, const VbSeat *seats, size_t count,
                         const VbHostEvent *event)
@@ -293,6 +303,7 @@ static VbSeat seat_then(const VbHost *host, const VbSeat *seats, size_t count,
         return queued(taken_over(event->pages, &event->report), next_turn(seats, count));
     case VB_UNCOUNTS:
         seat.ballooned = seat.least_target = 0;
+        seat.uncounted = 1;
         return seat;
     default:
         return seat;
@@ -301,10 +312,12 @@ static VbSeat seat_then(const VbHost *host, const VbSeat *seats, size_t count,
 
 uint32_t vb_host_step(VbHost *host, VbSeat *seats, size_t count, const VbHostEvent *event)
 {
-    if (event->kind < VB_HEARS || event->kind > VB_BUDGET)
+    if (event->kind < VB_HEARS || event->kind > VB_PREFERS)
         return VB_BAD_ARGUMENT;
     if (event->kind == VB_BUDGET)
         host->frames = event->frames;
+    else if (event->kind == VB_PREFERS)
+        prefer(seats, count, event->guest);
     else if (event->guest < count && event->kind == VB_JOINS)
         join(seats, count, event->guest, event->added);
     else if (event->guest < count)

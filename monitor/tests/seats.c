@@ -17,7 +17,8 @@ bool same_seat(const VbSeat *one, const VbSeat *other)
            one->wanted == other->wanted && one->held == other->held && one->line == other->line &&
            one->target_number == other->target_number && one->deflates == other->deflates &&
            one->granted == other->granted && one->removed == other->removed &&
-           one->turn == other->turn;
+           one->turn == other->turn && one->uncounted == other->uncounted &&
+           one->preferred == other->preferred;
 }
 
 void print_seat(size_t place, const VbSeat *seat)
@@ -25,10 +26,11 @@ void print_seat(size_t place, const VbSeat *seat)
     fprintf(stderr, "  %zu: pages %u, ballooned %u, least %u, target %u, wanted %u,", place,
             seat->pages, seat->ballooned, seat->least_target, seat->target, seat->wanted);
     fprintf(stderr, " held %u, line %u,", seat->held, seat->line);
-    fprintf(stderr, " number %llu, deflates %llu, granted %llu, removed %llu, turn %llu\n",
+    fprintf(stderr, " number %llu, deflates %llu, granted %llu, removed %llu, turn %llu,",
             (unsigned long long)seat->target_number, (unsigned long long)seat->deflates,
             (unsigned long long)seat->granted, (unsigned long long)seat->removed,
             (unsigned long long)seat->turn);
+    fprintf(stderr, " uncounted %u, preferred %u\n", seat->uncounted, seat->preferred);
 }
 
 int main(int count, char **words)

@@ -39,6 +39,9 @@ const UNCOUNTS: u32 = 9;
 /// The budget is set.
 const BUDGET: u32 = 10;
 
+/// Of all guests just one is preferred.
+const PREFERS: u32 = 11;
+
 /// How many frames a host has to lend, and how many beyond them.
 #[repr(C)]
 #[derive(Clone, Copy, Debug)]
@@ -90,6 +93,7 @@ impl VbHostEvent {
             BUDGET => Event::Budget {
                 frames: self.frames,
             },
+            PREFERS => Event::Prefers { guest },
             _ => return None,
         })
     }

@@ -43,10 +43,12 @@ pub enum Event {
     Joins { guest: usize, added: usize },
     /// A guest of these pages sends its first report to a later lender.
     TakesOver { guest: usize, pages: u32, report: Report },
-    /// A guest takes pages without a grant: all are lent to it.
+    /// A guest takes pages without a grant: all are lent to it, until another one is at its place.
     Uncounts { guest: usize },
     /// The budget from now on.
     Budget { frames: u32 },
+    /// Of all guests just this one comes before all others of its line from now on.
+    Prefers { guest: usize },
 }
 
 impl Event {
@@ -67,6 +69,7 @@ impl Event {
             Event::TakesOver { guest, pages, report } => HostEvent { pages, report, ..Event::at(TAKES_OVER, guest) },
             Event::Uncounts { guest } => Event::at(UNCOUNTS, guest),
             Event::Budget { frames } => HostEvent { frames, ..Event::at(BUDGET, 0) },
+            Event::Prefers { guest } => Event::at(PREFERS, guest),
         }
     }
 }

@@ -164,7 +164,7 @@ static void unsettle(VbSeat *seats)
 
 static void check_refusals(void)
 {
-    static const uint32_t kinds[] = {0, VB_BUDGET + 1, 256 + VB_WANTS, UINT32_MAX};
+    static const uint32_t kinds[] = {0, VB_PREFERS + 1, 256 + VB_WANTS, UINT32_MAX};
     VbSeat seats[2], before[2];
     unsettle(seats);
     unsettle(before);

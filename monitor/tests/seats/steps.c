@@ -20,7 +20,7 @@ struct day {
 };
 
 /* How many events of a kind had an effect. */
-static unsigned long long effects[VB_BUDGET + 1];
+static unsigned long long effects[VB_PREFERS + 1];
 
 static void fail(const struct day *day, const char *what)
 {
@@ -73,6 +73,8 @@ static VbSeat odd_seat(void)
     seat.granted = odd_count();
     seat.removed = odd_count();
     seat.turn = odd_count();
+    seat.uncounted = chance(4) ? 0 : odd_number();
+    seat.preferred = chance(4) ? 0 : odd_number();
     return seat;
 }
 
@@ -82,7 +84,9 @@ static uint32_t any_kind(void)
                                      VB_HEARS,     VB_HEARS, VB_GRANTS,     VB_OVERDRAWS,
                                      VB_OVERDRAWS, VB_WANTS, VB_WANTS,      VB_TARGETS,
                                      VB_ARRIVES,   VB_JOINS, VB_TAKES_OVER, VB_BUDGET};
-    return chance(64) ? often[chance(sizeof often / sizeof *often)] : VB_UNCOUNTS;
+    if (chance(32) == 0)
+        return chance(2) ? VB_UNCOUNTS : VB_PREFERS;
+    return often[chance(sizeof often / sizeof *often)];
 }
 
 /* What an event says of the guest that it is of. */
@@ -260,11 +264,11 @@ void check_steps(unsigned long long steps)
         play(&day);
     }
     printf("seats: %llu random events, with an effect:", steps);
-    for (uint32_t kind = VB_HEARS; kind <= VB_BUDGET; kind++)
+    for (uint32_t kind = VB_HEARS; kind <= VB_PREFERS; kind++)
         printf(" %llu", effects[kind]);
     puts("");
     /* Grants and targets are what each step makes by itself. */
-    for (uint32_t kind = VB_HEARS; kind <= VB_BUDGET; kind++)
+    for (uint32_t kind = VB_HEARS; kind <= VB_PREFERS; kind++)
         if (kind != VB_GRANTS && kind != VB_TARGETS && effects[kind] < steps / RARE)
             fail(&day, "an event is too rare");
 }
