@@ -477,16 +477,11 @@ WRONG = [
     (
         "an id of hints read twice",
         H,
-<<<<<<< HEAD
-        "    if (what & VB_COPY)\n        balloon_read_once(",
+        "    if (what & VB_COPY)\n        balloon_copy(",
         (
             "    for (int i = 0; what & VB_COPY && i < (notice->kind == VB_HINT && notice->length "
-            "< 16 ? 2 : 1); i++)\n        balloon_read_once("
+            "< 16 ? 2 : 1); i++)\n        balloon_copy("
         ),
-=======
-        "    if (what & VB_COPY)\n        balloon_copy(",
-        "    for (int i = 0; what & VB_COPY && i < (notice->kind == VB_HINT && notice->length < 16 ? 2 : 1); i++)\n        balloon_copy(",
->>>>>>> 053d5b57 (Read a request in a hole without holding its pages)
     ),
     ("an inflate's interrupt for hints", CALLS, "(notice->kind & 7)", "(notice->kind & 3)"),
     ("one queue's late hints forgotten", CALLS, "    all->late += one->late;\n", ""),
