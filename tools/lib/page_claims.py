@@ -63,7 +63,7 @@ def scripts(*folders):
 
 def wrong_shims(*paths):
     """Returns how many edits tools/wrong-shims plants into these files of monitor."""
-    return lambda: sum(it[1].startswith(paths) for it in tool("wrong-shims").WRONG)
+    return lambda: sum(it.file.startswith(paths) for it in tool("wrong-shims").WRONG)
 
 
 SHIM, CALLS, OBEY = (

@@ -62,11 +62,9 @@ def test_the_shim_has_each_fence(tmp_path):
 
 @pytest.mark.parametrize("name", MISSED)
 def test_a_fence_that_is_missing(copy, tmp_path, name):
-    _, path, old, new, *more = next(it for it in WRONG if it[0] == name)
-    text = (copy / path).read_text(encoding="utf-8")
-    for before, after in ((old, new), *more):
-        text = planted(text, before, after)
-    (copy / path).write_text(text, encoding="utf-8")
+    for it in next(it for it in WRONG if it.name == name).edits:
+        text = (copy / it.file).read_text(encoding="utf-8")
+        (copy / it.file).write_text(planted(text, it.old, it.new), encoding="utf-8")
     assert missing(str(copy), tmp_path) == MISSED[name]
 
 

@@ -72,6 +72,7 @@ OF_ALL = (
     ("lengths", {"monitor/tests/a/b.c": "\n" * 351}, ["monitor/tests/a/b.c: 351 lines"]),
     ("lengths", {"tools/a": "#!/usr/bin/python3" + "\n" * 351}, ["tools/a: 351 lines"]),
     ("lengths", {"tools/lib/a.py": "\n" * 350, "crates/a/src/tests.rt": "\n" * 351}, []),
+    ("lengths", {"tools/lib/a.toml": "\n" * 351}, []),
     ("long_lines", {"monitor/a.h": "x" * 101}, ["monitor/a.h:1: 101 columns"]),
     ("long_lines", {"tools/a": f"#!/usr/bin/python3\n#{'x' * 100}"}, ["tools/a:2: 101 columns"]),
     ("long_lines", {"docs/a.md": f"\n{'x' * 101}\n"}, ["docs/a.md:2: 101 columns"]),
