@@ -15,13 +15,16 @@
  * raised before they may come:
  *
  *     an inflate request          its pages are discarded, then vb_loan_give, the limit down, and
- * vb_loan_grant until VB_NOTHING a deflate request, a reset  vb_loan_ask or vb_loan_reset; the
- * request, or the status that isn't 0, waits a newcomer                  vb_loan_arrive; it starts
- * once it is granted a grant to a guest          the limit up to `lent`, vb_loan_take of what was
- * asked, and only then the answer to its driver memory is taken away        its pages are
- * discarded, then vb_loan_shrink, the limit down, and vb_loan_grant until VB_NOTHING memory is to
- * be added       vb_loan_grow; the guest gets it once it is granted a guest has ended           its
- * memory is given up, then vb_loan_leave
+ *                                 vb_loan_grant until VB_NOTHING
+ *     a deflate request, a reset  vb_loan_ask or vb_loan_reset; the request, or the status that
+ *                                 isn't 0, waits
+ *     a newcomer                  vb_loan_arrive; it starts once it is granted
+ *     a grant to a guest          the limit up to `lent`, vb_loan_take of what was asked, and only
+ *                                 then the answer to its driver
+ *     memory is taken away        its pages are discarded, then vb_loan_shrink, the limit down, and
+ *                                 vb_loan_grant until VB_NOTHING
+ *     memory is to be added       vb_loan_grow; the guest gets it once it is granted
+ *     a guest has ended           its memory is given up, then vb_loan_leave
  */
 #ifndef VB_LENDING_H
 #define VB_LENDING_H

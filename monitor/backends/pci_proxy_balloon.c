@@ -1,7 +1,7 @@
 /* The same balloon on PCI, for QEMU's x-pci-proxy-dev (tried with QEMU 7.2 of Debian 12).
  *
  *     pci_proxy_balloon FD [--features HEX] [--strict] [--keep] [--hints] [--discard-hints]
- * [--lines N]
+ *     [--lines N]
  *
  * FD is one end of a pair of stream sockets, whose other end QEMU has. All else is as in
  * vhost_user_balloon.c. The driver's own writes of the status, of its features and of its queues'

@@ -2,9 +2,11 @@
  * virtio_uml driver of User Mode Linux, and for any other client of that protocol.
  *
  *     vhost_user_balloon SOCKET [--features HEX] [--strict] [--keep] [--hints] [--discard-hints]
- * [--events] [--state FILE] [--lines N] vhost_user_balloon --socket-path SOCKET ..    the same; but
- * the end of standard input doesn't end it vhost_user_balloon --fd FD ..                 of an open
- * socket, of the client's or where it comes
+ *     [--events] [--state FILE] [--lines N]
+ *     vhost_user_balloon --socket-path SOCKET ..    the same; but the end of standard input doesn't
+ *                                                   end it
+ *     vhost_user_balloon --fd FD ..                 of an open socket, of the client's or where it
+ *                                                   comes
  *
  * It makes the socket, says `listening`, and serves the client that comes, until that one goes
  * (status 0) or breaks a rule (status 1, and one line on standard error that says which). Standard
@@ -12,23 +14,22 @@
  *
  *     target PAGES    the balloon's target, in pages of 4096 bytes
  *     counters        names and numbers: target, actual, what the memory's files hold on the host,
- * what was served ask             ask the guest for new statistics statistics      how often the
- * guest told them, and what it said last hint start      begin a round of free page hints
- * (VIRTIO 1.2, 5.5.6.6), in place of one that is on: its id is answered hint stop       the driver
- * is to hint no more, and may keep what it hinted hint done       the driver may use again what it
- * hinted quit            end; so do the end of the input, and the signals SIGTERM, SIGINT and
- * SIGHUP
+ *                     what was served
+ *     ask             ask the guest for new statistics
+ *     statistics      how often the guest told them, and what it said last
+ *     hint start      begin a round of free page hints (VIRTIO 1.2, 5.5.6.6), in place of one that
+ *                     is on: its id is answered
+ *     hint stop       the driver is to hint no more, and may keep what it hinted
+ *     hint done       the driver may use again what it hinted
+ *     quit            end; so do the end of the input, and the signals SIGTERM, SIGINT and SIGHUP
  *
  * --features: what the device offers (100000027: MUST_TELL_HOST, STATS_VQ, DEFLATE_ON_OOM,
- * REPORTING, VERSION_1).
- * --strict: a page number past the end breaks a rule, in place of being skipped. --keep: the host
- * keeps all memory.
- * --hints: and FREE_PAGE_HINT. --discard-hints: pages that are hinted are discarded, else they are
- * counted alone.
- * --events: notifications as messages aren't offered, so a client uses events. --state: the device
- * is kept in this file, and a backend that finds one there goes on with its target and its
- * `actual`. --lines: what is said in a second at most (20).
- * --help, --version and --print-capabilities are answered.
+ * REPORTING, VERSION_1). --strict: a page number past the end breaks a rule, in place of being
+ * skipped. --keep: the host keeps all memory. --hints: and FREE_PAGE_HINT. --discard-hints: pages
+ * that are hinted are discarded, else they are counted alone. --events: notifications as messages
+ * aren't offered, so a client uses events. --state: the device is kept in this file, and a backend
+ * that finds one there goes on with its target and its `actual`. --lines: what is said in a second
+ * at most (20). --help, --version and --print-capabilities are answered.
  */
 #include "guest/backend.h"
 #include "guest/conventions.h"

@@ -2,11 +2,9 @@
  * give back what is missing.
  *
  *     vhost_user_host FOLDER --budget MIB [--floor MIB] [--period MS] [--step N] [--strict]
- * [--strict-pages] [--events]
- *                     [--features HEX] [--lines N] [--program PATH] [--no-sandbox]
- * [--end-with-lender]
- *                     [--config FILE] [--control PATH] [--control-mode OCTAL] [--control-group
- * NAME] [--status PATH]
+ *                     [--strict-pages] [--events] [--features HEX] [--lines N] [--program PATH]
+ *                     [--no-sandbox] [--end-with-lender] [--config FILE] [--control PATH]
+ *                     [--control-mode OCTAL] [--control-group NAME] [--status PATH]
  *                     [--status-mode OCTAL] [--status-group NAME] [--log-level WORD]
  *
  * It says `ready`, and starts a process for each client that comes, which serves its balloon:
@@ -16,16 +14,22 @@
  *
  *     add NAME [TERMS]    a guest may come to the socket FOLDER/NAME, and again once it has gone
  *     terms NAME TERMS    its terms are these from now on: least=MIB, most=MIB, priority=NUMBER,
- * strict=0 or 1, overhead=MIB, limit=cgroup:PATH or limit=tmpfs:MOUNT, user=NAME or NUMBER, memory=MIB remove NAME         its
- * service ends budget MIB          the host is to hold no more than this floor MIB           what
- * each guest keeps free guests              each guest's names and numbers: pages, held_kib,
- * ballooned, target, free, spare, .. counters            the same for all together: looks, looks
- * above the budget, the peak, .. log                 the decisions since the last `log`: the needs,
- * the targets and why NAME target PAGES   for one guest, as vhost_user_balloon takes them; the
- * target stays while it serves NAME counters, NAME ask, NAME statistics leave               the
- * lender ends alone: guests and their processes live on, and the next lender of the folder goes on
- * with them quit                end, and all guests' service; so do the signals SIGTERM and SIGINT,
- * and without --config SIGHUP
+ *                         strict=0 or 1, overhead=MIB, limit=cgroup:PATH or limit=tmpfs:MOUNT,
+ *                         user=NAME or NUMBER, memory=MIB
+ *     remove NAME         its service ends
+ *     budget MIB          the host is to hold no more than this
+ *     floor MIB           what each guest keeps free
+ *     guests              each guest's names and numbers: pages, held_kib, ballooned, target, free,
+ *                         spare, ..
+ *     counters            the same for all together: looks, looks above the budget, the peak, ..
+ *     log                 the decisions since the last `log`: the needs, the targets and why
+ *     NAME target PAGES   for one guest, as vhost_user_balloon takes them; the target stays while
+ *                         it serves
+ *     NAME counters, NAME ask, NAME statistics
+ *     leave               the lender ends alone: guests and their processes live on, and the next
+ *                         lender of the folder goes on with them
+ *     quit                end, and all guests' service; so do the signals SIGTERM and SIGINT, and
+ *                         without --config SIGHUP
  *
  * Each period (200 ms) it counts what the guests' files hold, and asks each for its statistics.
  * Targets are decided anew where the old ones don't serve any longer: by vb_guest_targets and
@@ -33,9 +37,8 @@
  * standard error says so. A guest whose memory has no room beside the others is refused.
  *
  * `bigvasta` speaks to it by its control socket, FOLDER/.control (--control), and by one that only
- * shows the host, FOLDER/.status
- * (--status): docs/CONTROL.md. --config: a file that says the same, and
- * the guests; SIGHUP has it read anew. --log-level: error, warning, notice, info (as it is) or
+ * shows the host, FOLDER/.status (--status): docs/CONTROL.md. --config: a file that says the same,
+ * and the guests; SIGHUP has it read anew. --log-level: error, warning, notice, info (as it is) or
  * debug.
  *
  * --floor: what each guest keeps free (12 MiB). --step: a target grows by one part in N of the

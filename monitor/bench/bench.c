@@ -3,7 +3,7 @@
  *
  *     bench                          nanoseconds, as a table: without discarding, and with it
  *     bench count SIDE ROW NOTICES   makes n notices of a row, for who counts instructions: SIDE is
- * shim, plain or none
+ *                                    shim, plain or none
  *
  * measure-notices does both, and compares with goals.
  */

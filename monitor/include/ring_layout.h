@@ -1,5 +1,5 @@
-/* The layout of a split virtqueue, in bytes (VIRTIO 1.1, 2.6). `tools/list-codes --write` makes
- * this file. */
+/* The layout of a split virtqueue, in bytes (VIRTIO 1.1, 2.6).
+ * `tools/list-codes --write` makes this file. */
 #ifndef BALLOON_RING_LAYOUT_H
 #define BALLOON_RING_LAYOUT_H
 

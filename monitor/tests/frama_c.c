@@ -48,11 +48,14 @@ static uint64_t cut_region, cut_size, cut_pages, cut_large;
 
 /* Discarding is asked for by a notice's cuts alone. Of what it gets, the result alone isn't const:
  * that it may write. */
-/*@ requires the_balloon: the_one == &balloon && the_one->regions == (struct balloon_region
-   *)regions; requires the_regions: as_they_are((VbRegion *)balloon.places); requires the_set:
-   balloon.ballooned_words == WORDS && (balloon.ballooned == \null || balloon.ballooned == (uint64_t
-   *)words); requires a_part: (VbCut *)balloon.room.cuts <= part < balloon.room.cuts +
-   balloon.notice.cuts; requires counts: \valid(result); assigns *result, errno \from *part; */
+/*@ requires the_balloon:
+        the_one == &balloon && the_one->regions == (struct balloon_region *)regions;
+    requires the_regions: as_they_are((VbRegion *)balloon.places);
+    requires the_set: balloon.ballooned_words == WORDS &&
+        (balloon.ballooned == \null || balloon.ballooned == (uint64_t *)words);
+    requires a_part: (VbCut *)balloon.room.cuts <= part < balloon.room.cuts + balloon.notice.cuts;
+    requires counts: \valid(result);
+    assigns *result, errno \from *part; */
 static inline void balloon_discard(const struct balloon *the_one, const VbCut *part,
                                    struct balloon_result *result);
 

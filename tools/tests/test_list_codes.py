@@ -24,13 +24,14 @@ READ = (
     *(f"crates/{it}/src" for it in CRATES),
     "crates.txt",
     "crates/vb_c/vb.h",
+    "crates/vb_c/vb_numbers.h",
     "docs/RULES.md",
     "docs/INTEGRATION.md",
     "monitor/backends/guest/backend.c",
     "monitor/reference/reference.h",
     "monitor/include/ring_layout.h",
     "tools/list-codes",
-    "tools/lib/version_places.py",
+    *(f"tools/lib/{it}.py" for it in ("source_constants", "source_files", "version_places")),
     "VERSION",
     "client/bigvasta/__init__.py",
     "monitor/rust/Cargo.toml",
@@ -40,7 +41,7 @@ READ = (
 # Seconds that a call of the tool has.
 LIMIT = 60
 
-HEADER, REFERENCE = "crates/vb_c/vb.h: numbers", "monitor/reference/reference.h: rules"
+HEADER, REFERENCE = "crates/vb_c/vb_numbers.h", "monitor/reference/reference.h: rules"
 BACKEND = "monitor/backends/guest/backend.c: rules"
 LAYOUT = "monitor/include/ring_layout.h"
 RULES, CODES = "docs/RULES.md", "docs/INTEGRATION.md"
@@ -101,13 +102,13 @@ CHANGES = (
     ),
     ("crates/vb_ring/src/format.rt", "const RING_META_SIZE", "const RING_REST_SIZE", [LAYOUT]),
     (LAYOUT, "RING_INDEX_AT = 2", "RING_INDEX_AT = 0", [LAYOUT]),
-    ("crates/vb_c/vb.h", "VB_NOT_READY = 3", "VB_NOT_READY = 4", [HEADER]),
-    ("crates/vb_c/vb.h", "VB_MAX_FIGURES = 102", "VB_MAX_FIGURES = 101", [HEADER]),
+    (HEADER, "VB_NOT_READY = 3", "VB_NOT_READY = 4", [HEADER]),
+    (HEADER, "VB_MAX_FIGURES = 102", "VB_MAX_FIGURES = 101", [HEADER]),
     (
-        "crates/vb_c/vb.h",
-        "list-codes: numbers, to here",
+        "monitor/reference/reference.h",
+        "list-codes: rules, to here",
         "",
-        ["crates/vb_c/vb.h: no place for numbers"],
+        ["monitor/reference/reference.h: no place for rules"],
     ),
     (
         "crates/vb_c/vb.h",
@@ -212,9 +213,9 @@ def test_a_change_of_the_owner_is_written_to_all_tables(copy):
     copy.change("crates/vb_c/src/bits.rt", "COPY: u32 = 256", "COPY: u32 = 1048576")
     copy.change("crates/vb_chain/src/fault.rt", "BadPage = 9", "BadPage = 11")
     assert copy.call("--write") == (1, [f"{RULES}: BadPage is 9"])
-    assert "VB_COPY = 1048576, " in copy.text("crates/vb_c/vb.h")
+    assert "VB_COPY = 1048576, " in copy.text(HEADER)
     assert "10 a reserved page; 11 no such page. */" in " ".join(
-        copy.text("crates/vb_c/vb.h").replace("\n *", "").split()
+        copy.text(HEADER).replace("\n *", "").split()
     )
     assert "RESERVED_PAGE = 10, BAD_PAGE = 11 };" in copy.text("monitor/reference/reference.h")
     assert '[11] = "no such page",\n' in copy.text("monitor/backends/guest/backend.c")
@@ -231,11 +232,7 @@ def test_a_version_that_rises_is_written_wherever_it_is_repeated(copy):
 def test_what_is_written_stays(copy):
     before = {
         it: copy.text(it)
-        for it in (
-            "crates/vb_c/vb.h",
-            "monitor/reference/reference.h",
-            "monitor/backends/guest/backend.c",
-        )
+        for it in (HEADER, "monitor/reference/reference.h", "monitor/backends/guest/backend.c")
     }
     assert copy.call("--write") == (0, [])
     assert {it: copy.text(it) for it in before} == before

@@ -3,9 +3,11 @@
  * names, and the environment's CONTROL_WRONG names the one that it is:
  *
  *     any-field         a field that a request doesn't have is ignored, and whatever is in a field
- * is taken no-id             an answer doesn't repeat its request's id no-limit          a line
- * without an end is waited for, however long it is waits-for-ever    a client that leaves too much
- * unread stays all-lost          decisions that aren't kept any longer aren't counted as lost
+ *                       is taken
+ *     no-id             an answer doesn't repeat its request's id
+ *     no-limit          a line without an end is waited for, however long it is
+ *     waits-for-ever    a client that leaves too much unread stays
+ *     all-lost          decisions that aren't kept any longer aren't counted as lost
  *     no-events         who follows the host is told of nothing
  *     open-socket       anybody may connect to the control sockets
  *     changes-by-status a client of the socket that only shows the host may change it

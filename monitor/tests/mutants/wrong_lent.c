@@ -2,8 +2,8 @@
  * functions before those of the same names, and the environment's HOST_WRONG says which one it is:
  *
  *     5  counts all pages of a deflate that ends below the target as taken
- *     8  a region that comes back has the pages in the balloon that the one before had
-  * there */
+ *     8  a region that comes back has the pages in the balloon that the one before had there
+ */
 #include "../../backends/guest/lent.h"
 
 #include <stdlib.h>

@@ -6,8 +6,8 @@
  *     one-moment        of all moments that come one alone is waited for, the first
  *     last-first        what was waited for last is served first, and alone
  *     late-removal      a file that isn't waited for any longer is waited for in one more turn
- *     old-number        what serves a file is what served the first one that had its
-  * number */
+ *     old-number        what serves a file is what served the first one that had its number
+ */
 #define _GNU_SOURCE
 #include "../../backends/loop/loop.h"
 
