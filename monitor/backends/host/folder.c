@@ -81,9 +81,9 @@ static void name_kept(const struct host *host, const char *name, const char *mar
 const char *folder_keep(struct seat *seat, const struct guest_terms *terms)
 {
     char path[MOST_KEPT], part[MOST_KEPT], words[MOST_LIMIT_WORDS], text[MOST_KEPT];
-    const uint32_t numbers[KEPT_NUMBERS] = {terms->least,    terms->most,     terms->priority,
-                                            terms->strict,   terms->overhead, terms->user,
-                                            terms->memory,   seat->pages};
+    const uint32_t numbers[KEPT_NUMBERS] = {terms->least,  terms->most,     terms->priority,
+                                            terms->strict, terms->overhead, terms->user,
+                                            terms->memory, seat->pages};
     int length = snprintf(text, sizeof text, "%s", terms_word);
     for (unsigned i = 0; i < KEPT_NUMBERS; i++)
         length += snprintf(text + length, sizeof text - (size_t)length, "%" PRIu32 " ", numbers[i]);
@@ -99,8 +99,7 @@ const char *folder_keep(struct seat *seat, const struct guest_terms *terms)
 
 void folder_keep_pages(struct seat *seat)
 {
-    const char *fault =
-        seat->pages == seat->kept_pages ? NULL : folder_keep(seat, &seat->terms);
+    const char *fault = seat->pages == seat->kept_pages ? NULL : folder_keep(seat, &seat->terms);
     if (fault)
         complain("its pages can't be kept for a later lender: %s", fault);
 }

@@ -63,8 +63,11 @@ struct seat {
     bool adopts;   /* the first report of a process that an earlier lender has started is still to
                       come */
     int64_t adopts_until; /* and isn't waited for any longer from then on */
-    bool unreached; /* it couldn't be reached yet, as lenders before wait for it that have gone */
+    bool reserves;        /* its pages are as the folder kept them */
+    bool unreached;       /* it isn't reached yet: as many lenders wait for it as may */
     int64_t comes_at;     /* before this no client is taken */
+    int64_t paid_until;   /* its clients, and the memory that they brought, are paid for until then,
+                             each with its milliseconds */
     int64_t asked_at;     /* when the first order to look that isn't answered was given; 0: all are
                              answered */
     uint64_t number, answered; /* of the last order to look; of the last one that is answered */
@@ -73,7 +76,7 @@ struct seat {
     /* the last one, whose words are the version of its process; zeros without one */
     struct lending_message report;
     /* What was made of it. */
-    uint32_t pages; /* of its memory that has room */
+    uint32_t pages;      /* of its memory that has room */
     uint32_t kept_pages; /* as the folder has them */
     uint32_t free, available, ballooned_then;
     bool known, tells_available;
@@ -102,7 +105,8 @@ struct seat {
                     driver reads none */
     int64_t obeys_until; /* its target fell, or it took pages: until then a driver that reads none
                             may still obey an earlier one */
-    bool asks_terms; /* they aren't in the folder: the first report of a process of 0.3.0 has them */
+    bool
+        asks_terms; /* they aren't in the folder: the first report of a process of 0.3.0 has them */
     bool adopted, regains; /* its loan is to follow the first report of a process of an earlier
                               lender; what that lent ahead is to be lent again */
     bool regained;         /* it was, and its driver hasn't been told another target */
@@ -255,6 +259,11 @@ void seat_free(struct seat *seat);
 
 /* Starts a process for the client that waits at its socket. */
 void seat_start(struct seat *seat);
+
+/* Its client brings more pages: the seat pays for them. And when it has paid for all but what it
+ * may owe: no client is taken before. */
+void seat_pays(struct seat *seat, uint32_t pages);
+int64_t seat_has_paid(const struct seat *seat);
 
 /* Takes over the process of an earlier lender, if there is one. And these pages count as lent until
  * that has reported, or has ended. */

@@ -91,11 +91,10 @@ static const char *read_term(struct guest_terms *terms, const char *word)
     const struct {
         const char *name;
         uint32_t *pages;
-    } sizes[] = {
-        {"least=", &terms->least},
-        {"most=", &terms->most},
-        {"overhead=", &terms->overhead},
-        {"memory=", &terms->memory}};
+    } sizes[] = {{"least=", &terms->least},
+                 {"most=", &terms->most},
+                 {"overhead=", &terms->overhead},
+                 {"memory=", &terms->memory}};
     uint64_t number;
     for (unsigned i = 0; i < sizeof sizes / sizeof sizes[0]; i++)
         if (!strncmp(word, sizes[i].name, strlen(sizes[i].name)))

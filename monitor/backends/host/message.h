@@ -13,13 +13,13 @@ enum { LENDING_VERSION = 1, MOST_WORDS = 256, MOST_SET = 1 << 24 };
 
 enum lending_kind {
     /* Of the lender. */
-    ORDER_LOOK = 1, /* report; and, where `asks` is set, ask the guest for its statistics */
-    ORDER_REMIND,   /* tell the guest its target again, where its balloon stays off it */
-    ORDER_TARGET,   /* the host wants `target` pages in the balloon */
-    ORDER_ADMIT,    /* there is room for the pages that it waits for */
-    ORDER_REFUSE,   /* there is none */
+    ORDER_LOOK = 1,  /* report; and, where `asks` is set, ask the guest for its statistics */
+    ORDER_REMIND,    /* tell the guest its target again, where its balloon stays off it */
+    ORDER_TARGET,    /* the host wants `target` pages in the balloon */
+    ORDER_ADMIT,     /* there is room for the pages that it waits for */
+    ORDER_REFUSE,    /* there is none */
     ORDER_GRANT = 7, /* the deflate that is held has its pages; 6 was an order of 0.3.0 */
-    ORDER_LEAVE,    /* end */
+    ORDER_LEAVE,     /* end */
     /* Of a guest's process. */
     TELL_REPORT,  /* all that it is */
     TELL_REFUSED, /* its client isn't served any longer, by `words` */

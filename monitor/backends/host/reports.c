@@ -23,13 +23,13 @@ static const char *number_fault(const struct lending_message *report)
 static const char *report_fault(const struct seat *seat, const struct lending_message *report)
 {
     const char *fault = number_fault(report);
-    if (fault || seat->adopts)
+    if (fault || (seat->adopts && !seat->reserves))
         return fault;
     if (report->waits != WAIT_ROOM && report->pages > seat->pages)
         return "pages that nobody has granted";
-    return (report->holds != 0) == seat->holds ? NULL
-           : seat->holds                       ? "that its deflates don't wait"
-                                               : "that its deflates wait";
+    if (seat->adopts || (report->holds != 0) == seat->holds)
+        return NULL;
+    return seat->holds ? "that its deflates don't wait" : "that its deflates wait";
 }
 
 /* What its client brings isn't admitted. */
@@ -117,9 +117,17 @@ static void check_version(char words[MOST_WORDS])
         words[0] = 0;
 }
 
+/* The pages for which it waits since this report, as its client brings them. */
+static uint32_t brings(const struct seat *seat, const struct lending_message *message)
+{
+    bool is_new = message->waits == WAIT_ROOM && message->wait != seat->report.wait;
+    return is_new ? message->wanted - smaller(message->wanted, seat->pages) : 0;
+}
+
 static void take_report(struct seat *seat, const struct lending_message *message)
 {
     struct question *question = &seat->host->question;
+    uint32_t brought = brings(seat, message);
     seat_waits(seat, message);
     seat->report = *message;
     check_version(seat->report.words);
@@ -137,6 +145,8 @@ static void take_report(struct seat *seat, const struct lending_message *message
     take_note(seat);
     if (!seat_repeat(seat) && message->waits != WAIT_NOTHING)
         answer_wait(seat);
+    if (brought > 0 && !seat->refused)
+        seat_pays(seat, brought);
     if (seat_moves(seat))
         seat_look(seat, true);
     loan_follow(seat);

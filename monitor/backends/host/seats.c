@@ -51,7 +51,8 @@ void seat_clear(struct seat *seat)
     seat->moved_at = seat->passed_over = 0;
     seat->wait_answered = seat->held_granted = seat->granted_pages = 0;
     seat->granted = seat->obeys_until = 0;
-    seat->wait_admitted = seat->adopted = seat->regains = seat->regained = seat->unread = false;
+    seat->wait_admitted = seat->adopted = seat->regains = seat->regained = seat->unread =
+        seat->reserves = false;
     seat->asked_for = WAITS_FOR_NOTHING;
     seat->cooperates = true;
     limit_forget(seat);

@@ -2,6 +2,7 @@
 #include "loans.h"
 #include "measures.h"
 
+#include <inttypes.h>
 #include <limits.h>
 #include <signal.h>
 #include <spawn.h>
@@ -16,6 +17,10 @@ extern char **environ;
 /* Milliseconds without new clients, once there was no file or no process left for one; between two
  * clients of one guest. */
 enum { REST = 1000, PACE = 20 };
+
+/* Milliseconds that a client costs its seat, and that memory of the budget's size does, as guests
+ * make room for it; and what a seat may owe. */
+enum { COST_OF_CLIENT = 2000, COST_OF_BUDGET = 30000, MOST_OWED = 60000 };
 
 /* Milliseconds in which the guests of an earlier lender tell what they have. */
 enum { TOLD_IN = 5000 };
@@ -135,11 +140,30 @@ static void rest(struct seat *seat, int why)
     seat->host->rests_until = loop_now() + REST;
 }
 
+/* It owes so many milliseconds more. */
+static void owe(struct seat *seat, int64_t cost)
+{
+    int64_t now = loop_now();
+    seat->paid_until = (seat->paid_until > now ? seat->paid_until : now) + cost;
+}
+
+void seat_pays(struct seat *seat, uint32_t pages)
+{
+    uint32_t frames = seat->host->frames;
+    owe(seat, pages < frames ? (int64_t)pages * COST_OF_BUDGET / frames : COST_OF_BUDGET);
+}
+
+int64_t seat_has_paid(const struct seat *seat)
+{
+    return seat->paid_until - MOST_OWED;
+}
+
 void seat_start(struct seat *seat)
 {
     int files[FILES_HANDED] = {-1, -1, -1};
     seat_clear(seat);
     seat->comes_at = loop_now() + PACE;
+    owe(seat, COST_OF_CLIENT);
     int why = open_files(seat, files);
     why = why == 0 ? spawn(seat, files, &seat->process) : why;
     close_files(files);
@@ -232,6 +256,7 @@ void seat_reserve(struct seat *seat, uint32_t pages)
     if (!seat->here)
         return;
     seat->pages = pages;
+    seat->reserves = true;
     *loan_of(seat) = (VbLoan){.pages = pages, .lent = pages};
 }
 
@@ -279,6 +304,9 @@ void seat_ended(struct seat *seat)
     } else {
         waitpid(seat->process, NULL, WNOHANG);
     }
+    int64_t rests = seat_has_paid(seat) - loop_now();
+    if (rests > PACE)
+        complain("its clients come too often: the next one is taken in %" PRId64 " ms", rests);
     speaker_ends();
     host_changed(seat->host, BY_GUESTS);
     if (seat->process_file >= 0)

@@ -1,11 +1,12 @@
 """A later lender whose guest's process doesn't report: all its pages, which the folder keeps, count as lent until it reports or has ended."""
 
+import contextlib
 import os
 import signal
 
 import pytest
-from played import Listens, Played
-from tenants import FREE, go_on, process_of, stop
+from played import TELL_REPORT, VERSION, Listens, Message, Played
+from tenants import FREE, eventually, go_on, process_of, status_of, stop
 from test_strict import GIVEN, STRICT, Later, lent, used
 from vhost_client import DEFLATE, Client
 from waiting import PATIENCE
@@ -24,7 +25,8 @@ def stuck(lend, come):
     process = process_of(lender, "a")
     stop(process)
     yield lender, b, process
-    go_on(process)
+    with contextlib.suppress(ProcessLookupError):
+        go_on(process)
 
 
 def later(lend, lender):
@@ -61,8 +63,9 @@ def test_a_process_for_which_lenders_wait_counts_until_it_has_ended(lend, stuck)
         lender = later(lend, lender)
         lender.become("b", ready=1)
         lender.become("a", here=1, pages=ALL, lent=ALL)
-    os.kill(process, signal.SIGKILL)
-    lender.become("a", here=1, ready=1, pages=ALL)
+    os.kill(int(status_of(process)["PPid"]), signal.SIGKILL)
+    lender.become("a", here=0, pages=0, lent=0)
+    assert lent(lender) <= ALL
 
 
 def test_a_process_reports_no_more_than_the_folder_keeps(lend):
@@ -71,8 +74,12 @@ def test_a_process_reports_no_more_than_the_folder_keeps(lend):
     lender.kill()
     os.unlink(f"{lender.folder}/.channels/a")
     listens = Listens(lender.folder, "a")
-    later_one = lend(1, *STRICT, folder=lender.folder)
-    b = Played(later_one, "a", listens=listens)
-    b.report(pages=ALL + 1)
-    later_one.become("a", here=0)
+    lender = lend(1, *STRICT, folder=lender.folder)
+    with listens.accept() as channel:
+        channel.send(
+            bytes(Message(version=VERSION, kind=TELL_REPORT, holds=1, ready=1, pages=ALL + 1))
+        )
+        words = "refused a: its process reports pages that nobody has granted"
+        eventually(lambda: lender.hear() or words in lender.said(), lender.said)
+        lender.become("a", here=0, lent=0)
     a.channel.close()

@@ -1,0 +1,66 @@
+"""Clients of one seat that come and go: each costs its seat time, and so does memory for which others may have to give; what a seat owes is bounded."""
+
+import contextlib
+import time
+
+from tenants import FREE, eventually
+from test_later_lender import QUICK
+from test_strict import STRICT
+from test_turns import connect
+from vhost_client import Client
+
+# Seconds: what a client costs, what memory of the budget's size does, and what a seat may owe.
+OF_CLIENT, OF_BUDGET, MOST_OWED = 2, 30, 60
+
+OFTEN = "a: its clients come too often: "
+
+
+def clients_of(lender, name):
+    """Returns how many clients a seat has had."""
+    (its,) = (it for it in lender.status()["guests"] if it["name"] == name)
+    return its["counters"]["clients"]
+
+
+def come_and_go(lender, act):
+    """Has clients come and go until the lender says that they come too often, and ten more; returns how many it took, and for how long."""
+    begin = time.monotonic()
+    eventually(lambda: (act(), any(it.startswith(OFTEN) for it in lender.said()))[1])
+    for _ in range(10):
+        act()
+    return clients_of(lender, "a"), time.monotonic() - begin
+
+
+def most_clients(cost, seconds):
+    """Returns how many clients a seat may have in these seconds, each at this cost: it owes less than it may as the last one comes."""
+    return (MOST_OWED + seconds) / cost + 1
+
+
+def test_a_seat_whose_clients_come_and_go_is_slowed(lend, come):
+    lender = lend(1, *QUICK)
+    b = come(lender, "b", {FREE: 100})
+    lender.demand("add a")
+
+    def act():
+        with contextlib.suppress(BlockingIOError):
+            connect(lender, "a", blocks=False).close()
+        time.sleep(0.02)
+
+    count, seconds = come_and_go(lender, act)
+    assert MOST_OWED / OF_CLIENT <= count <= most_clients(OF_CLIENT, seconds)
+    # Another seat isn't.
+    b.leave(), come(lender, "b", {FREE: 100}).leave()
+
+
+def test_memory_that_comes_and_goes_is_slowed_by_its_part_of_the_budget(lend):
+    lender = lend(1, *STRICT)
+    lender.demand("add a")
+
+    def act():
+        if any(it.startswith(OFTEN) for it in lender.said()):
+            return
+        it = Client(f"{lender.folder}/a")
+        it.start(), it.leave()
+        lender.become("a", here=0)
+
+    count, seconds = come_and_go(lender, act)
+    assert count <= most_clients(OF_CLIENT + OF_BUDGET / 2, seconds)
