@@ -23,7 +23,7 @@ const char *owner_read(const char *words, uint32_t *user)
     return NULL;
 }
 
-/* Whoever owns a file may change its mode: it is the lender's meanwhile. */
+/* Only its owner may change the mode of a file, which is the lender until then. */
 void owner_give(const char *path, uint32_t user)
 {
     mode_t mask = umask(0);

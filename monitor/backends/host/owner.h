@@ -3,7 +3,7 @@
 #define OWNER_H
 #include <stdint.h>
 
-/* In place of a user: the client is of whoever reaches the socket. */
+/* In place of a user: the client is of any that reaches the socket. */
 #define ANY_USER UINT32_MAX
 
 /* Reads a user's name or number, or `none`; NULL, or what should be there: then nothing has

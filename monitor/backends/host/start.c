@@ -140,7 +140,7 @@ static void rest(struct seat *seat, int why)
     seat->host->rests_until = loop_now() + REST;
 }
 
-/* It owes so many milliseconds more. */
+/* It owes these milliseconds, too. */
 static void owe(struct seat *seat, int64_t cost)
 {
     int64_t now = loop_now();

@@ -311,7 +311,7 @@ def test_the_user_and_the_folder_of_sockets(tmp_path):
         for it in (tmp_path / "etc/group").read_text().splitlines()
     }
     assert user[6] == "/usr/sbin/nologin" and groups["bigvasta-status"][1:] == [""]
-    for name, mode, group in ("bigvasta", "0o750", "bigvasta"), (
+    for name, mode, group in ("bigvasta", "0o751", "bigvasta"), (
         "bigvasta-status",
         "0o2750",
         "bigvasta-status",

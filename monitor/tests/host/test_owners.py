@@ -1,4 +1,4 @@
-"""Whose client a seat takes, and how much memory that may bring: the kernel says who comes, and whoever else does is refused by name."""
+"""Whose client a seat takes, and how much memory that may bring: others are refused by name, as the kernel says who comes."""
 
 import os
 import socket
