@@ -231,7 +231,7 @@ static void begin_once(void)
     host.program = "/bin/false";
     say_through = hush;
     for (unsigned i = 0; i < SEATS; i++) {
-        struct guest_terms terms = {.most = UINT32_MAX};
+        struct guest_terms terms = host_usual_terms(&host);
         demand(!seat_add(&host, names[i], &terms));
     }
 }
@@ -250,7 +250,9 @@ static void begin(void)
     host.question.line[0] = 0;
     host.news = host.anew = false;
     for (unsigned i = 0; i < SEATS; i++) {
-        host.seats[i]->terms = (struct guest_terms){.most = UINT32_MAX, .strict = kind >> i & 1};
+        host.seats[i]->terms = host_usual_terms(&host);
+        host.seats[i]->terms.strict = kind >> i & 1;
+        host.seats[i]->terms.overhead = 0;
         process_begins(i, false);
     }
 }
