@@ -5,7 +5,7 @@ import types
 
 import pytest
 from bigvasta import answers, cli, words
-from bigvasta.commands import log, watch
+from bigvasta.commands import log, upgrade, watch
 from bigvasta.statuses import DONE, USAGE, Usage
 from bigvasta.sizes import mebibytes, seconds
 from bigvasta.terms import TERMS, parse_terms, said
@@ -109,6 +109,12 @@ def test_intervals_of_a_view(monkeypatch, capsys, interval, status):
     monkeypatch.setattr(watch, "watch", lambda *_: None)
     assert cli.main(["watch", "--interval", str(interval)]) == status
     assert (capsys.readouterr().err == "") == (status == DONE)
+
+
+def test_who_is_upgraded():
+    states = ("absent", "coming", "ready", "leaving")
+    answer = {"guests": [{"name": it, "state": it} for it in states]}
+    assert set(upgrade.served(answer)) == {"coming", "ready"}
 
 
 class Deciding:

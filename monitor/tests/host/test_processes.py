@@ -115,6 +115,18 @@ def test_a_process_that_stands_still_is_told_apart_from_a_silent_guest(lend, com
     lender.become("stuck", reports=1, answers=1)
 
 
+def test_a_process_that_was_just_asked_is_not_silent(lend, come):
+    lender = lend(5, "--floor", "0", "--period", "60000")
+    come(lender, "a", {FREE: 60})
+    process = process_of(lender, "a")
+    stop(process)
+    try:
+        assert lender.guests()["a"]["reports"] == 1  # for which it is asked
+        assert lender.status()["guests"][0]["process_silent"] > 0
+    finally:
+        go_on(process)
+
+
 def test_processes_end_with_the_lender_where_that_is_asked(lend, come):
     lender = lend(5, "--end-with-lender")
     come(lender, "a", {FREE: 60})

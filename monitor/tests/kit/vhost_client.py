@@ -343,6 +343,8 @@ class Client:
         if not select.select([self.own], [], [], limit)[0]:
             raise AssertionError(f"the backend tells nothing: {self.why()}")
         request, body = self.receive(self.own)
+        if body not in (b"", body[:4] + bytes(4)):
+            raise AssertionError(f"the backend tells {body}")
         return struct.unpack("<I", body[:4])[0] if request == VRING_CALL else None
 
     def called(self, number, limit=PATIENCE):

@@ -79,6 +79,15 @@ def test_a_ring_goes_on_where_it_was(start_by_events):
     assert client.holes() == [FIRST + it for it in (0, 1, 2, 9)]
 
 
+def test_a_ring_that_goes_on_calls_for_the_request_that_was_served_last(start_by_events):
+    client = start_by_events()
+    demand_served(client, INFLATE, [FIRST])
+    assert client.stop_ring(INFLATE) == 1
+    client.tell_place(INFLATE, base=1)
+    client.give_events(INFLATE)
+    assert client.called(INFLATE) == 1
+
+
 def test_a_ring_goes_on_at_an_index_of_two_bytes(serve_well):
     client = serve_well()
     client.negotiate(protocol=QEMU_PROTOCOL)

@@ -128,12 +128,14 @@ def test_no_file_is_left_for_a_client(serve_well):
     os.truncate(client.backend.log, 0)
 
 
-def test_few_files_are_allowed(program):
-    words = ["sh", "-c", 'ulimit -n 20; exec "$0" "$@"', program, "/nowhere/socket"]
+@pytest.mark.parametrize("limit, is_few", (("-n 20", True), ("-S -n 20", False)))
+def test_few_files_are_allowed(program, limit, is_few):
+    words = ["sh", "-c", f'ulimit {limit}; exec "$0" "$@"', program, "/nowhere/socket"]
     ran = subprocess.run(
         words, stdin=subprocess.DEVNULL, capture_output=True, text=True, timeout=PATIENCE
     )
-    assert " files may be wanted, and 20 may be open (RLIMIT_NOFILE)\n" in ran.stderr
+    few = " files may be wanted, and 20 may be open (RLIMIT_NOFILE)\n"
+    assert (few in ran.stderr) == is_few, ran.stderr
 
 
 def test_no_file_is_left_for_memory(serve):
