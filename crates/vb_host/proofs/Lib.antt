@@ -15,6 +15,7 @@ pub mod Targeting
 pub mod Passing
 pub mod Uncounted
 pub mod Preferring
+pub mod Settling
 pub mod Possible
 pub mod Outcome
 pub mod Events
@@ -24,3 +25,4 @@ pub mod Limits
 mod SeatFacts
 mod SystemFacts
 mod RunFacts
+mod RoundFacts

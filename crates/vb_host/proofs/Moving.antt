@@ -40,7 +40,7 @@ queued_least turn old s = queues (λ (x : Seat). x.least_target ≡ s.least_targ
 abbrev SameTargets : Seat → Seat → Type 0
 SameTargets s t = (t.target ≡ s.target) × (t.target_number ≡ s.target_number) × (t.least_target ≡ s.least_target)
 
-targets_stay : (r : Report) (s : Seat) → SameTargets s (served (counting r s))
+pub targets_stay : (r : Report) (s : Seat) → SameTargets s (served (counting r s))
 targets_stay r s = either (λ (x : Seat). SameTargets s x) (covers (counting r s)) _ _ (λ _. counting_stays r s) (λ _. counting_stays r s) where
   counting_stays : (r : Report) (s : Seat) → SameTargets s (counting r s)
   counting_stays r s = either (λ (x : Seat). SameTargets s x) (r.deflates == s.granted) _ _ (λ _. (refl, refl, refl)) (λ _. (refl, refl, refl))
@@ -202,7 +202,7 @@ hears_hold p turn s k = either (λ (x : Seat). Tells p (believed s (snapshot p))
 believed_balloon : (r : Report) (s : Seat) → s.uncounted ≡ 0 → (believed s r).ballooned ≡ r.ballooned
 believed_balloon r s e = believes (λ (q : Report). q.ballooned ≡ r.ballooned) r s (λ u. absurd (omega (arith, e, u))) (λ _. refl)
 
-target_same : (turn : ℕ) (r : Report) (s : Seat) → (heard turn r s).target ≡ s.target
+pub target_same : (turn : ℕ) (r : Report) (s : Seat) → (heard turn r s).target ≡ s.target
 target_same turn r s = let q = believed s r in let t = targets_stay q s in either (λ (x : Seat). x.target ≡ s.target) (is_stale r s) _ _ (λ _. refl)
     (λ _. queued_target turn s (raised r (served (counting q s))) ∙ (raised_target r (served (counting q s)) ∙ t.0)) where
       queued_target : (turn : ℕ) (old s : Seat) → (queuing turn old s).target ≡ s.target
@@ -211,7 +211,7 @@ target_same turn r s = let q = believed s r in let t = targets_stay q s in eithe
       raised_target : (r : Report) (s : Seat) → (raised r s).target ≡ s.target
       raised_target r s = either (λ (x : Seat). x.target ≡ s.target) ((r.target_number == s.target_number) && (r.read_target == s.target)) _ _ (λ _. refl) (λ _. refl)
 
-has_told : (p : Process) (turn : ℕ) (s : Seat) → IsKnown p s → HasTold p s (heard turn (snapshot p) s)
+pub has_told : (p : Process) (turn : ℕ) (s : Seat) → IsKnown p s → HasTold p s (heard turn (snapshot p) s)
 has_told p turn s k = let h = hears_hold p turn s k in record {
   read_target = λ d e. heard_least turn (snapshot p) s k.memory.granted k.memory.removed k.targets.least_given (not_due (snapshot p) s d) e ∙ sym (target_same turn (snapshot p) s);
   held = λ w f. waits_by (heard turn (snapshot p) s) (omega (arith, w, (h.0 f).0));

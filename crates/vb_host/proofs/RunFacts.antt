@@ -216,6 +216,15 @@ before_it = record { preferred = omega arith; other = refl; line = omega arith }
 not_before_it : (IsBefore (seats prefers.guests) 0 1 → ⊥) × (IsBefore (seats both_ask.guests) 1 0 → ⊥)
 not_before_it = (λ b. let e : 0 < 0 = b.preferred in absurd (omega (arith, e)), λ b. let e : 0 < 0 = b.preferred in absurd (omega (arith, e)))
 
+-- nor one that is preferred itself, and none of an earlier line
+not_before_others : (IsBefore (seats prefers.guests) 1 1 → ⊥) × (IsBefore (record (newcomer 4) { line = 1; preferred = 1 } ∷ newcomer 4 ∷ []) 0 1 → ⊥)
+    × IsBefore (record (newcomer 4) { line = 1; preferred = 1 } ∷ record (newcomer 4) { line = 2 } ∷ []) 0 1
+not_before_others = (
+  λ b. let e : 1 ≡ 0 = b.other in absurd (omega (arith, e)),
+  λ b. let e : 1 ≤ 0 = b.line in absurd (omega (arith, e)),
+  record { preferred = omega arith; other = refl; line = omega arith },
+)
+
 no_preference : IsNoPreference (EventGrants 0) × (IsNoPreference (EventPrefers 0) → ⊥)
 no_preference = (tt, λ p. p)
 

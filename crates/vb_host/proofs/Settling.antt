@@ -1,0 +1,225 @@
+-- After one round nothing is on its way between a guest and the lender, or its grant is.
+use Rattle.std.proofs.Common.{◌≡◌, ◌≢◌, ℕ, zero, suc, ◌+◌, ◌<◌, ◌≤◌, ◌⊎◌, inl, inr, Bool, true, false, not, ◌&&◌, ◌==◌, nat_lt, nat_le, List, [], ◌∷◌, min, Some, refl, subst, sym, ap, ◌∙◌, arith}
+use Rattle.std.proofs.lemmas.Bool.Decides.{nat_tests}
+use Rattle.std.specs.Prelude.{slice_get}
+use Rattle.vb_host.specs.declared.report.Report.{Report}
+use Rattle.vb_host.specs.declared.seat.Seat.{Seat}
+use Rattle.vb_host.specs.Lending.{each_at, next_turn}
+use Rattle.vb_host.specs.Promises.{HasGiven, HasTold, IsQuiet}
+use Rattle.vb_host.specs.Rounds.{IsSettled, round}
+use Rattle.vb_host.specs.Seats.{believed, counting, covers, due_grant, due_target, heard, is_stale, lent, raised, served, waits}
+use Rattle.vb_host.specs.System.{Gives, Grant, Guest, Host, Limit, Order, Process, Reads, Step, Target, by_lender, changed, does, hearing, obeying, obeys, opened}
+use Rattle.vb_host.specs.System.{order_at, report_at, seats, sending, snapshot, through}
+use Rattle.vb_host.proofs.Budget.{opened_safe, run_true}
+use Rattle.vb_host.proofs.Changes.{sends_grant, sends_target}
+use Rattle.vb_host.proofs.Lists.{all_get, some_is}
+use Rattle.vb_host.proofs.Moving.{has_told, target_same, targets_stay}
+use Rattle.vb_host.proofs.Processes.{does_moves, obeys_moves}
+use Rattle.vb_host.proofs.Sound.{IsKnown, IsTrusty, either, eq_false, lt_false, queues}
+
+-- ---- what the process is then
+
+abbrev ordered : Process → Seat → Process
+ordered p s = obeys (Grant s.granted) (obeys (Target s.target_number s.target) p)
+
+abbrev settled : Process → Seat → Process
+settled p s = does (Gives s.target) (does Reads (ordered p s))
+
+settled_known : (p : Process) (s : Seat) → IsKnown p s → IsKnown (settled p s) s
+settled_known p s k =
+    let a = (obeys_moves s p (Target s.target_number s.target) (sends_target p s k) k).known in
+    let b = (obeys_moves s (obeys (Target s.target_number s.target) p) (Grant s.granted) (sends_grant (obeys (Target s.target_number s.target) p) s) a).known in
+    (does_moves s (does Reads (ordered p s)) (Gives s.target) (does_moves s (ordered p s) Reads b).known).known
+
+-- what it received, and what it has
+record IsReady (p q : Process) (s : Seat) : Type 0 where
+  number : q.target_number ≡ s.target_number
+  target : q.target ≡ s.target
+  pages : q.pages ≡ p.pages
+  held : q.held ≤ p.held
+
+target_ready : (p : Process) (s : Seat) → IsKnown p s → IsReady p (obeys (Target s.target_number s.target) p) s
+target_ready p s k = either (λ (x : Process). IsReady p x s) (nat_lt p.target_number s.target_number) _ _
+    (λ _. record { number = refl; target = refl; pages = refl; held = omega arith })
+    (λ f. let e : p.target_number ≡ s.target_number = omega (arith, k.targets.number, lt_false p.target_number s.target_number f) in
+    record { number = e; target = k.targets.target e; pages = refl; held = omega arith })
+
+grant_ready : (p q : Process) (s : Seat) (n : ℕ) → IsReady p q s → IsReady p (obeys (Grant n) q) s
+grant_ready p q s n r = either (λ (x : Process). IsReady p x s) (q.deflates == n) _ _
+    (λ _. record { number = r.number; target = r.target; pages = r.pages; held = omega arith }) (λ _. r)
+
+ordered_ready : (p : Process) (s : Seat) → IsKnown p s → IsReady p (ordered p s) s
+ordered_ready p s k = grant_ready p (obeys (Target s.target_number s.target) p) s s.granted (target_ready p s k)
+
+has_pages : (p q : Process) (s : Seat) → IsReady p q s → s.target ≤ p.pages → s.target ≤ min (q.balloon + s.target) q.pages
+has_pages p q s r l = omega (arith, r.pages, l)
+
+-- ---- what a report leaves of the seat
+
+heard_number : (turn : ℕ) (r : Report) (s : Seat) → (heard turn r s).target_number ≡ s.target_number
+heard_number turn r s = let q = believed s r in let t = targets_stay q s in either (λ (x : Seat). x.target_number ≡ s.target_number) (is_stale r s) _ _ (λ _. refl)
+    (λ _. let x = raised r (served (counting q s)) in
+    let e : x.target_number ≡ s.target_number = raised_number r (served (counting q s)) ∙ t.1 in queues (λ (y : Seat). y.target_number ≡ s.target_number) turn s x e (λ _. e)) where
+      raised_number : (r : Report) (s : Seat) → (raised r s).target_number ≡ s.target_number
+      raised_number r s = either (λ (x : Seat). x.target_number ≡ s.target_number) ((r.target_number == s.target_number) && (r.read_target == s.target)) _ _ (λ _. refl) (λ _. refl)
+
+heard_uncounted : (turn : ℕ) (r : Report) (s : Seat) → (heard turn r s).uncounted ≡ s.uncounted
+heard_uncounted turn r s = let q = believed s r in either (λ (x : Seat). x.uncounted ≡ s.uncounted) (is_stale r s) _ _ (λ _. refl)
+    (λ _. let e = raised_same r (served (counting q s)) ∙ (served_same (counting q s) ∙ counted_same q s) in
+    queues (λ (y : Seat). y.uncounted ≡ s.uncounted) turn s (raised r (served (counting q s))) e (λ _. e)) where
+      raised_same : (r : Report) (s : Seat) → (raised r s).uncounted ≡ s.uncounted
+      raised_same r s = either (λ (x : Seat). x.uncounted ≡ s.uncounted) ((r.target_number == s.target_number) && (r.read_target == s.target)) _ _ (λ _. refl) (λ _. refl)
+
+      served_same : (s : Seat) → (served s).uncounted ≡ s.uncounted
+      served_same s = either (λ (x : Seat). x.uncounted ≡ s.uncounted) (covers s) _ _ (λ _. refl) (λ _. refl)
+
+      counted_same : (r : Report) (s : Seat) → (counting r s).uncounted ≡ s.uncounted
+      counted_same r s = either (λ (x : Seat). x.uncounted ≡ s.uncounted) (r.deflates == s.granted) _ _ (λ _. refl) (λ _. refl)
+
+-- ---- nothing is on its way
+
+-- `IsQuiet` and `HasGiven`, of a process and a seat
+record IsIdle (p : Process) (s : Seat) : Type 0 where
+  no_target : due_target (snapshot p) s ≡ false
+  no_grant : due_grant (snapshot p) s ≡ false
+  read_told : p.read_target ≡ s.target
+  heard_read : s.least_target ≡ s.target
+  heard_held : 0 < p.held → p.deflates ≢ s.granted → waits s ≡ true
+  has_given : waits s ≡ false → s.uncounted ≡ 0 → s.target ≤ s.ballooned
+
+abbrev Settles : Process → Seat → Type 0
+Settles p s = (due_grant (snapshot p) s ≡ true) ⊎ IsIdle p s
+
+no_due : (a b : ℕ) → a ≡ b → not (a == b) ≡ false
+no_due a b e = grind (arith, nat_tests)
+
+due_is : (held deflates granted : ℕ) → 0 < held → deflates ≡ granted → (nat_lt 0 held && (deflates == granted)) ≡ true
+due_is held deflates granted w e = grind (arith, nat_tests)
+
+-- where no grant is due, all of the balloon counts
+counts_all : (p : Process) (s t : Seat) (w e : Bool) → nat_lt 0 p.held ≡ w → (p.deflates == t.granted) ≡ e → (w && e) ≡ false → HasTold p s t → s.uncounted ≡ 0 → p.balloon ≤ t.ballooned
+counts_all p s t true true f g n h u = absurd (cc)
+counts_all p s t true false f g n h u = h.balloon u (eq_false p.deflates t.granted g)
+counts_all p s t false e f g n h u = omega (arith, h.without u, lt_false 0 p.held f)
+
+idle : (p : Process) (s : Seat) (turn : ℕ) → IsKnown p s → p.target_number ≡ s.target_number → p.read_target ≡ s.target → s.target ≤ p.balloon
+    → due_grant (snapshot p) (heard turn (snapshot p) s) ≡ false → IsIdle p (heard turn (snapshot p) s)
+idle p s turn k n r l d =
+    let t = heard turn (snapshot p) s in let h = has_told p turn s k in let same = target_same turn (snapshot p) s in record {
+      no_target = no_due p.target_number t.target_number (n ∙ sym (heard_number turn (snapshot p) s));
+      no_grant = d;
+      read_told = r ∙ sym same;
+      heard_read = h.read_target (no_due p.target_number s.target_number n) r;
+      heard_held = h.held;
+      has_given = λ _ u. within p.balloon t.ballooned t.target s.target (counts_all p s t (nat_lt 0 p.held) (p.deflates == t.granted) refl refl d h (sym (heard_uncounted turn (snapshot p) s) ∙ u)) same l;
+    } where
+      within : (b c t u : ℕ) → b ≤ c → t ≡ u → u ≤ b → t ≤ c
+      within b c t u l e m = omega (arith, l, e, m)
+
+settles_by : (p : Process) (s : Seat) (turn : ℕ) (b : Bool) → due_grant (snapshot p) (heard turn (snapshot p) s) ≡ b → IsKnown p s → p.target_number ≡ s.target_number
+    → p.read_target ≡ s.target → s.target ≤ p.balloon → Settles p (heard turn (snapshot p) s)
+settles_by p s turn true e k n r l = inl e
+settles_by p s turn false e k n r l = inr (idle p s turn k n r l e)
+
+settles : (p : Process) (s : Seat) (turn : ℕ) → IsKnown p s → s.target ≤ p.pages → Settles (settled p s) (heard turn (snapshot (settled p s)) s)
+settles p s turn k l = let r = ordered_ready p s k in
+    settles_by (settled p s) s turn (due_grant (snapshot (settled p s)) (heard turn (snapshot (settled p s)) s)) refl (settled_known p s k) r.number r.target (has_pages p (ordered p s) s r l)
+
+-- ---- a round
+
+sends_both : (b : Bool) (l : Limit) (s : Seat) (orders : List Order) → b ≡ true → lent s ≤ l.sure → sending b l s orders ≡ Target s.target_number s.target ∷ Grant s.granted ∷ orders
+sends_both true l s orders e h = either (λ (os : List Order). os ≡ Target s.target_number s.target ∷ Grant s.granted ∷ orders) (nat_le (lent s) l.sure) _ _
+    (λ _. refl) (λ f. absurd (not_within (lent s) l.sure h f)) where
+      not_within : (a b : ℕ) → a ≤ b → nat_le a b ≡ false → ⊥
+      not_within a b h f = grind (arith, nat_tests)
+sends_both false l s orders e h = absurd (cc)
+
+-- by these orders
+abbrev process_after : List Order → Process → ℕ → Process
+process_after orders p pages = does (Gives pages) (does Reads (obeying (order_at orders 1) (obeying (order_at orders 0) p)))
+
+abbrev round_after : ℕ → Guest → Guest
+round_after turn g =
+    let q = process_after (sending g.known g.limit g.seat g.orders) g.process g.seat.target in
+    record g {
+      process = q;
+      seat = changed g.known (hearing turn (Some (snapshot q))) g.seat;
+      orders = sending g.known g.limit g.seat g.orders;
+      reports = snapshot q ∷ g.reports;
+    }
+
+seat_after : (b : Bool) (turn : ℕ) (q : Process) (s : Seat) → b ≡ true → changed b (hearing turn (Some (snapshot q))) s ≡ heard turn (snapshot q) s
+seat_after true turn q s e = refl
+seat_after false turn q s e = absurd (cc)
+
+idle_guest : (x : Guest) → x.known ≡ true → Settles x.process x.seat → (due_grant (snapshot x.process) x.seat ≡ true) ⊎ (IsQuiet x × HasGiven x)
+idle_guest x k h = elim h [
+  | inl due ↦ inl due
+  | inr i ↦ inr (
+    record { known = k; no_target = i.no_target; no_grant = i.no_grant; read_told = i.read_told; heard_read = i.heard_read; heard_held = i.heard_held },
+    i.has_given,
+  )
+]
+
+round_settles : (turn : ℕ) (g : Guest) → g.known ≡ true → lent g.seat ≤ g.limit.sure → g.seat.target ≤ g.process.pages → IsKnown g.process g.seat → IsSettled g (round_after turn g)
+round_settles turn g k l t h =
+    let x = round_after turn g in
+    let e : x.process ≡ settled g.process g.seat = ap (λ (os : List Order). process_after os g.process g.seat.target) (sends_both g.known g.limit g.seat g.orders k l) in
+    let f : x.seat ≡ heard turn (snapshot (settled g.process g.seat)) g.seat = seat_after g.known turn x.process g.seat k ∙ ap (λ (q : Process). heard turn (snapshot q) g.seat) e in
+    record {
+      held = omega (arith, ap (λ (q : Process). q.held) e, (ordered_ready g.process g.seat h).held);
+      settled = idle_guest x k (subst (λ (q : Process). Settles q x.seat) (sym e) (subst (λ (s : Seat). Settles (settled g.process g.seat) s) (sym f) (settles g.process g.seat turn h t)));
+    }
+
+-- ---- at its place
+
+at_there : (n : ℕ) (f : Guest → Guest) (xs : List Guest) (g : Guest) → slice_get xs n ≡ Some g → slice_get (each_at n f xs) n ≡ Some (f g)
+at_there n f [] g e = absurd (cc)
+at_there zero f (x ∷ xs) g e = ap (λ (y : Guest). Some (f y)) (some_is x g e)
+at_there (suc n) f (x ∷ xs) g e = at_there n f xs g e
+
+abbrev sent : Guest → Guest
+sent g = record g { orders = sending g.known g.limit g.seat g.orders }
+
+abbrev obeyed : ℕ → Guest → Guest
+obeyed i g = record g { process = obeying (order_at g.orders i) g.process }
+
+abbrev has_read : Guest → Guest
+has_read g = record g { process = does Reads g.process }
+
+abbrev given : ℕ → Guest → Guest
+given pages g = record g { process = does (Gives pages) g.process }
+
+abbrev reported : Guest → Guest
+reported g = record g { reports = snapshot g.process ∷ g.reports }
+
+abbrev received : ℕ → Guest → Guest
+received turn g = by_lender (hearing turn (report_at g.reports 0)) g
+
+abbrev all_but_last : ℕ → ℕ → List Guest → List Guest
+all_but_last n pages xs = each_at n reported (each_at n (given pages) (each_at n has_read (each_at n (obeyed 1) (each_at n (obeyed 0) (each_at n sent xs)))))
+
+abbrev last_turn_of : ℕ → ℕ → Host → ℕ
+last_turn_of n pages h = next_turn (seats (all_but_last n pages h.guests))
+
+round_there : (h : Host) (n : ℕ) (g : Guest) → slice_get h.guests n ≡ Some g
+    → slice_get (through (round n g.seat.target) h).guests n ≡ Some (round_after (last_turn_of n g.seat.target h) g)
+round_there h n g e =
+    let xs = h.guests in
+    let a = at_there n sent xs g e in
+    let b = at_there n (obeyed 0) (each_at n sent xs) (sent g) a in
+    let c = at_there n (obeyed 1) (each_at n (obeyed 0) (each_at n sent xs)) (obeyed 0 (sent g)) b in
+    let d = at_there n has_read (each_at n (obeyed 1) (each_at n (obeyed 0) (each_at n sent xs))) (obeyed 1 (obeyed 0 (sent g))) c in
+    let t = g.seat.target in
+    let f = at_there n (given t) (each_at n has_read (each_at n (obeyed 1) (each_at n (obeyed 0) (each_at n sent xs)))) (has_read (obeyed 1 (obeyed 0 (sent g)))) d in
+    let i = at_there n reported (each_at n (given t) (each_at n has_read (each_at n (obeyed 1) (each_at n (obeyed 0) (each_at n sent xs)))))
+    (given t (has_read (obeyed 1 (obeyed 0 (sent g))))) f in
+    at_there n (received (last_turn_of n t h)) (all_but_last n t xs) (reported (given t (has_read (obeyed 1 (obeyed 0 (sent g)))))) i
+
+pub rounds_settle : (frames overdraft : ℕ) (sizes : List ℕ) (steps : List Step) (n : ℕ) (g x : Guest) → slice_get (through steps (opened frames overdraft sizes)).guests n ≡ Some g
+    → g.strict ≡ true → g.known ≡ true → lent g.seat ≤ g.limit.sure → g.seat.target ≤ g.process.pages
+    → slice_get (through (round n g.seat.target) (through steps (opened frames overdraft sizes))).guests n ≡ Some x → IsSettled g x
+rounds_settle frames overdraft sizes steps n g x e strict k l t f =
+    let h = through steps (opened frames overdraft sizes) in
+    let known = (all_get IsTrusty h.guests n g (run_true (opened frames overdraft sizes) steps (opened_safe frames overdraft sizes).each) e strict).known in
+    subst (λ (y : Guest). IsSettled g y) (some_is _ x (sym (round_there h n g e) ∙ f)) (round_settles (last_turn_of n g.seat.target h) g k l t known)
