@@ -6,7 +6,8 @@ use Rattle.vb_host.specs.declared.report.Report.{Report}
 use Rattle.vb_host.specs.declared.seat.Seat.{Seat}
 use Rattle.vb_host.specs.Lending.{each_at, next_turn}
 use Rattle.vb_host.specs.Promises.{HasGiven, HasTold, IsQuiet}
-use Rattle.vb_host.specs.Rounds.{IsSettled, round}
+use Rattle.std.specs.List.{AllByRecursion}
+use Rattle.vb_host.specs.Rounds.{IsRegular, IsSettled, round}
 use Rattle.vb_host.specs.Seats.{believed, counting, covers, due_grant, due_target, heard, is_stale, lent, raised, served, waits}
 use Rattle.vb_host.specs.System.{Gives, Grant, Guest, Host, Limit, Order, Process, Reads, Step, Target, by_lender, changed, does, hearing, obeying, obeys, opened}
 use Rattle.vb_host.specs.System.{order_at, report_at, seats, sending, snapshot, through}
@@ -15,7 +16,8 @@ use Rattle.vb_host.proofs.Changes.{sends_grant, sends_target}
 use Rattle.vb_host.proofs.Lists.{all_get, some_is}
 use Rattle.vb_host.proofs.Moving.{has_told, target_same, targets_stay}
 use Rattle.vb_host.proofs.Processes.{does_moves, obeys_moves}
-use Rattle.vb_host.proofs.Sound.{IsKnown, IsTrusty, either, eq_false, lt_false, queues}
+use Rattle.vb_host.proofs.LentBy.{hears_lend}
+use Rattle.vb_host.proofs.Sound.{IsKnown, IsTrusty, and_left, and_right, either, eq_false, eq_true, lt_false, lt_true, queues}
 
 -- ---- what the process is then
 
@@ -216,10 +218,86 @@ round_there h n g e =
     (given t (has_read (obeyed 1 (obeyed 0 (sent g))))) f in
     at_there n (received (last_turn_of n t h)) (all_but_last n t xs) (reported (given t (has_read (obeyed 1 (obeyed 0 (sent g)))))) i
 
+-- in any state in which what is true of each guest is
+settles_at : (h : Host) (n : ℕ) (g x : Guest) → AllByRecursion IsTrusty h.guests → slice_get h.guests n ≡ Some g → IsRegular g
+    → slice_get (through (round n g.seat.target) h).guests n ≡ Some x → IsSettled g x
+settles_at h n g x a e r f = subst (λ (y : Guest). IsSettled g y) (some_is _ x (sym (round_there h n g e) ∙ f))
+    (round_settles (last_turn_of n g.seat.target h) g r.known r.limit r.target (all_get IsTrusty h.guests n g a e r.strict).known)
+
 pub rounds_settle : (frames overdraft : ℕ) (sizes : List ℕ) (steps : List Step) (n : ℕ) (g x : Guest) → slice_get (through steps (opened frames overdraft sizes)).guests n ≡ Some g
-    → g.strict ≡ true → g.known ≡ true → lent g.seat ≤ g.limit.sure → g.seat.target ≤ g.process.pages
-    → slice_get (through (round n g.seat.target) (through steps (opened frames overdraft sizes))).guests n ≡ Some x → IsSettled g x
-rounds_settle frames overdraft sizes steps n g x e strict k l t f =
-    let h = through steps (opened frames overdraft sizes) in
-    let known = (all_get IsTrusty h.guests n g (run_true (opened frames overdraft sizes) steps (opened_safe frames overdraft sizes).each) e strict).known in
-    subst (λ (y : Guest). IsSettled g y) (some_is _ x (sym (round_there h n g e) ∙ f)) (round_settles (last_turn_of n g.seat.target h) g k l t known)
+    → IsRegular g → slice_get (through (round n g.seat.target) (through steps (opened frames overdraft sizes))).guests n ≡ Some x → IsSettled g x
+rounds_settle frames overdraft sizes steps n g x e r f =
+    settles_at (through steps (opened frames overdraft sizes)) n g x (run_true (opened frames overdraft sizes) steps (opened_safe frames overdraft sizes).each) e r f
+
+-- ---- another round, where the grant is on its way
+
+-- what a round leaves of a guest for the next one
+record IsNextRound (g x : Guest) : Type 0 where
+  regular : IsRegular x
+  target : x.seat.target ≡ g.seat.target
+
+pages_ready : (p : Process) (s : Seat) → IsKnown p s → (settled p s).pages ≡ p.pages
+pages_ready p s k = (ordered_ready p s k).pages
+
+regular_after : (turn : ℕ) (g : Guest) → IsRegular g → IsKnown g.process g.seat → IsNextRound g (round_after turn g)
+regular_after turn g r h =
+    let x = round_after turn g in
+    let p = settled g.process g.seat in
+    let e : x.process ≡ p = ap (λ (os : List Order). process_after os g.process g.seat.target) (sends_both g.known g.limit g.seat g.orders r.known r.limit) in
+    let f : x.seat ≡ heard turn (snapshot p) g.seat = seat_after g.known turn x.process g.seat r.known ∙ ap (λ (q : Process). heard turn (snapshot q) g.seat) e in
+    let t : x.seat.target ≡ g.seat.target = ap (λ (s : Seat). s.target) f ∙ target_same turn (snapshot p) g.seat in
+    let w : x.process.pages ≡ g.process.pages = ap (λ (q : Process). q.pages) e ∙ pages_ready g.process g.seat h in
+    let l : lent x.seat ≡ lent (heard turn (snapshot p) g.seat) = ap (λ (s : Seat). lent s) f in record {
+      regular = record { strict = r.strict; known = r.known; limit = less_is (lent x.seat) _ _ _ l (hears_lend turn (snapshot p) g.seat) r.limit; target = omega (arith, t, w, r.target) };
+      target = t;
+    } where
+      less_is : (a b c d : ℕ) → a ≡ b → b ≤ c → c ≤ d → a ≤ d
+      less_is a b c d e l m = omega (arith, e, l, m)
+
+-- what was granted isn't held back any longer
+granted_drops : (p : Process) (s : Seat) → p.deflates ≡ s.granted → (ordered p s).held ≡ 0
+granted_drops p s e = either (λ (x : Process). x.held ≡ 0) ((obeys (Target s.target_number s.target) p).deflates == s.granted) _ _
+    (λ _. refl) (λ f. absurd (eq_false _ _ f (target_keeps p s ∙ e))) where
+      target_keeps : (p : Process) (s : Seat) → (obeys (Target s.target_number s.target) p).deflates ≡ p.deflates
+      target_keeps p s = either (λ (x : Process). x.deflates ≡ p.deflates) (nat_lt p.target_number s.target_number) _ _ (λ _. refl) (λ _. refl)
+
+none_due : (held deflates granted : ℕ) → (nat_lt 0 held && (deflates == granted)) ≡ true → (0 < held) × (deflates ≡ granted)
+none_due held deflates granted e = (lt_true 0 held (and_left (nat_lt 0 held) _ e), eq_true deflates granted (and_right (nat_lt 0 held) _ e))
+
+quiet_after : (turn : ℕ) (g : Guest) → IsRegular g → IsKnown g.process g.seat → due_grant (snapshot g.process) g.seat ≡ true
+    → IsQuiet (round_after turn g) × HasGiven (round_after turn g)
+quiet_after turn g r h d =
+    let x = round_after turn g in
+    let e : x.process ≡ settled g.process g.seat = ap (λ (os : List Order). process_after os g.process g.seat.target) (sends_both g.known g.limit g.seat g.orders r.known r.limit) in
+    let none : x.process.held ≡ 0 = ap (λ (q : Process). q.held) e ∙ granted_drops g.process g.seat (none_due g.process.held g.process.deflates g.seat.granted d).1 in
+    elim (round_settles turn g r.known r.limit r.target h).settled [
+      | inl due ↦ absurd (omega (arith, none, (none_due x.process.held x.process.deflates x.seat.granted due).0))
+      | inr idle ↦ idle
+    ]
+
+quiet_at : (h : Host) (n t : ℕ) (x y : Guest) → AllByRecursion IsTrusty h.guests → slice_get h.guests n ≡ Some x → IsRegular x → x.seat.target ≡ t → due_grant (snapshot x.process) x.seat ≡ true
+    → slice_get (through (round n t) h).guests n ≡ Some y → IsQuiet y × HasGiven y
+quiet_at h n t x y a e r s d f = subst (λ (z : Guest). IsQuiet z × HasGiven z)
+    (some_is _ y (sym (round_there h n x e) ∙ (ap (λ (k : ℕ). slice_get (through (round n k) h).guests n) s ∙ f)))
+    (quiet_after (last_turn_of n x.seat.target h) x r (all_get IsTrusty h.guests n x a e r.strict).known d)
+
+next_at : (h : Host) (n : ℕ) (g x : Guest) → AllByRecursion IsTrusty h.guests → slice_get h.guests n ≡ Some g → IsRegular g
+    → slice_get (through (round n g.seat.target) h).guests n ≡ Some x → IsNextRound g x
+next_at h n g x a e r f = subst (λ (z : Guest). IsNextRound g z) (some_is _ x (sym (round_there h n g e) ∙ f))
+    (regular_after (last_turn_of n g.seat.target h) g r (all_get IsTrusty h.guests n g a e r.strict).known)
+
+two_at : (h : Host) (n : ℕ) (g x y : Guest) → AllByRecursion IsTrusty h.guests → slice_get h.guests n ≡ Some g → IsRegular g
+    → slice_get (through (round n g.seat.target) h).guests n ≡ Some x → slice_get (through (round n g.seat.target) (through (round n g.seat.target) h)).guests n ≡ Some y
+    → (IsQuiet x × HasGiven x) ⊎ (IsQuiet y × HasGiven y)
+two_at h n g x y a e r f i = let next = next_at h n g x a e r f in elim (settles_at h n g x a e r f).settled [
+  | inl due ↦ inr (quiet_at (through (round n g.seat.target) h) n g.seat.target x y (run_true h (round n g.seat.target) a) f next.regular next.target due i)
+  | inr idle ↦ inl idle
+]
+
+pub two_rounds_suffice : (frames overdraft : ℕ) (sizes : List ℕ) (steps : List Step) (n : ℕ) (g x y : Guest)
+    → slice_get (through steps (opened frames overdraft sizes)).guests n ≡ Some g → IsRegular g
+    → slice_get (through (round n g.seat.target) (through steps (opened frames overdraft sizes))).guests n ≡ Some x
+    → slice_get (through (round n g.seat.target) (through (round n g.seat.target) (through steps (opened frames overdraft sizes)))).guests n ≡ Some y
+    → (IsQuiet x × HasGiven x) ⊎ (IsQuiet y × HasGiven y)
+two_rounds_suffice frames overdraft sizes steps n g x y e r f i =
+    two_at (through steps (opened frames overdraft sizes)) n g x y (run_true (opened frames overdraft sizes) steps (opened_safe frames overdraft sizes).each) e r f i

@@ -18,15 +18,31 @@ pub record IsSettled (old new : Guest) : Type 0 where
   pub held : new.process.held ≤ old.process.held
   pub settled : (due_grant (snapshot new.process) new.seat ≡ true) ⊎ (IsQuiet new × HasGiven new)
 
+-- A strict guest that the lender knows, whose limit surely allows what it is lent, and whose target
+-- isn't more than its pages.
+pub record IsRegular (g : Guest) : Type 0 where
+  pub strict : g.strict ≡ true
+  pub known : g.known ≡ true
+  pub limit : lent g.seat ≤ g.limit.sure
+  pub target : g.seat.target ≤ g.process.pages
+
 -- In each state one round, with one read, one report and as many pages as the target says, settles
--- a strict guest that the lender knows, where its limit surely allows what it is lent, and its
--- target isn't more than its pages.
+-- such a guest.
 abbrev pub RoundsSettle : Type 0
 RoundsSettle =
     (frames overdraft : ℕ) (sizes : List ℕ) (steps : List Step) (n : ℕ) (g x : Guest)
-    → slice_get (through steps (opened frames overdraft sizes)).guests n ≡ Some g
-    → g.strict ≡ true → g.known ≡ true → lent g.seat ≤ g.limit.sure
-    → g.seat.target ≤ g.process.pages
+    → slice_get (through steps (opened frames overdraft sizes)).guests n ≡ Some g → IsRegular g
     → slice_get (through (round n g.seat.target)
     (through steps (opened frames overdraft sizes))).guests n ≡ Some x
     → IsSettled g x
+
+-- And after one round, or after two, nothing is on its way, and it has reached its target.
+abbrev pub TwoRoundsSuffice : Type 0
+TwoRoundsSuffice =
+    (frames overdraft : ℕ) (sizes : List ℕ) (steps : List Step) (n : ℕ) (g x y : Guest)
+    → slice_get (through steps (opened frames overdraft sizes)).guests n ≡ Some g → IsRegular g
+    → slice_get (through (round n g.seat.target)
+    (through steps (opened frames overdraft sizes))).guests n ≡ Some x
+    → slice_get (through (round n g.seat.target) (through (round n g.seat.target)
+    (through steps (opened frames overdraft sizes)))).guests n ≡ Some y
+    → (IsQuiet x × HasGiven x) ⊎ (IsQuiet y × HasGiven y)

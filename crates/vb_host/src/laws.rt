@@ -10,7 +10,7 @@ ghost use Rattle.vb_host.specs.Turns.{GrantsInTurn, TurnsRise, ComesLast, LinesO
 ghost use Rattle.vb_host.specs.Turns.{EventsLendNothing, JustOne, IsPreferred, StaysPreferred};
 ghost use Rattle.vb_host.specs.Turns.{OneProceeds, OneProceedsBySteps};
 ghost use Rattle.vb_host.specs.Promises.{Uncounted, StaysUncounted, UncountedHasAll};
-ghost use Rattle.vb_host.specs.Rounds.{RoundsSettle};
+ghost use Rattle.vb_host.specs.Rounds.{RoundsSettle, TwoRoundsSuffice};
 ghost use Rattle.vb_host.specs.System.{Host};
 ghost use Rattle.std.specs.Prelude.{ℕ};
 
@@ -93,9 +93,11 @@ pub fn uncounted_stays()
 {}
 
 /// One read, one report, and the pages that a guest's target says, leave nothing on its way between
-/// the guest and the lender, unless that is the grant of its deflate.
+/// the guest and the lender, unless that is the grant of its deflate; and another such round
+/// nothing.
 pub fn one_round_settles()
     ensures settles { RoundsSettle }
+    ensures suffice { TwoRoundsSuffice }
 {}
 
 /// A step has one outcome, and leaves nothing to grant, and no target that may be nearer to what is
