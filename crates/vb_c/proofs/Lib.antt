@@ -14,6 +14,7 @@ mod LeftFacts
 mod QueueFacts
 mod LendingFacts
 mod HostingFacts
+mod SeatsFacts
 mod HandingFacts
 mod BeginFacts
 mod StaleFacts
