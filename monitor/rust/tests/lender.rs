@@ -51,14 +51,19 @@ fn a_guest_is_let_in_where_there_is_room_and_another_one_waits() {
     assert_eq!((first.lent(), first.asked(), first.waits()), (50, 0, false));
     let second = lender.seats()[1];
     assert_eq!((second.lent(), second.asked(), second.waits(), second.turn), (0, 86, true, 1));
+    let mut again = lender.clone();
+    again.step(Event::Targets { guest: 0 });
+    assert_eq!(again, lender, "each step sets the target that is possible");
 }
 
 #[test]
 fn orders_are_due_until_a_report_shows_them() {
     let seat = host().seats()[0];
     assert!(seat.due_target(&coming(60, 10)) && seat.due_grant(&coming(60, 10)));
-    let shown = Report { target_number: 1, held: 0, ..coming(60, 10) };
-    assert!(!seat.due_target(&shown) && !seat.due_grant(&shown));
+    let received = Report { target_number: 1, ..coming(60, 10) };
+    assert!(!seat.due_target(&received) && seat.due_grant(&received));
+    let given_back = Report { held: 0, ..coming(60, 10) };
+    assert!(seat.due_target(&given_back) && !seat.due_grant(&given_back));
 }
 
 #[test]
@@ -83,8 +88,8 @@ fn a_budget_lets_in_and_a_guest_that_has_gone_makes_room() {
     assert_eq!((lender.owed(), lender.first()), (136, None));
     lender.step(Event::Arrives { guest: 0, pages: 0, ballooned: 0 });
     assert_eq!((lender.seats()[0], lender.owed()), (Seat::default(), 86));
-    lender.step(Event::Targets { guest: 1 });
-    assert_eq!((lender.room(), lender.seats()[1].target), (50, 0));
+    lender.step(Event::Budget { frames: 100 });
+    assert_eq!((lender.room(), lender.seats()[1].target), (14, 0));
 }
 
 #[test]
