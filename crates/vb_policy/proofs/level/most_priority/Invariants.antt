@@ -1,0 +1,5 @@
+use Rattle.std.proofs.Common.{◌≤◌, All, take}
+use Rattle.vb_policy.proofs.level.most_priority.Given as goal
+
+abbrev pub invariant-loop-guest : goal.invariant-loop-guest
+invariant-loop-guest l = All (λ g. g.priority ≤ l.most) (take l.guest-index l.guests)

@@ -1,0 +1,5 @@
+pub mod Tiers
+pub mod Divisions
+pub mod Settling
+pub mod Decisions
+pub mod Laws

@@ -1,0 +1,58 @@
+//! What holds of every decision.
+
+ghost use Rattle.std.specs.Prelude.{◌≡◌, ℕ, ◌+◌, ◌<◌, ◌≤◌, List, length, map, slice_index, sum, sum_by};
+ghost use Rattle.vb_policy.specs.declared.guest.Decision.{Decision};
+ghost use Rattle.vb_policy.specs.declared.guest.Decision.TheVariants.{Enough};
+ghost use Rattle.vb_policy.specs.declared.guest.Division.{Division};
+ghost use Rattle.vb_policy.specs.declared.guest.Guest.{Guest};
+ghost use Rattle.vb_policy.specs.declared.guest.Host.{Host};
+ghost use Rattle.vb_policy.specs.declared.guest.Tier.{Tier};
+ghost use Rattle.vb_policy.specs.declared.guest.Tier.TheVariants.{Reserve};
+ghost use Rattle.vb_policy.specs.Decisions.{Decides};
+ghost use Rattle.vb_policy.specs.Divisions.{Divides, fair};
+ghost use Rattle.vb_policy.specs.Laws.{unit_of, value_at};
+ghost use Rattle.vb_policy.specs.Settling.{most_of};
+ghost use Rattle.vb_policy.specs.Tiers.{before, through};
+
+/// Where the guests can give enough, the targets are enough; where nothing is missing, nobody is
+/// asked for more.
+pub fn targets_are_enough()
+    ensures given { (host : Host) (guests : List Guest) (decision : Decision) (targets : List ℕ) →
+        Decides host guests decision targets → host.lack ≤ sum_by (through Reserve) guests →
+        host.lack ≤ sum targets }
+    ensures kept { (host : Host) (guests : List Guest) (targets : List ℕ) (i : ℕ) →
+        Decides host guests Enough targets →
+        slice_index targets i ≤ value_at (λ g. g.target) guests i }
+{}
+
+/// No guest is asked for more than may be. On a short host each is asked for all that it can give,
+/// but for the slack.
+pub fn targets_are_possible()
+    ensures given { (host : Host) (guests : List Guest) (decision : Decision) (targets : List ℕ)
+        (i : ℕ) → Decides host guests decision targets →
+        host.lack ≤ sum_by (through Reserve) guests →
+        slice_index targets i ≤ value_at most_of guests i }
+    ensures most { (host : Host) (guests : List Guest) (decision : Decision) (targets : List ℕ)
+        (i : ℕ) → Decides host guests decision targets →
+        sum_by (through Reserve) guests < host.lack → i < length guests →
+        slice_index targets i ≤ value_at (λ g. g.spare) guests i + host.slack }
+    ensures least { (host : Host) (guests : List Guest) (decision : Decision) (targets : List ℕ)
+        (i : ℕ) → Decides host guests decision targets →
+        sum_by (through Reserve) guests < host.lack → i < length guests →
+        value_at (λ g. g.spare) guests i ≤ slice_index targets i + host.slack }
+{}
+
+/// By a division no guest gives of a later tier before all give the earlier ones whole, and within
+/// the tier none of a higher class before those of a lower one give it whole.
+pub fn tiers_are_in_order()
+    ensures tiers { (d : Division) (tier : Tier) (g h : Guest) → through tier g < fair d g →
+        through tier h ≤ fair d h }
+    ensures classes { (d : Division) (g h : Guest) → h.priority < g.priority →
+        before d.tier g < fair d g → through d.tier h ≤ fair d h }
+{}
+
+/// A division asks for less than one unit of weight more than is missing.
+pub fn no_more_than_asked()
+    ensures { (lack : ℕ) (guests : List Guest) (d : Division) → Divides lack guests d →
+        sum_by (fair d) guests < lack + sum_by unit_of guests }
+{}

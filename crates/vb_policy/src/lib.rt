@@ -1,0 +1,14 @@
+//! Which guest is asked for how much, so that a host has what it lacks: memory that guests use for
+//! nothing before page cache, and page cache before reserves; by weight; moving few targets.
+#![tactic(auto)]
+
+mod decision;
+mod guest;
+mod laws;
+mod level;
+mod settle;
+mod tiers;
+
+pub use decision::decide;
+pub use guest::{Decision, Division, Guest, Host, Tier};
+pub use laws::{no_more_than_asked, targets_are_enough, targets_are_possible, tiers_are_in_order};
