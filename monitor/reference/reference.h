@@ -127,6 +127,15 @@ typedef struct {
     size_t count;
     VbRoom *room;
 } Call;
+
+/* As much at once as the order of the bits allows, as the library has it; one thing at a time where
+ * that explains what it says. */
+#ifdef ONE_AT_A_TIME
+enum { GROUPS = false, MOST_AT_ONCE = 1 };
+#else
+enum { GROUPS = true, MOST_AT_ONCE = VB_MAX_CUTS };
+#endif
+
 bool find_spot(const Call *call, uint64_t address, uint64_t length, VbSpot *spot);
 uint32_t wait_for(const Call *call, enum phase phase, uint32_t what);
 uint32_t stop(const Call *call, uint32_t code);
@@ -141,5 +150,12 @@ uint32_t after_part(const Call *call);
 uint32_t after_row(const Call *call);
 uint32_t serve_bytes(const Call *call);
 uint32_t tell_pages(const Call *call, const Named *named);
+uint32_t give_back(const Call *call);
+uint32_t after_told(const Call *call);
+uint32_t ask_cut(const Call *call);
+uint32_t after_portion(const Call *call);
+uint32_t after_pause(const Call *call);
+uint32_t after_given(const Call *call);
+uint32_t after_flags(const Call *call, uint16_t flags);
 
 #endif

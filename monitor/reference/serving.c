@@ -1,17 +1,7 @@
-/* What a notice serves once its chain is read, and the calls of a notice, in plain C. */
+/* What a notice serves once its chain is read, in plain C. */
 #include "reference.h"
 
-/* As much at once as the order of the bits allows, as the library has it; one thing at a time where
- * that explains what it says. */
-#ifdef ONE_AT_A_TIME
-enum { GROUPS = false, MOST_AT_ONCE = 1 };
-#else
-enum { GROUPS = true, MOST_AT_ONCE = VB_MAX_CUTS };
-#endif
-
-/* ---- what a chain comes to */
-
-static uint32_t give_back(const Call *call)
+uint32_t give_back(const Call *call)
 {
     VbNotice *notice = call->notice;
     Used used = use(&call->balloon->device, notice->kind, call->queue, notice->head);
@@ -74,19 +64,19 @@ static uint32_t go_further(const Call *call)
     return call->notice->pages_left == 0 ? wait_for(call, AT_PAUSE, VB_PAUSE) : next_portion(call);
 }
 
-static uint32_t after_portion(const Call *call)
+uint32_t after_portion(const Call *call)
 {
     return has_more(call->notice) ? go_further(call) : give_back(call);
 }
 
-static uint32_t after_pause(const Call *call)
+uint32_t after_pause(const Call *call)
 {
     call->notice->pages_left = call->notice->most_pages;
     return next_portion(call);
 }
 
 /* Asks for the next part of a run, from run `number` and region `from` on. */
-static uint32_t ask_cut(const Call *call)
+uint32_t ask_cut(const Call *call)
 {
     VbNotice *notice = call->notice;
     if (notice->kind == VB_DEFLATE || is_kept(call))
@@ -145,7 +135,7 @@ uint32_t tell_pages(const Call *call, const Named *named)
     return wait_for(call, AT_TOLD, VB_TELL_PAGES);
 }
 
-static uint32_t after_told(const Call *call)
+uint32_t after_told(const Call *call)
 {
     if (!call->notice->waits)
         return ask_cut(call);
@@ -188,7 +178,7 @@ uint32_t serve_bytes(const Call *call)
     return tell_pages(call, &named);
 }
 
-static uint32_t after_given(const Call *call)
+uint32_t after_given(const Call *call)
 {
     call->notice->given = 1;
     if (!call->notice->taken)
@@ -197,164 +187,8 @@ static uint32_t after_given(const Call *call)
     return end(call, VB_NOTHING);
 }
 
-static uint32_t after_flags(const Call *call, uint16_t flags)
+uint32_t after_flags(const Call *call, uint16_t flags)
 {
     call->notice->interrupt = !(flags & NO_INTERRUPT);
     return stop(call, call->notice->code);
-}
-
-/* ---- the calls */
-
-/* What is to be done once that was done which was to be done. */
-static uint32_t step(const Call *call, uint16_t answer)
-{
-    VbNotice *notice = call->notice;
-    bool holds = notice->count <= VB_MAX_PIECES && notice->runs <= VB_MAX_RUNS &&
-                 notice->length <= VB_MAX_BYTES && notice->cuts <= VB_MAX_CUTS;
-    if (!call->queue || !holds || call->queue->size > VB_MAX_QUEUE_SIZE ||
-        (call->queue->size == 0 && notice->phase != NO_PHASE))
-        return stop(call, VB_BAD_ARGUMENT);
-    switch (notice->phase) {
-    case AT_INDEX:
-        return after_index(call, answer);
-    case AT_ENTRY:
-        return wait_for(call, AT_WORD, VB_READ);
-    case AT_WORD:
-        return after_entry(call, answer);
-    case AT_DESCRIPTOR:
-        return notice->from <= VB_MAX_BYTES / DESCRIPTOR_SIZE ? after_row(call)
-                                                              : stop(call, VB_BAD_ARGUMENT);
-    case AT_PART:
-        return after_part(call);
-    case AT_TOLD:
-        return after_told(call);
-    case AT_CUT:
-        return ask_cut(call);
-    case AT_PAUSE:
-        return after_pause(call);
-    case AT_FIGURES:
-        return end(call, VB_NOTHING);
-    case AT_ID:
-        return give_back(call);
-    case AT_GIVEN:
-        return after_given(call);
-    case AT_FLAGS:
-        return wait_for(call, AT_FLAG_WORD, VB_READ);
-    case AT_FLAG_WORD:
-        return after_flags(call, answer);
-    default:
-        return notice->what ? stop(call, VB_BAD_ARGUMENT) : 0;
-    }
-}
-
-/* Adds what needs no answer of what is to be done now, as long as its bit comes after the
-  * others. */
-static uint32_t grouped(const Call *call)
-{
-    VbNotice *notice = call->notice, before;
-    while (GROUPS && notice->what && !(notice->what & (VB_READ | VB_COPY | VB_PAUSE))) {
-        VbBalloon balloon = *call->balloon;
-        VbCut cuts[VB_MAX_CUTS];
-        size_t kept = notice->cuts <= VB_MAX_CUTS ? notice->cuts * sizeof cuts[0] : 0;
-        memcpy(cuts, call->room->cuts, kept);
-        before = *notice;
-        uint32_t next = step(call, 0);
-        if (next <= before.what) {
-            memcpy(call->room->cuts, cuts, kept);
-            *call->balloon = balloon;
-            *notice = before;
-            break;
-        }
-        notice->what = before.what | next;
-    }
-    return notice->what;
-}
-
-/* All that is to be done at once, and the device as the notice leaves it. */
-static uint32_t hand_over(const Call *call)
-{
-    const VbDevice *device = &call->balloon->device;
-    grouped(call);
-    if (call->queue)
-        call->notice->ring = *call->queue;
-    call->notice->shown = device->round.shown;
-    call->notice->status = device->status;
-    return call->notice->what;
-}
-
-/* The device is as the notice left it: it wasn't reset, and the queue wasn't moved or used. */
-static bool is_current(const VbNotice *notice, const VbDevice *device, const VbQueue *queue)
-{
-    const VbQueue *left = &notice->ring;
-    return notice->status == device->status && left->table == queue->table &&
-           left->avail == queue->avail && left->used == queue->used && left->size == queue->size &&
-           left->next_avail == queue->next_avail && left->next_used == queue->next_used;
-}
-
-/* Hints are discarded only while their round is open. */
-static bool may_discard(const VbNotice *notice, const VbDevice *device)
-{
-    return notice->kind != VB_HINT ||
-           (vb_hints_open(device) && notice->shown == device->round.shown);
-}
-
-static uint32_t stop_stale(const Call *call)
-{
-    call->notice->rule = call->notice->interrupt = call->notice->more = 0;
-    return stop(call, VB_STALE);
-}
-
-uint32_t vb_begin(VbNotice *notice, VbBalloon *balloon, const VbRegion *regions, size_t count,
-                  VbRoom *room, uint32_t kind, uint32_t chains, uint32_t pages, uint32_t keeps)
-{
-    const Call call = {notice, balloon, queue_of(&balloon->device, kind), regions, count, room};
-    memset(notice, 0, sizeof *notice);
-    notice->kind = kind;
-    notice->chains_left = chains;
-    notice->pages_left = notice->most_pages = pages;
-    notice->keeps = keeps != 0;
-    if (!call.queue)
-        return stop(&call, VB_NO_QUEUE);
-    is_held(balloon, kind) ? stop(&call, VB_NOTHING) : look(&call);
-    return hand_over(&call);
-}
-
-uint32_t vb_give_held(VbNotice *notice, VbBalloon *balloon, const VbRegion *regions, size_t count,
-                      VbRoom *room, uint32_t kind)
-{
-    const Call call = {notice, balloon, queue_of(&balloon->device, kind), regions, count, room};
-    memset(notice, 0, sizeof *notice);
-    notice->kind = kind;
-    if (!call.queue)
-        return stop(&call, VB_NO_QUEUE);
-    if (vb_held(balloon, kind, &notice->taken_pages) != VB_OK)
-        return stop(&call, VB_NOTHING);
-    uint32_t head = *held_of(&balloon->held, kind) - 1;
-    notice->head = head > UINT16_MAX ? UINT16_MAX : (uint16_t)head;
-    notice->taken = 1;
-    give_back(&call);
-    return hand_over(&call);
-}
-
-uint32_t vb_go_on(VbNotice *notice, VbBalloon *balloon, const VbRegion *regions, size_t count,
-                  VbRoom *room, uint16_t answer)
-{
-    const Call call = {notice,  balloon, queue_of(&balloon->device, notice->kind),
-                       regions, count,   room};
-    if (call.queue && !is_current(notice, &balloon->device, call.queue))
-        return stop_stale(&call);
-    if (notice->phase == AT_CUT && !may_discard(notice, &balloon->device))
-        after_portion(&call);
-    else
-        step(&call, answer);
-    return hand_over(&call);
-}
-
-uint32_t vb_recheck(const VbNotice *notice, const VbBalloon *balloon)
-{
-    VbDevice device = balloon->device;
-    const VbQueue *queue = queue_of(&device, notice->kind);
-    if (!queue || !is_current(notice, &device, queue))
-        return 0;
-    return may_discard(notice, &device) ? notice->what : notice->what & ~(uint32_t)VB_DISCARD;
 }

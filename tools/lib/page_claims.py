@@ -51,9 +51,9 @@ def entries(path, name):
     return count
 
 
-def lines_of(path):
-    """Returns how many lines a file has."""
-    return lambda: len(read(path).splitlines())
+def lines_of(*paths):
+    """Returns how many lines files have."""
+    return lambda: sum(len(read(it).splitlines()) for it in paths)
 
 
 def scripts(*folders):
@@ -68,7 +68,7 @@ def wrong_shims(*paths):
 
 SHIM, CALLS, OBEY = (
     "monitor/include/balloon.h",
-    "monitor/include/balloon_calls.h",
+    ("monitor/include/balloon_calls.h", "monitor/include/balloon_notices.h"),
     "monitor/rust/src/obey.rs",
 )
 
@@ -84,7 +84,7 @@ COUNTS = (
         scripts("crates/vb_conformance/data/*"),
     ),
     ("monitor/README.md", r"`balloon\.h` \((\w+) lines\)", lines_of(SHIM)),
-    ("monitor/README.md", r"`balloon_calls\.h`, (\w+) lines", lines_of(CALLS)),
+    ("monitor/README.md", r"`balloon_notices\.h`, (\w+) lines", lines_of(*CALLS)),
     ("monitor/README.md", r"by (\w+) wrong shims in C", wrong_shims("include/")),
     ("monitor/README.md", r"wrong shims in C and (\w+) in Rust", wrong_shims("rust/")),
     ("monitor/rust/README.md", r"`src/obey\.rs`\n?\s*\((\w+) lines\)", lines_of(OBEY)),
