@@ -157,11 +157,29 @@ static void count_marks(struct backend *backend, uint32_t kind, uint32_t marked)
         counters_taken(before, backend->ballooned, backend->balloon.state.device.target);
 }
 
+uint32_t backend_given(const struct backend *backend)
+{
+    uint32_t ballooned = backend->ballooned, held = backend->undiscarded;
+    return held < ballooned ? ballooned - held : 0;
+}
+
+/* Which of a balloon's pages couldn't be discarded isn't known: those that leave it are others, as
+ * long as there are any. */
+static void count_undiscarded(struct backend *backend, uint32_t kind,
+                              const struct balloon_result *result)
+{
+    uint64_t pages = backend->undiscarded;
+    if (kind == VB_INFLATE && result->error)
+        pages += result->kept;
+    backend->undiscarded = pages < backend->ballooned ? (uint32_t)pages : backend->ballooned;
+}
+
 bool backend_finish(struct backend *backend, uint32_t kind, const struct balloon_result *result)
 {
     counters_add(&backend->counters, result);
     backend->hints.late += result->late;
     count_marks(backend, kind, (uint32_t)result->marked);
+    count_undiscarded(backend, kind, result);
     if (result->error)
         remark(backend, "%llu pages can't be discarded: %s", (unsigned long long)result->kept,
                strerror(result->error));

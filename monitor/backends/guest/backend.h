@@ -49,11 +49,12 @@ struct backend {
     struct hint_counters hints;
     VbStatistic figures[MOST_TAGS];
     uint32_t figure_count;
-    uint32_t pending;    /* bit 1 << number: more is available on this queue */
-    uint32_t seen;       /* what `actual` was when it was last looked at */
-    uint32_t ballooned;  /* the pages in the balloon's set */
-    int socket, channel; /* the client's, and the one on which it is told things; -1: none */
-    int listener;        /* where the client comes while `socket` is -1 */
+    uint32_t pending;     /* bit 1 << number: more is available on this queue */
+    uint32_t seen;        /* what `actual` was when it was last looked at */
+    uint32_t ballooned;   /* the pages in the balloon's set */
+    uint32_t undiscarded; /* as many of these as couldn't be discarded, at most: they are held */
+    int socket, channel;  /* the client's, and the one on which it is told things; -1: none */
+    int listener;         /* where the client comes while `socket` is -1 */
     const struct options *options;
     /* Tells the driver of a used buffer on a queue, or of a change of the configuration (queue
       * -1). */
@@ -111,6 +112,9 @@ void backend_leave(struct backend *backend);
  * program's status. `serve` serves one message of the client, if one is there: 1; 0 where it has
  * gone; -1 where it can't be served. */
 int backend_run(struct backend *backend, int (*serve)(struct backend *backend));
+
+/* The pages in the balloon that the host doesn't hold any longer. */
+uint32_t backend_given(const struct backend *backend);
 
 /* Whether its driver is ready. */
 bool backend_is_ready(const struct backend *backend);

@@ -41,6 +41,7 @@ void kept_save(struct lent *lent)
     uint32_t other = 1 - (lent->kept->counts & 1);
     struct kept_state *state = &lent->kept->states[other];
     state->notes = lent->notes;
+    state->notes.undiscarded = backend->undiscarded;
     state->told = backend->told;
     rings_keep(backend, state->rings);
     save_memory(backend, state);
@@ -105,6 +106,7 @@ bool kept_restore(struct lent *lent)
     backend->counters = state->counters;
     backend->seen = state->seen;
     backend->remarks = state->remarks;
+    backend->undiscarded = state->notes.undiscarded;
     memcpy(backend->figures, state->figures, sizeof backend->figures);
     backend->figure_count = state->figure_count < MOST_TAGS ? state->figure_count : MOST_TAGS;
     if (!restore_memory(lent, state) ||

@@ -28,6 +28,7 @@ struct notes {
     int channel;           /* to the lender; -1: none just now */
     int later;             /* where a later lender comes */
     int end;               /* process_end */
+    uint32_t undiscarded;  /* as the backend's */
     uint64_t serial, lost; /* reports; messages to the lender that found no room */
     uint32_t pages;        /* of its memory that has room */
     uint32_t wait;         /* how many times it has waited */

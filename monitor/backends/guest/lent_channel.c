@@ -75,7 +75,7 @@ void lent_report(struct lent *lent, uint64_t number, bool asked)
                                       .waits = lent->waits,
                                       .target = device->target,
                                       .actual = device->actual,
-                                      .ballooned = backend->ballooned,
+                                      .ballooned = backend_given(backend),
                                       .status = device->status,
                                       .ready = backend_is_ready(backend),
                                       .obeyed = lent->notes.reads ? obeyed_target(lent) + 1 : 0,

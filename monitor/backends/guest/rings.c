@@ -48,7 +48,7 @@ static bool write_status(struct backend *backend, uint8_t status, uint32_t kind)
     if (answer != 0)
         return refuse("status %u is answered %u", status, answer);
     if (status == 0 && backend->balloon.ballooned)
-        backend->ballooned = 0;
+        backend->ballooned = backend->undiscarded = 0;
     return backend_finish(backend, kind, &result);
 }
 
@@ -158,7 +158,7 @@ static bool begin_life(struct backend *backend, uint16_t position)
         configuration_write(&balloon->state.device, ACTUAL_AT, backend->told.actual);
     else if (balloon->ballooned)
         memset(balloon->ballooned, 0, balloon->ballooned_words * sizeof balloon->ballooned[0]),
-            backend->ballooned = 0;
+            backend->ballooned = backend->undiscarded = 0;
     return true;
 }
 

@@ -190,11 +190,11 @@ uint32_t loan_excess(const struct seat *seat)
     return held - smaller(held, lent);
 }
 
-/* Whether a guest at work holds pages that it gave, whatever its driver says: more than is lent to
- * it, and than is beside. */
+/* Whether a guest holds pages that it gave, whatever its driver says, and whether it has one: more
+ * than is lent to it, and than is beside. */
 static bool holds_too_much(const struct seat *seat)
 {
-    return seat_is_ready(seat) && seat_reports(seat) && !loan_of(seat)->uncounted &&
+    return seat_reports(seat) && !loan_of(seat)->uncounted &&
            loan_excess(seat) > seat->terms.overhead;
 }
 

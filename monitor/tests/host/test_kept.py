@@ -63,6 +63,7 @@ ELSEWHERE = {
         "test_a_process_whose_program_does_not_go_on_stays",
     ),
     "kept.unnoted": ("test_anew.py", "lost-bytes"),
+    "notes.undiscarded": ("test_held.py", "test_what_cannot_be_discarded_stays_lent"),
     "kept.inbox.message": ("test_anew.py", "lost-files"),
     "outcome": ("test_anew.py", "handles-twice"),
 }
