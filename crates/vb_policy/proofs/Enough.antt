@@ -1,9 +1,10 @@
 -- Targets are enough, and possible.
 use Rattle.std.proofs.Common.{◌≡◌, ◌⊎◌, ℕ, ◌+◌, ◌-◌, ◌*◌, ◌<◌, ◌≤◌, max, min, List, length, map, sum, sum_by}
-use Rattle.std.proofs.Common.{Bool, true, false, ◌&&◌, ◌||◌, not, if◌then◌else◌, nat_le, get_or, inl, inr, refl, ap, subst, sym, arith, ◌∙◌}
+use Rattle.std.proofs.Common.{Bool, true, false, ◌&&◌, ◌||◌, not, if◌then◌else◌, nat_le, nat_lt, get_or, inl, inr, refl, ap, Contains, subst, sym, arith, ◌∙◌}
 use Rattle.std.proofs.lemmas.Bool.{cases_lt}
 use Rattle.std.proofs.lemmas.Bool.Decides.{nat_tests}
-use Rattle.std.proofs.lemmas.List.Sums.{sum-map}
+use Rattle.std.proofs.lemmas.List.Sums.{AllPass-from_list_all, sum-map}
+use Rattle.std.proofs.lemmas.List.Elements.{All-contains}
 use Rattle.std.specs.List.{list_all}
 use Rattle.vb_policy.specs.declared.guest.Decision.{Decision}
 use Rattle.vb_policy.specs.declared.guest.Decision.TheVariants.{Enough, Divided, Short}
@@ -45,7 +46,7 @@ pub base-le : (host : Host) (t : Tier) (part : ℕ) (g : Guest) → part ≤ mos
 base-le host t part g l = elim (is_poor host t part g) as
     (λ b. (is_poor host t part g ≡ b) → (if b then part else g.target) ≤ most_of g) [
   | true ↦ λ e. l
-  | false ↦ λ e. grind (arith, nat_tests, or_cases _ _ e)
+  | false ↦ λ e. grind (arith, nat_tests, or_cases (nat_lt (most_of g) g.target) (is_squeezed host t part g) e)
 ] refl
 
 fair-le-most : (d : Division) (g : Guest) → fair d g ≤ most_of g
@@ -138,3 +139,27 @@ short_least host gs decision targets i is l within = omega (
   less_at host gs i within,
   ap (λ (ts : List ℕ). get_or ts i 0) (short_is host gs decision targets is l),
 )
+
+-- ---- where one waits
+
+waiting : (host : Host) (g : Guest) → g.waits ≡ true → may_stay host g ≡ true → ⊥
+waiting host g e stays = grind (arith, nat_tests)
+
+none_stay : (host : Host) (gs : List Guest) (g : Guest) → Contains gs g → g.waits ≡ true
+    → short_targets host gs ≡ map (λ h. h.spare) gs
+none_stay host gs g among e = elim (list_all (may_stay host) gs) as
+    (λ b. (list_all (may_stay host) gs ≡ b)
+    → (if b then map (λ h. h.target) gs else map (λ h. h.spare) gs) ≡ map (λ h. h.spare) gs) [
+  | true ↦ λ all. absurd (waiting host g e (All-contains (λ h. may_stay host h ≡ true) gs g
+      (AllPass-from_list_all (may_stay host) gs all) among))
+  | false ↦ λ some. refl
+] refl
+
+pub not_in_vain : (host : Host) (gs : List Guest) (decision : Decision) (targets : List ℕ)
+    (g : Guest) → Decides host gs decision targets → Contains gs g → g.waits ≡ true
+    → (host.lack ≤ sum targets) ⊎ (targets ≡ map (λ h. h.spare) gs)
+not_in_vain host gs decision targets g is among e =
+    elim (cases_lt (sum_by (through Reserve) gs) host.lack) [
+  | inl short ↦ inr (short_is host gs decision targets is short ∙ none_stay host gs g among e)
+  | inr given ↦ inl (enough host gs decision targets is given)
+]

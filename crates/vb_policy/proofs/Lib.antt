@@ -5,3 +5,6 @@ pub mod Settling
 pub mod Maps
 pub mod Order
 pub mod Enough
+pub mod Fairness
+pub mod Later
+pub mod Alike

@@ -3,6 +3,8 @@ use Rattle.std.proofs.Common.{◌≡◌, ℕ, zero, suc, ◌+◌, ◌<◌, ◌�
 use Rattle.std.proofs.Common.{get_or, Bool, true, All, arith}
 use Rattle.std.proofs.lemmas.List.Elements.{All-head, All-tail}
 use Rattle.std.proofs.lemmas.List.Sums.{AllPass-from_list_all}
+use Rattle.std.proofs.lemmas.Option.{get_or_from_slice_get, slice_get-map}
+use Rattle.std.proofs.Common.{slice_get, Some, option_map, ap, ◌∙◌}
 use Rattle.std.specs.List.{list_all}
 
 pub maps_below : {X : Type 0} (f h : X → ℕ) → ((x : X) → f x ≤ h x) → (xs : List X) (i : ℕ)
@@ -26,3 +28,8 @@ pub tested_below : {X : Type 0} (p : X → Bool) (f h : X → ℕ) (more : ℕ)
     → list_all p xs ≡ true → get_or (map f xs) i 0 ≤ get_or (map h xs) i 0 + more
 tested_below p f h more told xs i l all =
     each_below p f h more told xs i l (AllPass-from_list_all p xs all)
+
+pub map_at : {X : Type 0} (f : X → ℕ) (xs : List X) (i : ℕ) (x : X) → slice_get xs i ≡ Some x
+    → get_or (map f xs) i 0 ≡ f x
+map_at f xs i x e = get_or_from_slice_get (map f xs) i (f x) 0
+    (slice_get-map f xs i ∙ ap (λ o. option_map f o) e)

@@ -1,6 +1,7 @@
 //! What holds of every decision.
 
-ghost use Rattle.std.specs.Prelude.{◌≡◌, ℕ, ◌+◌, ◌<◌, ◌≤◌, List, length, map, slice_index, sum, sum_by};
+ghost use Rattle.std.specs.Prelude.{◌≡◌, ◌⊎◌, ℕ, ◌+◌, ◌*◌, ◌<◌, ◌≤◌, List, Contains, length, map};
+ghost use Rattle.std.specs.Prelude.{IsPermutation, slice_get, slice_index, sum, sum_by, true, Some};
 ghost use Rattle.vb_policy.specs.declared.guest.Decision.{Decision};
 ghost use Rattle.vb_policy.specs.declared.guest.Decision.TheVariants.{Enough};
 ghost use Rattle.vb_policy.specs.declared.guest.Division.{Division};
@@ -10,7 +11,7 @@ ghost use Rattle.vb_policy.specs.declared.guest.Tier.{Tier};
 ghost use Rattle.vb_policy.specs.declared.guest.Tier.TheVariants.{Reserve};
 ghost use Rattle.vb_policy.specs.Decisions.{Decides};
 ghost use Rattle.vb_policy.specs.Divisions.{Divides, fair};
-ghost use Rattle.vb_policy.specs.Laws.{unit_of, value_at};
+ghost use Rattle.vb_policy.specs.Laws.{CanGiveMore, kept_of, unit_of, value_at, weight_of};
 ghost use Rattle.vb_policy.specs.Settling.{most_of};
 ghost use Rattle.vb_policy.specs.Tiers.{before, through};
 
@@ -55,4 +56,40 @@ pub fn tiers_are_in_order()
 pub fn no_more_than_asked()
     ensures { (lack : ℕ) (guests : List Guest) (d : Division) → Divides lack guests d →
         sum_by (fair d) guests < lack + sum_by unit_of guests }
+{}
+
+/// Of two guests of the class that divides a tier, the second of which gives some of it: by its
+/// weight the first keeps less than a page more.
+pub fn parts_are_fair()
+    ensures { (d : Division) (g h : Guest) → g.priority ≡ d.priority → h.priority ≡ d.priority →
+        before d.tier h < fair d h →
+        kept_of d g * weight_of h < (kept_of d h + 1) * weight_of g }
+{}
+
+/// Where less is missing, or guests can give more, no other guest's part rises.
+pub fn parts_are_monotone()
+    ensures { (lack less : ℕ) (guests more : List Guest) (d e : Division) (g : Guest) →
+        less ≤ lack → CanGiveMore guests more → Divides lack guests d → Divides less more e →
+        fair e g ≤ fair d g }
+{}
+
+/// Where a guest waits, targets are enough, or each guest is asked for all that it can give.
+pub fn nobody_waits_in_vain()
+    ensures { (host : Host) (guests : List Guest) (decision : Decision) (targets : List ℕ)
+        (g : Guest) → Decides host guests decision targets → Contains guests g →
+        g.waits ≡ true →
+        (host.lack ≤ sum targets) ⊎ (targets ≡ map (λ h. h.spare) guests) }
+{}
+
+/// The same guests in another order are decided alike, and equal guests get equal targets, wherever
+/// they stand. So there is one decision.
+pub fn order_of_guests_is_free()
+    ensures decisions { (host : Host) (guests others : List Guest) (d e : Decision)
+        (targets set : List ℕ) → IsPermutation guests others → Decides host guests d targets →
+        Decides host others e set → d ≡ e }
+    ensures targets { (host : Host) (guests others : List Guest) (d e : Decision)
+        (targets set : List ℕ) (i j : ℕ) (g : Guest) → IsPermutation guests others →
+        Decides host guests d targets → Decides host others e set →
+        slice_get guests i ≡ Some g → slice_get others j ≡ Some g →
+        slice_index targets i ≡ slice_index set j }
 {}
