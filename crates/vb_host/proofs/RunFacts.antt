@@ -292,8 +292,11 @@ after_it w = absurd (omega (arith, w))
 abbrev both : List Seat
 both = record (newcomer 4) { held = 4; line = 2; turn = 5 } ∷ record (newcomer 4) { held = 4; line = 2; turn = 5 } ∷ record (newcomer 4) { held = 4; turn = 6 } ∷ []
 
-after_both : IsAfter both 0 1 × IsAfter both 2 0 × (IsAfter both 1 0 → ⊥) × (IsAfter both 0 2 → ⊥)
-after_both = (λ _. inr (refl, omega arith), λ _. inl (omega arith), λ a. not_less _ (a (omega arith)), λ a. not_before _ (omega arith) (a (omega arith))) where
+after_both : IsAfter both 0 1 × IsAfter both 2 0
+after_both = (λ _. inr (refl, omega arith), λ _. inl (omega arith))
+
+not_after_both : (IsAfter both 1 0 → ⊥) × (IsAfter both 0 2 → ⊥)
+not_after_both = (λ a. not_less _ (a (omega arith)), λ a. not_before _ (omega arith) (a (omega arith))) where
   not_less : (r : ℕ) → (r < r) ⊎ ((r ≡ r) × (1 < 0)) → ⊥
   not_less r e = elim e [
     | inl less ↦ omega (arith, less)
