@@ -15,10 +15,10 @@ WRONG = {
     "no-id": "test_control.py::test_an_answer_repeats_its_id_and_answers_are_in_order",
     "no-limit": "test_control.py::test_a_line_of_the_most_bytes_and_one_more",
     "waits-for-ever": (
-        "test_control.py::" "test_twenty_clients_of_which_some_never_read_and_one_sends_trash"
+        "test_followers.py::" "test_twenty_clients_of_which_some_never_read_and_one_sends_trash"
     ),
-    "all-lost": "test_control.py::test_decisions_that_are_lost_are_counted",
-    "no-events": "test_control.py::test_followers_hear_each_event_once_and_in_order",
+    "all-lost": "test_followers.py::test_decisions_that_are_lost_are_counted",
+    "no-events": "test_followers.py::test_followers_hear_each_event_once_and_in_order",
     "open-socket": "test_control.py::test_the_mode_and_the_group_of_the_socket",
     "changes-by-status": (
         "test_status.py::" "test_what_would_change_the_host_is_refused_by_name_and_changes_nothing"

@@ -18,14 +18,14 @@ WRONG = {
     "reset-keeps": "test_lives.py::test_a_reset_forgets_the_rings",
     "keeps-memory": "test_lives.py::test_a_device_that_is_plugged_again",
     "first-region": "test_serves.py::test_rings_in_the_second_region",
-    "many-statistics": "test_serves.py::test_more_statistics_than_are_kept",
+    "many-statistics": "test_counts.py::test_more_statistics_than_are_kept",
     "keeps-files": "test_serves.py::test_an_old_table_s_files_are_closed",
     "early-change": "test_serves.py::test_a_target_is_not_told_before_the_driver_is_ready",
     "no-more": "test_serves.py::test_what_is_left_after_a_long_service_is_served",
     "any-kick": "test_tenants.py::test_a_kick_that_is_a_semaphore",
     "keeps-kick": "test_tenants.py::test_an_old_kick_s_file_is_closed",
     "long-turn": "test_tenants.py::test_a_turn_of_many_pages",
-    "no-ctrunc": "test_refuses.py::test_messages",
+    "no-ctrunc": "test_wrong_messages.py::test_messages",
     "small-rings": "test_sizes.py::test_a_ring_is_served_whole",
     "old-round": "test_hints.py::test_a_story[the id of the round before]",
     "after-done": "test_hints.py::test_a_story[after DONE]",
@@ -37,7 +37,7 @@ WRONG = {
 LOOPS = {
     "no-hang-up": "test_refuses.py::test_nobody_comes",
     "one-moment": "test_serves.py::test_a_target_is_told_again",
-    "last-first": "test_events.py::test_a_kick_as_its_ring_is_disabled",
+    "last-first": "test_calls.py::test_a_kick_as_its_ring_is_disabled",
 }
 
 HERE = os.path.dirname(os.path.realpath(__file__))
