@@ -50,8 +50,9 @@ def pytest_collection_modifyitems(config, items):
 
 
 def pytest_sessionstart(session):
-    """Builds the programs of the suites that are run, which PROGRAMS of their conftest.py names; once, and not in each worker, nor where the
-    environment names a program, or has each built as a test wants it."""
+    """Builds the programs of the suites that are run, which PROGRAMS of their conftest.py names;
+    once, and not in each worker, nor where the environment names a program, or has each built as a
+    test wants it."""
     plugins = session.config.pluginmanager.get_plugins()
     wanted = sorted({name for it in plugins for name in getattr(it, "PROGRAMS", ())})
     if (

@@ -12,6 +12,17 @@ COLUMNS, LINES = 100, 350
 # Where the formatters' settings are; a test's files are elsewhere.
 SETTINGS = source_files.ROOT
 
+# Files that aren't parted by their topics yet: no other one may be longer.
+LONGER = (
+    "monitor/backends/host/host.h",
+    *(f"monitor/tests/control/{it}.py" for it in ("test_config", "test_made")),
+    *(f"monitor/tests/host/{it}.py" for it in ("host_runs", "test_kept", "test_later_states")),
+    *(f"monitor/tests/kit/{it}.py" for it in ("linux_guest", "linux_vmms", "vhost_client")),
+    *(f"monitor/tests/{it}.c" for it in ("order", "refusals", "saved", "vhost_user_chance")),
+    *(f"monitor/tests/test/{it}.c" for it in ("pauses", "portions")),
+    "monitor/tests/host/test_strict.py",
+)
+
 # What bindgen makes.
 BINDINGS = "monitor/rust/src/raw/bindings.rs"
 C = ("crates/*/*.h", "monitor/**/*.[ch]")
@@ -54,7 +65,7 @@ def lengths():
     code = files(*proved, "monitor/rust/*/**/*.rs", "tools/**/*")
     paths = [it for it in code if not is_test(it) and not it.endswith(".toml")]
     paths += files(*C) + python_files()
-    counted = {it: len(read(it).splitlines()) for it in set(paths) if it != BINDINGS}
+    counted = {it: len(read(it).splitlines()) for it in {*paths} - {*LONGER, BINDINGS}}
     return [f"{path}: {count} lines" for path, count in sorted(counted.items()) if count > LINES]
 
 

@@ -18,6 +18,7 @@ LOGS = os.path.join(ROOT, "out", "tests")
 LIMIT, LINES = 7200, 40
 
 SHIMS = "make gcc g++ clang libc6-dev python3 rustc cargo librust-vm-memory-dev"
+LINT = "make gcc cppcheck libc6-dev libjansson-dev libinih-dev libsystemd-dev libseccomp-dev"
 # The days and the notices of the quick part.
 FEWER = ("DAYS=100000", "NOTICES=100000")
 
@@ -76,6 +77,7 @@ ALL = (
     *CHECKS,
     monitor("monitor over reference", *OVER_REFERENCE, "bench"),
     monitor("monitor", "test"),
+    Step("lint", ("make", "-s", "-C", "monitor", "lint"), tuple(LINT.split())),
     *(suite(it) for it in SUITES if it not in ELSEWHERE),
 )
 

@@ -22,6 +22,10 @@ PACKAGES = (
         ("tools/lib/suites.py", r'(?m)^DAEMONS = "(.*)"$'),
     ),
     (
+        ("README.md", r"`make -C monitor lint` \|[^|]*\(`([^`]*)`\)"),
+        ("tools/lib/gate_steps.py", r'(?m)^LINT = "(.*)"$'),
+    ),
+    (
         ("README.md", r"`tools/test SUITE` \|[^|]*\(`([^`]*)`"),
         ("tools/lib/suites.py", r'(?m)^PYTEST = "(.*)"$'),
     ),

@@ -9,7 +9,8 @@
 #include "../host/owner.h"
 
 /* A name; bytes that are whole pages; the same or null, for no limit; a whole number; true or
- * false; words of the kernel's limit, or null for none; a user's name or number, or null for any. */
+ * false; words of the kernel's limit, or null for none; a user's name or number, or null for
+ * any. */
 enum field_kind {
     FIELD_NAME,
     FIELD_BYTES,

@@ -10,7 +10,7 @@ enum { MOST_ROWS = 40, FIRST = 256 };
 static void fill(struct option options[MOST_ROWS], const struct option_row *rows)
 {
     int count = 0;
-    for (; rows[count].name && count < MOST_ROWS - 1; count++)
+    for (; count < MOST_ROWS - 1 && rows[count].name; count++)
         options[count] =
             (struct option){rows[count].name, rows[count].read ? required_argument : no_argument,
                             NULL, FIRST + count};

@@ -61,6 +61,7 @@ void journal_print(struct host *host)
     if (host->printed < begin)
         host->printed = begin;
     fprintf(host->answers.out, "log %" PRIu64 "\n", end - host->printed);
-    for (; host->printed < end; host->printed++)
-        print_decision(host->answers.out, journal_at(host, host->printed));
+    const struct decision *decision;
+    for (; (decision = journal_at(host, host->printed)) != NULL; host->printed++)
+        print_decision(host->answers.out, decision);
 }

@@ -1,4 +1,5 @@
-/* Whose client a guest's is: one user's, whose socket it is then where the lender may give it away. */
+/* Whose client a guest's is: one user's, whose socket it is then where the lender may give it
+ * away. */
 #ifndef OWNER_H
 #define OWNER_H
 #include <stdint.h>

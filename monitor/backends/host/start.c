@@ -194,8 +194,8 @@ static void mark_seat(const struct seat *seat)
         file_close(listener);
 }
 
-/* Connects to a process of the lender's user that an earlier lender has started; -1 with errno where
- * there is none, EAGAIN where as many lenders wait for it as may. */
+/* Connects to a process of the lender's user that an earlier lender has started; -1 with errno
+ * where there is none, EAGAIN where as many lenders wait for it as may. */
 static int connect_later(const char *path, pid_t *process)
 {
     struct sockaddr_un address = {.sun_family = AF_UNIX};

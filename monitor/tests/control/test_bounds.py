@@ -1,4 +1,5 @@
-"""The client program at its bounds: values of an answer, words of a command line, and a log that is followed; by values alone."""
+"""The client program at its bounds: values of an answer, words of a command line, and a log that is
+followed; by values alone."""
 
 import contextlib
 import types
@@ -18,7 +19,8 @@ def durations(bounds, counts, total=0.5):
     return {"bounds": bounds, "counts": counts, "sum": total}
 
 
-# A kind; what is of it, and what isn't. A count has 63 bits, a moment is before the year 10000, and a text has whole characters.
+# A kind; what is of it, and what isn't. A count has 63 bits, a moment is before the year 10000, and
+# a text has whole characters.
 KINDS = (
     (answers.is_count, (0, 1, 2**63 - 1), (-1, 2**63, True, 1.0, "1", None)),
     (
@@ -44,7 +46,8 @@ def test_what_is_of_a_kind(kind, its, others):
     assert [bool(kind(it)) for it in (*its, *others)] == [True] * len(its) + [False] * len(others)
 
 
-# What of an event isn't as it should be; a field that isn't always there may be left out, and not be null.
+# What of an event isn't as it should be; a field that isn't always there may be left out, and not
+# be null.
 EVENTS = (
     ({}, None),
     ({"guest": "a", "budget": 0, "later": None}, None),
@@ -81,8 +84,10 @@ WORDS = (
     ("limit=tmpfs:/x:y", {"limit": "tmpfs:/x:y"}),
 )
 NO_WORDS = (
-    "priority=4294967296 priority= priority=1.5 priority=٤ strict= strict=YES most=-4K most=5K least=none"
-    " limit=cgroup limit=cgroup: limit=cgroup:x limit=tmpfs:x limit=/x limit=other:/x limit= =4K least"
+    "priority=4294967296 priority= priority=1.5 priority=٤ strict= strict=YES most=-4K most=5K "
+    "least=none"
+    " limit=cgroup limit=cgroup: limit=cgroup:x limit=tmpfs:x limit=/x limit=other:/x limit= =4K "
+    "least"
 )
 
 
@@ -118,7 +123,8 @@ def test_who_is_upgraded():
 
 
 class Deciding:
-    """A host that has taken five decisions of which it keeps the last two, as it is told, and takes a sixth one."""
+    """A host that has taken five decisions of which it keeps the last two, as it is told, and takes
+    a sixth one."""
 
     def __init__(self, *_):
         self.asked = []

@@ -45,13 +45,19 @@ COMMANDS = (
         "guest web-1 target",
         2,
         "",
-        "bigvasta: 'target' is none of least=, most=, priority=, strict=, overhead=, limit=, user=, memory=, target=\n",
+        (
+            "bigvasta: 'target' is none of least=, most=, priority=, strict=, overhead=, limit=, "
+            "user=, memory=, target=\n"
+        ),
     ),
     (
         "guest web-1 size=4M",
         2,
         "",
-        "bigvasta: 'size=4M' is none of least=, most=, priority=, strict=, overhead=, limit=, user=, memory=, target=\n",
+        (
+            "bigvasta: 'size=4M' is none of least=, most=, priority=, strict=, overhead=, limit=, "
+            "user=, memory=, target=\n"
+        ),
     ),
     ("guest web-1 target=1M target=2M", 2, "", "bigvasta: target= is said twice\n"),
     (
@@ -98,7 +104,10 @@ COMMANDS = (
         "add web-3 target=1M",
         2,
         "",
-        "bigvasta: 'target=1M' is none of least=, most=, priority=, strict=, overhead=, limit=, user=, memory=\n",
+        (
+            "bigvasta: 'target=1M' is none of least=, most=, priority=, strict=, overhead=, "
+            "limit=, user=, memory=\n"
+        ),
     ),
     ("budget", 0, "480 MiB\n", ""),
     ("budget 500M", 0, "500 MiB\n", ""),

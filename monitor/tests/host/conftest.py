@@ -1,6 +1,8 @@
 """What the tests of a lender have in common."""
 
 import os
+import shutil
+import tempfile
 
 import linux_kit
 import pytest
@@ -105,3 +107,13 @@ def one(lend, come, limits):
     other = come(lender, "b", {FREE: 100})
     lender.become("a", limit=128)
     return lender, guest, other, its
+
+
+@pytest.fixture
+def folder():
+    """A folder that each user may write to, as are sockets that are made in it."""
+    path, mask = tempfile.mkdtemp(), os.umask(0)
+    os.chmod(path, 0o777)
+    yield path
+    os.umask(mask)
+    shutil.rmtree(path)

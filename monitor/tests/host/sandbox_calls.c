@@ -3,8 +3,8 @@
  * its number where it has none, and `passes`, or the name of the call that ended the process, or
  * `nameless`, where that is none of this architecture.
  *
- * With a second word `confined` the sandbox has no filter, and the answer's second word is `passes`, or
- * the name of the error; with `free` there is no sandbox either. */
+ * With a second word `confined` the sandbox has no filter, and the answer's second word is
+ * `passes`, or the name of the error; with `free` there is no sandbox either. */
 #define _GNU_SOURCE
 #include "../../backends/guest/sandbox.h"
 

@@ -30,10 +30,12 @@ WIDE = ("--floor", "0", "--period", "100", "--step", "0")
 # Places where a process is cut off: more and fewer than these are come by.
 LEAST_CUTS, MOST_CUTS = 300, 1500
 
-# Chains that a process uses at most before what it is is kept again: those of 16 notices, each of which serves 64.
+# Chains that a process uses at most before what it is is kept again: those of 16 notices, each of
+# which serves 64.
 MOST_USED = 16 * 64
 
-# How often a process is killed, within how many seconds from when it begins to be busy, and the pages that go into a balloon and out of it meanwhile.
+# How often a process is killed, within how many seconds from when it begins to be busy, and the
+# pages that go into a balloon and out of it meanwhile.
 KILLS = 100
 KILL_WITHIN = 0.01
 GIVEN = [*range(PAGES_OF_ALL + 28, PAGES_OF_ALL + 64), *range(PAGES, PAGES + 64)]
@@ -261,7 +263,8 @@ def test_a_process_that_ends_again_and_again_is_not_started_anew(lend, cutting):
 
 @pytest.mark.parametrize("more", (0, 1))
 def test_a_used_index_that_moved_as_a_process_was_killed(lend, more):
-    """Further than a process uses before what it is is kept again, the next one doesn't believe it."""
+    """Further than a process uses before what it is is kept again, the next one doesn't believe
+    it."""
     lender, index = lend(64, *WIDE), MOST_USED + more
     client = Client(lender.add("a"), lambda: lender.said()[-4:])
     client.start_by_events()

@@ -2,10 +2,8 @@
 user's for the other (a lender: test_later_states.py)."""
 
 import os
-import shutil
 import socket
 import subprocess
-import tempfile
 
 import pytest
 from aside import Aside
@@ -47,16 +45,6 @@ def reached(folder):
                 if it.connect_ex(f"{path}/{name}") == 0:
                     found.append(name)
     return found
-
-
-@pytest.fixture
-def folder():
-    """A folder that each user may write to, as are sockets that are made in it."""
-    path, mask = tempfile.mkdtemp(), os.umask(0)
-    os.chmod(path, 0o777)
-    yield path
-    os.umask(mask)
-    shutil.rmtree(path)
 
 
 def test_another_user_reaches_no_process(lend, come, folder):

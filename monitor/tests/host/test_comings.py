@@ -1,4 +1,5 @@
-"""Clients of one seat that come and go: each costs its seat time, and so does memory for which others may have to give; what a seat owes is bounded."""
+"""Clients of one seat that come and go: each costs its seat time, and so does memory for which
+others may have to give; what a seat owes is bounded."""
 
 import contextlib
 import time
@@ -22,7 +23,8 @@ def clients_of(lender, name):
 
 
 def come_and_go(lender, act):
-    """Has clients come and go until the lender says that they come too often, and ten more; returns how many it took, and for how long."""
+    """Has clients come and go until the lender says that they come too often, and ten more; returns
+    how many it took, and for how long."""
     begin = time.monotonic()
     eventually(lambda: (act(), any(it.startswith(OFTEN) for it in lender.said()))[1])
     for _ in range(10):
@@ -31,7 +33,8 @@ def come_and_go(lender, act):
 
 
 def most_clients(cost, seconds):
-    """Returns how many clients a seat may have in these seconds, each at this cost: it owes less than it may as the last one comes."""
+    """Returns how many clients a seat may have in these seconds, each at this cost: it owes less
+    than it may as the last one comes."""
     return (MOST_OWED + seconds) / cost + 1
 
 

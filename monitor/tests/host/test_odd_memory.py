@@ -1,4 +1,5 @@
-"""A guest whose regions share words of the set of pages in its balloon: what one of them takes away are its own pages."""
+"""A guest whose regions share words of the set of pages in its balloon: what one of them takes away
+are its own pages."""
 
 from vhost_client import ADD_MEM_REG, INFLATE, OFFERED, PAGE, REM_MEM_REG, Client
 
@@ -13,7 +14,8 @@ class Odd(Client):
     pages_of_region = COUNT
 
 
-# Of each region the first and the last page that its driver may give; the rings and what they name come before those of the first.
+# Of each region the first and the last page that its driver may give; the rings and what they name
+# come before those of the first.
 GIVEN = (
     STARTS[0] + 16,
     STARTS[0] + COUNT - 1,

@@ -1,4 +1,5 @@
-"""Whose client a seat takes, and how much memory that may bring: others are refused by name, as the kernel says who comes."""
+"""Whose client a seat takes, and how much memory that may bring: others are refused by name, as the
+kernel says who comes."""
 
 import os
 import socket
@@ -9,7 +10,7 @@ import pytest
 from aside import Aside
 from bigvasta.connection import Connection
 from tenants import FREE, eventually
-from test_channels import NOBODY, become_nobody, folder  # noqa: F401: a fixture
+from test_channels import NOBODY, become_nobody
 from test_later_lender import QUICK
 from test_strict import STRICT, lent
 from vhost_client import PAGE, Client
@@ -21,7 +22,8 @@ AS_ROOT = pytest.mark.skipif(os.geteuid() != 0, reason="another user is tried, w
 
 
 def length_answered(path):
-    """Comes, asks for the features; returns how many bytes are answered: 0 where the client isn't served."""
+    """Comes, asks for the features; returns how many bytes are answered: 0 where the client isn't
+    served."""
     with socket.socket(socket.AF_UNIX) as it:
         it.settimeout(PATIENCE)
         it.connect(path)
@@ -69,7 +71,7 @@ def without_chown(tmp_path, plain):
 
 @AS_ROOT
 @pytest.mark.parametrize("words", ("user=nobody", f"user={NOBODY}"))
-def test_a_seat_takes_its_users_clients_alone(lend, folder, words):  # noqa: F811
+def test_a_seat_takes_its_users_clients_alone(lend, folder, words):
     lender = lend(1, *QUICK, folder=folder)
     lender.demand(f"add a {words}")
     path = f"{folder}/a"
@@ -82,7 +84,7 @@ def test_a_seat_takes_its_users_clients_alone(lend, folder, words):  # noqa: F81
 
 
 @AS_ROOT
-def test_a_user_does_not_reach_the_socket_of_another(lend, folder):  # noqa: F811
+def test_a_user_does_not_reach_the_socket_of_another(lend, folder):
     lender = lend(1, *QUICK, folder=folder)
     lender.demand("add a user=1"), lender.demand("add b")
     assert [as_nobody(f"{folder}/{it}") for it in "ab"] == [-1, 20]
@@ -94,9 +96,7 @@ def test_a_user_does_not_reach_the_socket_of_another(lend, folder):  # noqa: F81
 
 
 @AS_ROOT
-def test_a_lender_that_may_give_no_file_away_asks_the_kernel_who_comes(
-    lend, folder, without_chown  # noqa: F811
-):
+def test_a_lender_that_may_give_no_file_away_asks_the_kernel_who_comes(lend, folder, without_chown):
     lender = lend(1, *QUICK, folder=folder, program=without_chown)
     lender.demand("add a user=1")
     assert owner_of(f"{folder}/a") == (ROOT, 0o777)
@@ -107,7 +107,7 @@ def test_a_lender_that_may_give_no_file_away_asks_the_kernel_who_comes(
 
 
 @AS_ROOT
-def test_a_later_lender_knows_whose_a_seat_is(lend, come, folder):  # noqa: F811
+def test_a_later_lender_knows_whose_a_seat_is(lend, come, folder):
     first = lend(1, *QUICK, folder=folder)
     come(first, "a", {FREE: 100}, "user=root")
     first.demand(f"terms a user={NOBODY}")

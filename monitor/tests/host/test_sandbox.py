@@ -15,15 +15,17 @@ from tenants import FREE, eventually, process_of, status_of
 # are all 0. Of all numbers that a kernel of these years knows, and of some more, each other one
 # ends it.
 ALLOWED = set(
-    """accept4 recvmsg recvfrom poll ppoll getsockopt read write preadv2 pread64 splice setitimer close munmap madvise fallocate fstatfs fstat
-    brk mremap clock_gettime gettimeofday getrandom rt_sigaction rt_sigprocmask rt_sigreturn restart_syscall futex exit exit_group getpid
+    """accept4 recvmsg recvfrom poll ppoll getsockopt read write preadv2 pread64 splice setitimer
+    close munmap madvise fallocate fstatfs fstat brk mremap clock_gettime gettimeofday getrandom
+    rt_sigaction rt_sigprocmask rt_sigreturn restart_syscall futex exit exit_group getpid
     gettid""".split()
 )
 ALLOWED_WITH_ZEROS = {"sendto", "mmap"}
 # Linux since 6.11 asks no filter of two that come from probes of its own: uretprobe and uprobe.
 NUMBERS = sorted({*range(512)} - {335, 336})
 
-# What /proc has of a process's limits: bytes of its own memory, numbers of its files, and how many processes its user may have for it to make one.
+# What /proc has of a process's limits: bytes of its own memory, numbers of its files, and how many
+# processes its user may have for it to make one.
 LIMITS = {"Max data size": 64 << 20, "Max open files": 206, "Max processes": 0}
 
 # A user without privileges.
@@ -32,10 +34,12 @@ NOBODY_USER = 65534
 # Calls of another architecture on this processor: x32's have this bit.
 X32 = 1 << 30
 
-# The process that makes the call, its parent, and a path, as sandbox_calls.c has them; and a process that isn't there.
+# The process that makes the call, its parent, and a path, as sandbox_calls.c has them; and a
+# process that isn't there.
 OWN, PARENT, PATH, NOBODY = (*range(-(1 << 63), 3 - (1 << 63)), 0x7FFFFFFE)
 
-# A call by its name and its number, arguments before the one that counts, values of that one with which it comes back, and others that end it.
+# A call by its name and its number, arguments before the one that counts, values of that one with
+# which it comes back, and others that end it.
 LARGE = 1 << 32
 COMMANDS = {fcntl.F_GETFL, fcntl.F_SETFL, fcntl.F_ADD_SEALS}
 BY_ARGUMENT = (
@@ -60,8 +64,9 @@ BY_ARGUMENT = (
 )
 from waiting import PATIENCE
 
-# Calls that a process may make outside of the sandbox, and what the kernel says to each where the filter alone is left out: a folder is opened;
-# a file gets a number; another process is signalled; a child is made, by another user than root.
+# Calls that a process may make outside of the sandbox, and what the kernel says to each where the
+# filter alone is left out: a folder is opened; a file gets a number; another process is signalled;
+# a child is made, by another user than root.
 DIRECTORY, OPENS, DUPLICATES, FORKS, KILLS = 0o200000, 257, 72, 57, 62
 CONFINED = (
     ((OPENS, -100, PATH, DIRECTORY), "EACCES"),
@@ -75,8 +80,8 @@ CONFINED = (
 
 @pytest.fixture(scope="module")
 def outcomes(tmp_path_factory):
-    """Makes calls in the sandbox, by their numbers with arguments; returns what came of each: its name, and by the name of which call it ended; or,
-    without the filter, which error it had."""
+    """Makes calls in the sandbox, by their numbers with arguments; returns what came of each: its
+    name, and by the name of which call it ended; or, without the filter, which error it had."""
     lines_file = tmp_path_factory.mktemp("sandbox") / "lines"
 
     def made(calls, *how, user=None):

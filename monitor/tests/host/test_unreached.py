@@ -1,4 +1,5 @@
-"""A later lender whose guest's process doesn't report: all its pages, which the folder keeps, count as lent until it reports or has ended."""
+"""A later lender whose guest's process doesn't report: all its pages, which the folder keeps, count
+as lent until it reports or has ended."""
 
 import contextlib
 import os
@@ -16,7 +17,8 @@ ALL, LENDERS = 128, 4
 
 @pytest.fixture
 def stuck(lend, come):
-    """A lender whose two guests have all but 50 pages of its budget, of which a's process stands still; with b and that process."""
+    """A lender whose two guests have all but 50 pages of its budget, of which a's process stands
+    still; with b and that process."""
     lender = lend(1, *STRICT)
     come(lender, "a", {FREE: 100})
     b = come(lender, "b", {FREE: 100})

@@ -7,8 +7,8 @@
 
 enum { PLACES = 3, NOBODY = -1 };
 
-/* An event, and what there is then: the seats, the overdraft (set before), the budget, what is lent,
- * the room, and who waits first. */
+/* An event, and what there is then: the seats, the overdraft (set before), the budget, what is
+ * lent, the room, and who waits first. */
 struct row {
     const char *what;
     VbHostEvent event;

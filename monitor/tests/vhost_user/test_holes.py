@@ -1,4 +1,5 @@
-"""Tests of requests that lie in pages which the host doesn't hold: they read as zeros, and aren't held then either."""
+"""Tests of requests that lie in pages which the host doesn't hold: they read as zeros, and aren't
+held then either."""
 
 import concurrent.futures
 import ctypes

@@ -1,4 +1,5 @@
-"""Tests of each message of a client as vhost-user has it (QEMU's docs/interop/vhost-user.rst): its bytes, its files, and its protocol feature."""
+"""Tests of each message of a client as vhost-user has it (QEMU's docs/interop/vhost-user.rst): its
+bytes, its files, and its protocol feature."""
 
 import re
 
@@ -11,10 +12,12 @@ from vhost_demands import demand_refused, word
 # Numbers of protocol features.
 MQ, BACKEND_REQ, CONFIG, RESET_DEVICE, INBAND, MEM_SLOTS, STATUS = 0, 5, 9, 13, 14, 15, 16
 
-# Bytes of a table of memory by its regions, and of a configuration by its own; and both of one region.
+# Bytes of a table of memory by its regions, and of a configuration by its own; and both of one
+# region.
 TABLE, CONFIGURATION, SLOT = (8 + 32, 8 + 8 * 32), (12, 12 + 256), 8 + 32
 
-# Of each message: the least and the most bytes, or how many; the least and the most files; its feature.
+# Of each message: the least and the most bytes, or how many; the least and the most files; its
+# feature.
 MESSAGES = {
     **dict.fromkeys("GET_FEATURES SET_OWNER RESET_OWNER GET_PROTOCOL_FEATURES".split(), (0,)),
     **dict.fromkeys("SET_FEATURES SET_PROTOCOL_FEATURES".split(), (8,)),
