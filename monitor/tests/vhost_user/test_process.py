@@ -4,6 +4,7 @@ may open, and the one that keeps its state."""
 import os
 import resource
 import signal
+import socket
 import stat
 import subprocess
 import tempfile
@@ -12,7 +13,7 @@ import time
 import pytest
 import linux_guest
 import linux_kit
-from vhost_client import INFLATE, PAGE, PAGES_OF_REGION, SIZE, STATE_BYTES, Client
+from vhost_client import GET_FEATURES, INFLATE, PAGE, PAGES_OF_REGION, SIZE, STATE_BYTES, Client
 from vhost_demands import FIRST, demand_served
 from waiting import PATIENCE, patience_from_now
 
@@ -126,6 +127,14 @@ def test_no_file_is_left_for_a_client(serve_well):
     client.start_by_events()
     demand_served(client, INFLATE, [FIRST])
     os.truncate(client.backend.log, 0)
+
+
+def test_a_client_that_takes_no_answer_has_gone(serve):
+    client = serve()
+    client.socket.shutdown(socket.SHUT_RD)
+    client.send(GET_FEATURES, flags=1)
+    assert client.backend.process.wait(PATIENCE) == 0
+    assert client.close() == (0, "")
 
 
 @pytest.mark.parametrize("limit, is_few", (("-n 20", True), ("-S -n 20", False)))
