@@ -238,6 +238,19 @@ def test_sizes_set_and_asked_for(host):
     assert host.ask("floor", bytes=0)["floor"] == 0
 
 
+def test_each_term_is_changed_alone(host):
+    terms = host.ask("add", name="a")["guest"]["terms"]
+    for name, value in {
+        "least": 2 * PAGE,
+        "most": 9 * PAGE,
+        "priority": 3,
+        "strict": True,
+        "overhead": PAGE,
+    }.items():
+        terms |= {name: value}
+        assert host.ask("guest", name="a", **{name: value})["guest"]["terms"] == terms, name
+
+
 def test_a_guest_comes_is_changed_and_goes(host, arrive):
     guest = arrive("web-1")
     ready = eventually(lambda: host.guest("web-1")["answers"] and host.guest("web-1"))

@@ -1,12 +1,23 @@
 """A lender that goes, and the next one, which goes on with the guests that there are."""
 
 import os
+import signal
 import threading
 import time
 
 import pytest
 from bigvasta.connection import Connection
-from tenants import FREE, PAGES, PAGES_OF_ALL, eventually, go_on, has_ended, process_of, stop
+from tenants import (
+    FREE,
+    PAGES,
+    PAGES_OF_ALL,
+    eventually,
+    go_on,
+    has_ended,
+    process_of,
+    status_of,
+    stop,
+)
 from vhost_client import DEFLATE, PAGE, Client
 from waiting import PATIENCE
 
@@ -111,6 +122,19 @@ def test_a_process_that_ends_while_no_lender_is_there_leaves_its_seat(lend, come
     second.become("a", here=0)
     come(second, "a", {FREE: 50})
     second.become("a", here=1, ready=1)
+
+
+def test_a_process_that_ends_under_a_later_lender_is_named(lend, come):
+    """It isn't that lender's child: how it ended isn't known."""
+    first = lend(1, *QUICK)
+    come(first, "a", {FREE: 50})
+    keeper = int(status_of(process_of(first, "a"))["PPid"])
+    first.kill()
+    second = lend(1, *QUICK, folder=first.folder)
+    second.become("a", ready=1)
+    os.kill(keeper, signal.SIGKILL)
+    second.become("a", here=0)
+    assert second.said()[-2:] == ["a: its process has ended", "gone a"]
 
 
 @pytest.fixture
