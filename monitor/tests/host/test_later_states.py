@@ -161,6 +161,10 @@ def test_a_later_lender_goes_on_with_a_guest_in_each_state(lend, come, state):
     before.end()
 
 
+# The user of the tests; and what stands for any number, or any user.
+USER, ANY = os.getuid(), (1 << 32) - 1
+
+
 def terms_of_guests():
     """Returns the names of a guest's terms, by view.h."""
     body = re.sub(
@@ -175,7 +179,7 @@ def terms_of_guests():
 def test_terms_go_on_whatever_the_later_lender_has_others(lend, come, first, second):
     """Also for the next client at the seat of the guest."""
     lender, strict = lend(5, *first), first == STRICT
-    a = come(lender, "a", {FREE: 100}, "least=1 most=2 priority=3 overhead=4")
+    a = come(lender, "a", {FREE: 100}, f"least=1 most=2 priority=3 overhead=4 user={USER} memory=5")
     terms = seen(lender)["terms"]
     assert terms == {
         "least": 1 << 20,
@@ -184,6 +188,8 @@ def test_terms_go_on_whatever_the_later_lender_has_others(lend, come, first, sec
         "strict": strict,
         "overhead": 4 << 20,
         "limit": None,
+        "user": USER,
+        "memory": 5 << 20,
     }
     assert list(terms) == terms_of_guests()
     lender.kill()
@@ -322,7 +328,7 @@ def test_a_folder_keeps_what_is_no_guests(lend, tmp_path_factory):
     lender = lend(1, *STRICT, folder=str(folder))
     assert (lender.guests(), lender.ask("add a")) == ({}, "error: a: Address already in use")
     lender.demand("add c overhead=3")
-    assert os.readlink(folder / "=c") == f"terms 0 {(1 << 32) - 1} 0 1 {3 * 256} none"
+    assert os.readlink(folder / "=c") == f"terms 0 {ANY} 0 1 {3 * 256} {ANY} {ANY} 0 none"
     assert [(folder / it).read_text() for it in ("+b", "a")] == ["x", "x"]
 
 
