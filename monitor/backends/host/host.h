@@ -6,6 +6,7 @@
 #include "message.h"
 
 #include "journal.h"
+#include "vb_host.h"
 #include "vb_lending.h"
 #include "view.h"
 
@@ -16,7 +17,8 @@
 #include <stdio.h>
 
 enum {
-    MOST_PLACES = 2 * MOST_GUESTS, /* of loans: also of guests that are leaving */
+    MOST_PLACES = 4 * MOST_GUESTS, /* of guests, also of those that are leaving, and of memory that
+                                      is added to each */
     MOST_PATH = 108,               /* of a socket's */
     /* questions without statistics, and a guest counts as one that doesn't answer */
     SILENT_AFTER = 3,
@@ -41,6 +43,19 @@ struct stillness {
     uint32_t pages, ballooned, available;
     uint64_t held;
 };
+
+/* The place of added memory of a guest to which none is added. */
+#define NO_PLACE SIZE_MAX
+
+/* What its process has asked for: for what it waits, and the number of that wait. */
+struct ask {
+    enum guest_wait what;
+    uint32_t number;
+};
+
+/* Whether a guest keeps to what is lent to it: it has taken pages unasked, and its limit stays; or
+ * all its pages are lent to it. */
+enum trust { COOPERATES, TAKES, UNCOUNTED };
 
 /* A guest's place on the host, which it may leave and come back to. */
 struct seat {
@@ -76,7 +91,6 @@ struct seat {
     /* the last one, whose words are the version of its process; zeros without one */
     struct lending_message report;
     /* What was made of it. */
-    uint32_t pages;      /* of its memory that has room */
     uint32_t kept_pages; /* as the folder has them */
     uint32_t free, available, ballooned_then;
     bool known, tells_available;
@@ -88,29 +102,22 @@ struct seat {
     uint64_t heard, taken; /* its counters when they were last looked at */
     int64_t paused_until;  /* it has taken pages itself: until then it is asked for no more than it
                               has given */
-    uint32_t target, told; /* what was decided, and what it is asked for so far */
-    enum guest_wait waits_for;
+    uint32_t target;      /* what was decided; what is wanted so far is in its VbSeat */
     int64_t waits_since;
     struct ended_wait ended; /* the last of its waits that ended, also those of clients before */
-    uint32_t wait_answered;  /* the last of its waits that was answered, and how */
-    bool wait_admitted, wait_named; /* named: it was said that its wait is long */
-    size_t place;                   /* of its loan */
-    enum guest_wait asked_for;      /* what its loan asks for */
-    uint32_t held_granted,
-        granted_pages; /* the last of its deflates that was granted, and of how many pages */
+    bool wait_named;         /* it was said that its wait is long */
+    bool asks_terms; /* they aren't in the folder: the first report of a process of 0.3.0 has them */
+    enum trust trust;
+    /* What was passed on to the lender's step, and sent by what that made of it. */
+    size_t place, added; /* of its VbSeat; of that of memory which is added to it: NO_PLACE */
+    struct ask ask;      /* what its process has asked for last */
+    uint64_t asks;       /* how many asks there were: the number of the last one */
+    uint64_t granted_asks; /* the number of the last grant that was noted */
     uint64_t granted; /* frames that were lent to it since it came, as it asked for them or was told
                          to take them */
-    uint32_t least_told; /* the least that it was asked for since its driver has read its target */
-    bool unread; /* its driver is still to read its target; or its process to hear it, where a
-                    driver reads none */
-    int64_t obeys_until; /* its target fell, or it took pages: until then a driver that reads none
-                            may still obey an earlier one */
-    bool
-        asks_terms; /* they aren't in the folder: the first report of a process of 0.3.0 has them */
-    bool adopted, regains; /* its loan is to follow the first report of a process of an earlier
-                              lender; what that lent ahead is to be lent again */
-    bool regained;         /* it was, and its driver hasn't been told another target */
-    bool cooperates;       /* it hasn't taken pages that nobody granted */
+    uint64_t told, told_by; /* the number of the last target that was sent, and that of the first
+                               order to look after it */
+    int64_t received_at;    /* since when that target is known to be received; 0: it isn't */
 };
 
 /* The pages that its memory's files hold, by its last report. */
@@ -154,7 +161,9 @@ struct host {
     const char *itself;           /* the lender's own program */
     int channels;                 /* the folder where a later lender finds guests' processes */
     uint64_t features;
-    VbLoan loans[2 * MOST_GUESTS]; /* by the places of seats */
+    VbHost lends;   /* what it may lend: nothing before a guest of an earlier lender has reported */
+    VbSeat places[MOST_PLACES];
+    size_t place_count; /* how many are, or were, somebody's */
     bool strict, strict_pages, events, no_sandbox, end_with_lender;
     struct seat *seats[MOST_GUESTS];
     unsigned count;
@@ -289,11 +298,11 @@ void seat_ended(struct seat *seat);
 void seat_look(struct seat *seat, bool asks);
 void seat_remind(struct seat *seat);
 
-/* Decides how many pages the host wants in its balloon, and tells it as many as a step allows. */
+/* Decides how many pages the host wants in its balloon, and wants as many as a step allows. */
 void seat_set_target(struct seat *seat, uint32_t pages);
 
-/* Lets what it is asked for grow by what `milliseconds` allow, and says again what it hasn't heard;
- * whether there is any of that. */
+/* Lets what is wanted grow by what `milliseconds` allow; whether that is less than what was decided,
+ * or a target isn't received. */
 void seat_step(struct seat *seat, int64_t milliseconds);
 bool seat_is_behind(const struct seat *seat);
 
@@ -303,14 +312,14 @@ void seat_leave(struct seat *seat);
 /* Has another process, of the program that is there now, go on with its client. */
 void seat_renew(struct seat *seat);
 
-/* Answers its process, which waits for pages: whether they may be had. And grants the deflate that
- * its process holds. What it may have is told it once its limit allows it. */
-void seat_answer(struct seat *seat, bool admitted);
-void seat_grant(struct seat *seat);
+/* Sends what is due to its process: an answer for room, and the grant of what it has asked for, once
+ * its limit allows that. */
+void seat_repeat(struct seat *seat);
 
-/* Tells it again what was answered and granted, if it still waits for that; false where nothing
- * was. */
-bool seat_repeat(struct seat *seat);
+/* Sends its last target, and an order to look after it: what answers that has received the target.
+ * Sends it again where its process hasn't received it. */
+void seat_tell(struct seat *seat);
+void seat_retell(struct seat *seat);
 
 /* ---- reports.c */
 
@@ -319,6 +328,9 @@ bool seat_repeat(struct seat *seat);
 unsigned seat_read(struct seat *seat, unsigned most);
 
 /* ---- waits.c */
+
+/* For what a process waits, by its last report. */
+enum guest_wait seat_waits_for(const struct seat *seat);
 
 /* Follows what a process waits for, by its next report; and ends its wait, if it has one. */
 void seat_waits(struct seat *seat, const struct lending_message *report);

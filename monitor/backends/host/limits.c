@@ -2,7 +2,7 @@
  * pages, lowered after pages came. A process for each limit writes it (limit_writer.c), and nobody
  * waits for that one: what a guest was granted is told to it once it says that the limit is
   * raised. */
-#include "host.h"
+#include "places.h"
 
 #include <inttypes.h>
 #include <signal.h>
@@ -18,7 +18,7 @@ const char writer_word[] = "--write-limits";
 /* The frames that its limit is to allow: never 0, which tmpfs takes for no limit. */
 static uint64_t frames_wanted(const struct seat *seat)
 {
-    uint64_t frames = (uint64_t)seat->host->loans[seat->place].lent + seat->terms.overhead;
+    uint64_t frames = (uint64_t)seat_lent(seat) + seat->terms.overhead;
     return frames > 0 ? frames : 1;
 }
 
@@ -26,7 +26,7 @@ static uint64_t frames_wanted(const struct seat *seat)
 static bool is_limited(const struct seat *seat)
 {
     return seat->terms.limit.kind != LIMIT_NONE && seat_is_taken(seat) && seat->report.holds &&
-           seat->pages > 0;
+           seat_pages(seat) > 0;
 }
 
 bool limit_holds(const struct seat *seat)

@@ -1,6 +1,6 @@
 /* The control pipe of a host: a line in, and a line out, or some lines after one that says how
  * many. */
-#include "host.h"
+#include "places.h"
 
 #include <inttypes.h>
 
@@ -18,7 +18,7 @@ static void print_seat(const struct seat *seat)
     const struct counters *counters = &report->counters;
     FILE *to = out(seat->host);
     fprintf(to, "%s here %d ready %d pages %" PRIu32 " held_kib %" PRIu64, seat->name,
-            seat_is_taken(seat), seat_is_ready(seat), seat->pages, report->held_kib);
+            seat_is_taken(seat), seat_is_ready(seat), seat_pages(seat), report->held_kib);
     fprintf(to,
             " ballooned %" PRIu32 " target %" PRIu32 " free %" PRIu32 " spare %" PRIu32
             " answers %d",
@@ -31,12 +31,12 @@ static void print_seat(const struct seat *seat)
     fprintf(to,
             " available %" PRIu32 " asked %" PRIu32 " least %" PRIu32 " most %" PRIu32
             " priority %" PRIu32 " reports %d process %d lent %" PRIu32 " waits %s",
-            seat->available, seat->told, seat->terms.least, seat->terms.most, seat->terms.priority,
-            seat_reports(seat), (int)seat->serving, seat->host->loans[seat->place].lent,
-            guest_wait_word(seat->waits_for));
+            seat->available, seat_told(seat), seat->terms.least, seat->terms.most, seat->terms.priority,
+            seat_reports(seat), (int)seat->serving, seat_lent(seat),
+            guest_wait_word(seat_waits_for(seat)));
     fprintf(to,
             " overhead %" PRIu32 " limit %" PRIu64 " limit_failures %" PRIu64 " cooperates %d\n",
-            seat->terms.overhead, seat->writer.written, seat->writer.failures, seat->cooperates);
+            seat->terms.overhead, seat->writer.written, seat->writer.failures, seat->trust == COOPERATES);
 }
 
 static void print_guests(const struct host *host)
@@ -60,7 +60,7 @@ static void print_counters(const struct host *host)
             " shorts %" PRIu64 " admitted %" PRIu64 " refused %" PRIu64 " gone %" PRIu64
             " dropped %" PRIu64 " lent %" PRIu64 " grants %" PRIu64 "\n",
             it->shorts, it->admitted, it->refused, it->gone, lines_dropped,
-            vb_loan_owed(host->loans, MOST_PLACES), it->grants);
+            places_owed(host), it->grants);
 }
 
 /* Reads a number of MiB as pages. */

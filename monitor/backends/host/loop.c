@@ -1,6 +1,6 @@
 /* What a lender does in its loop: all sockets where clients come, the channels of their processes,
  * its lines, and a look each period. */
-#include "loans.h"
+#include "places.h"
 #include "measures.h"
 
 #include <unistd.h>
@@ -60,13 +60,13 @@ static void look(struct host *host)
     each_seat(host, seat_reach);
     loans_audit(host);
     policy_decide(host);
-    loans_grant(host);
     for (unsigned i = 0; i < host->leaving_count; i++)
         seat_leave(host->leaving[i]);
     for (unsigned i = 0; i < host->count; i++) {
         if (!seat_is_due(host->seats[i]))
             continue;
         host->seats[i]->silent++;
+        seat_retell(host->seats[i]);
         seat_look(host->seats[i], true);
     }
 }
@@ -77,6 +77,7 @@ static void remind(struct host *host)
     for (unsigned i = 0; i < host->count; i++) {
         if (seat_rests(host->seats[i]))
             continue;
+        seat_retell(host->seats[i]);
         seat_remind(host->seats[i]);
         seat_look(host->seats[i], false);
     }
@@ -274,7 +275,6 @@ static void decide(struct host *host, int64_t now)
     if (!host->news || (now < host->decides_at && !(host->anew && host->reason == BY_BUDGET)))
         return;
     policy_decide(host);
-    loans_grant(host);
     host->decides_at = now + DECIDE_EVERY;
 }
 
@@ -296,6 +296,7 @@ static int turn_of_lines(void *context)
     if (!input_obey(host) || host->upgrades)
         return LOOP_ENDS;
     int64_t now = loop_now();
+    places_follow_budget(host);
     host->stepped_at = host->steps ? host->stepped_at : now;
     step(host, now);
     decide(host, now);

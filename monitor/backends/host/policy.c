@@ -1,6 +1,6 @@
 /* What the library is asked, and what is done with its answers: what each guest is known by,
  * whether old targets still serve, and which ones do. */
-#include "host.h"
+#include "places.h"
 #include "measures.h"
 
 enum {
@@ -48,15 +48,15 @@ static uint16_t contact_of(const struct seat *seat)
 /* Whether a guest counts by its loan: its process holds deflates, or its balloon doesn't count. */
 static bool has_loan(const struct seat *seat)
 {
-    return seat->report.holds || seat->host->loans[seat->place].uncounted;
+    return seat->holds || seat->trust == UNCOUNTED;
 }
 
 /* What is known of a guest. Pages that it may take already aren't in the balloon of its loan. */
 static VbHostGuest known_of(const struct seat *seat)
 {
-    VbLoan loan = has_loan(seat) ? seat->host->loans[seat->place] : (VbLoan){0};
+    VbLoan loan = has_loan(seat) ? loan_of(seat) : (VbLoan){0};
     return (VbHostGuest){.loan = loan,
-                         .pages = seat->pages,
+                         .pages = seat_pages(seat),
                          .held = pages_held(seat),
                          .ballooned = loan.pages > 0 ? loan.ballooned : seat->report.ballooned,
                          .ballooned_then = seat->ballooned_then,
@@ -71,8 +71,7 @@ static VbHostGuest known_of(const struct seat *seat)
 /* By what is known of it, what a guest can spare is found. */
 static enum bound bound_of(const struct seat *seat)
 {
-    const VbLoan *loan = &seat->host->loans[seat->place];
-    if (has_loan(seat) && (loan->asked > 0 || loan->uncounted))
+    if (has_loan(seat) && (loan_of(seat).asked > 0 || seat->trust == UNCOUNTED))
         return BY_LOAN;
     return !is_heard(seat) ? BY_SILENCE : is_paused(seat) ? BY_PAUSE : BY_STATISTICS;
 }
@@ -88,7 +87,7 @@ void policy_hears(struct seat *seat)
     const struct lending_message *report = &seat->report;
     seat->known = seat->tells_available = false;
     for (uint32_t i = 0; i < report->figure_count; i++) {
-        uint32_t pages = least(report->figures[i].value / BALLOON_PAGE, seat->pages);
+        uint32_t pages = least(report->figures[i].value / BALLOON_PAGE, seat_pages(seat));
         if (report->figures[i].tag == FREE_MEMORY)
             seat->free = pages, seat->known = true;
         if (report->figures[i].tag == AVAILABLE_MEMORY)

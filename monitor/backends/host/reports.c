@@ -1,5 +1,5 @@
 /* What a guest's process has sent, and what the lender makes of it. */
-#include "loans.h"
+#include "places.h"
 #include "measures.h"
 
 enum { MOST_VERSION = 32 };
@@ -25,11 +25,22 @@ static const char *report_fault(const struct seat *seat, const struct lending_me
     const char *fault = number_fault(report);
     if (fault || (seat->adopts && !seat->reserves))
         return fault;
-    if (report->waits != WAIT_ROOM && report->pages > seat->pages)
+    if (report->waits != WAIT_ROOM && report->pages > seat_pages(seat))
         return "pages that nobody has granted";
     if (seat->adopts || (report->holds != 0) == seat->holds)
         return NULL;
     return seat->holds ? "that its deflates don't wait" : "that its deflates wait";
+}
+
+/* The pages that are missing for those that its process waits for; 0: it may wait for them, or
+ * there is room for all. */
+static uint64_t missing_room(const struct seat *seat)
+{
+    struct host *host = seat->host;
+    uint32_t wanted = seat->report.wanted;
+    if (!seat->holds)
+        return policy_lacks(host, seat, wanted);
+    return wanted > host->frames ? wanted - host->frames : 0;
 }
 
 /* What its client brings isn't admitted. */
@@ -37,35 +48,31 @@ static void turn_away(struct seat *seat)
 {
     seat->host->counters.refused++;
     seat->refused = true;
-    seat_answer(seat, false);
 }
 
-/* A guest waits: whether there is room, it is answered at once, unless it waits for its grant. */
-static void answer_wait(struct seat *seat)
+/* It waits for room: it is refused where there is none for it, and has it at once where its process
+ * holds nothing back. */
+static void answer_room(struct seat *seat)
 {
     struct host *host = seat->host;
     uint32_t wanted = seat->report.wanted;
-    if (seat->report.waits == WAIT_ROOM && wanted > seat->terms.memory) {
+    if (seat->report.waits != WAIT_ROOM || seat->refused || host_awaits(host) ||
+        wanted <= seat_pages(seat))
+        return;
+    if (wanted > seat->terms.memory) {
         refuse("its memory has %u pages, and may have %u", wanted, seat->terms.memory);
         turn_away(seat);
         return;
     }
-    if (seat->report.holds && (seat->report.waits == WAIT_RESET || wanted <= host->frames))
-        return;
-    if (host_awaits(host))
-        return; /* it reports again */
-    uint64_t missing = seat->report.holds     ? wanted - host->frames
-                       : wanted > seat->pages ? policy_lacks(host, seat, wanted)
-                                              : 0;
+    uint64_t missing = missing_room(seat);
     if (missing > 0) {
         refuse("no room for %u pages: %llu are missing", wanted, (unsigned long long)missing);
         turn_away(seat);
-        return;
+    } else if (!seat->holds) {
+        host->counters.admitted += seat_pages(seat) == 0;
+        place_admits(seat);
+        host_changed(host, BY_GUESTS);
     }
-    host->counters.admitted += seat->pages == 0;
-    seat->pages = wanted;
-    seat_answer(seat, true);
-    host_changed(host, BY_GUESTS);
 }
 
 /* What may have changed by what was served: statistics, and pages that the guest took back by
@@ -92,7 +99,7 @@ static void adopt(struct seat *seat)
     seat->adopts = false;
     seat->holds = report->holds;
     seat->target = report->target;
-    loan_adopts(seat);
+    place_takes_over(seat);
     if (!seat->asks_terms)
         return;
     if (report->has_terms)
@@ -121,7 +128,20 @@ static void check_version(char words[MOST_WORDS])
 static uint32_t brings(const struct seat *seat, const struct lending_message *message)
 {
     bool is_new = message->waits == WAIT_ROOM && message->wait != seat->report.wait;
-    return is_new ? message->wanted - smaller(message->wanted, seat->pages) : 0;
+    return is_new ? message->wanted - smaller(message->wanted, seat_pages(seat)) : 0;
+}
+
+/* Passes its report on, with what it asks for. */
+static void pass_on(struct seat *seat)
+{
+    uint32_t pages = seat_pages(seat);
+    ask_note(seat);
+    answer_room(seat);
+    seat_repeat(seat);
+    loan_audit(seat);
+    place_hears(seat);
+    if (seat_pages(seat) != pages)
+        host_changed(seat->host, BY_GUESTS);
 }
 
 static void take_report(struct seat *seat, const struct lending_message *message)
@@ -138,30 +158,23 @@ static void take_report(struct seat *seat, const struct lending_message *message
         question->asked = message->asked;
     if (seat->adopts)
         adopt(seat);
-    if (message->waits != WAIT_ROOM && message->pages != seat->pages) {
-        seat->pages = message->pages;
-        host_changed(seat->host, BY_GUESTS);
-    }
     take_note(seat);
-    if (!seat_repeat(seat) && message->waits != WAIT_NOTHING)
-        answer_wait(seat);
+    pass_on(seat);
     if (brought > 0 && !seat->refused)
         seat_pays(seat, brought);
     if (seat_moves(seat))
         seat_look(seat, true);
-    loan_follow(seat);
-    loans_grant(seat->host);
 }
 
 /* Its client has gone, and its memory with it. */
 static void take_leave(struct seat *seat)
 {
-    bool had_pages = seat->pages > 0;
+    bool had_pages = seat_pages(seat) > 0;
     say_gone();
     seat->host->counters.gone++;
     measure_gone(seat->listener < 0 ? GONE_REMOVED : seat->refused ? GONE_REFUSED : GONE_LEFT);
     seat_clear(seat);
-    loan_leave(seat);
+    place_leaves(seat);
     seat->gone = true;
     if (had_pages)
         host_changed(seat->host, BY_GUESTS);

@@ -1,6 +1,6 @@
 /* Guests at rest: nobody wants anything of them, and what their reports say stays as it is, but for
  * a little. They are asked at a slow pace; their processes tell by themselves what they do. */
-#include "host.h"
+#include "places.h"
 
 /* Periods in which a guest stays as it is, and rests from then on; periods of which one that rests
  * is asked in one. What changes by more than this part of its pages counts as a change. */
@@ -13,7 +13,7 @@ static bool is_near(uint64_t one, uint64_t other, uint64_t most)
 
 static struct stillness stillness_of(const struct seat *seat)
 {
-    return (struct stillness){.pages = seat->pages,
+    return (struct stillness){.pages = seat_pages(seat),
                               .ballooned = seat->report.ballooned,
                               .held = pages_held(seat),
                               .available = seat->tells_available ? seat->available : seat->free};
@@ -23,10 +23,10 @@ static struct stillness stillness_of(const struct seat *seat)
 static bool is_at_peace(const struct seat *seat)
 {
     const struct lending_message *report = &seat->report;
-    bool obeyed = seat->told == seat->target && report->target == seat->target &&
+    bool obeyed = seat_told(seat) == seat->target && report->target == seat->target &&
                   report->ballooned == seat->target;
     bool answered = seat->known && seat->silent == 0 && seat->asked_at == 0;
-    return seat_is_ready(seat) && answered && obeyed && seat->waits_for == WAITS_FOR_NOTHING;
+    return seat_is_ready(seat) && answered && obeyed && seat_waits_for(seat) == WAITS_FOR_NOTHING;
 }
 
 bool seat_rests(const struct seat *seat)
@@ -45,7 +45,7 @@ bool seat_is_due(struct seat *seat)
 bool seat_moves(struct seat *seat)
 {
     struct stillness now = stillness_of(seat), then = seat->still;
-    uint64_t little = seat->pages / LITTLE_PART;
+    uint64_t little = seat_pages(seat) / LITTLE_PART;
     bool stays = now.pages == then.pages && now.ballooned == then.ballooned &&
                  is_near(now.held, then.held, little) &&
                  is_near(now.available, then.available, little);

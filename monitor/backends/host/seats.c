@@ -1,5 +1,5 @@
 /* Who is served, and where: a socket for each guest of the host. */
-#include "host.h"
+#include "places.h"
 
 #include <stdlib.h>
 #include <sys/socket.h>
@@ -40,8 +40,7 @@ void seat_clear(struct seat *seat)
 {
     seat_ends_wait(seat);
     memset(&seat->report, 0, sizeof seat->report);
-    seat->pages = seat->free = seat->available = seat->ballooned_then = seat->target = seat->told =
-        seat->least_told = seat->silent = 0;
+    seat->free = seat->available = seat->ballooned_then = seat->target = seat->silent = 0;
     seat->known = seat->tells_available = seat->gone = seat->refused = seat->adopts = seat->holds =
         false;
     seat->heard = seat->taken = seat->number = seat->answered = seat->lost = 0;
@@ -49,12 +48,11 @@ void seat_clear(struct seat *seat)
     seat->serving = 0;
     seat->still = (struct stillness){0};
     seat->moved_at = seat->passed_over = 0;
-    seat->wait_answered = seat->held_granted = seat->granted_pages = 0;
-    seat->granted = seat->obeys_until = 0;
-    seat->wait_admitted = seat->adopted = seat->regains = seat->regained = seat->unread =
-        seat->reserves = false;
-    seat->asked_for = WAITS_FOR_NOTHING;
-    seat->cooperates = true;
+    seat->ask = (struct ask){WAITS_FOR_NOTHING, 0};
+    seat->asks = seat->granted_asks = seat->granted = seat->told = seat->told_by = 0;
+    seat->received_at = 0;
+    seat->trust = COOPERATES;
+    seat->reserves = false;
     limit_forget(seat);
 }
 
@@ -95,20 +93,6 @@ static bool name_seat(struct seat *seat, const char *name)
                     seat->host->channels, name) < MOST_PATH;
 }
 
-/* A place that no guest has, also none that is leaving: there are twice as many as seats. */
-static size_t free_place(const struct host *host)
-{
-    bool taken[MOST_PLACES] = {false};
-    size_t place = 0;
-    for (unsigned i = 0; i < host->count; i++)
-        taken[host->seats[i]->place] = true;
-    for (unsigned i = 0; i < host->leaving_count; i++)
-        taken[host->leaving[i]->place] = true;
-    while (taken[place])
-        place++;
-    return place;
-}
-
 const char *seat_add(struct host *host, const char *name, const struct guest_terms *terms)
 {
     if (!is_name(name) || seat_of(host, name))
@@ -127,8 +111,7 @@ const char *seat_add(struct host *host, const char *name, const struct guest_ter
         free(seat);
         return strerror(named ? why : ENAMETOOLONG);
     }
-    seat->place = free_place(host);
-    seat->cooperates = true;
+    place_begin(seat);
     host->seats[host->count++] = seat;
     seat_take_over(seat);
     return NULL;

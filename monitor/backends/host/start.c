@@ -1,5 +1,5 @@
 /* A guest's process: how it begins, is taken over, and ends. */
-#include "loans.h"
+#include "places.h"
 #include "measures.h"
 
 #include <inttypes.h>
@@ -237,7 +237,7 @@ void seat_take_over(struct seat *seat)
         return;
     }
     seat_clear(seat);
-    seat->here = seat->adopts = seat->adopted = true;
+    seat->here = seat->adopts = true;
     seat->heard_at = loop_now();
     seat->adopts_until = loop_now() + TOLD_IN;
     seat->clients++;
@@ -255,9 +255,8 @@ void seat_reserve(struct seat *seat, uint32_t pages)
     seat->kept_pages = pages;
     if (!seat->here)
         return;
-    seat->pages = pages;
+    place_reserves(seat, pages);
     seat->reserves = true;
-    *loan_of(seat) = (VbLoan){.pages = pages, .lent = pages};
 }
 
 bool host_awaits(const struct host *host)
@@ -271,7 +270,7 @@ bool host_awaits(const struct host *host)
 void seat_disown(struct seat *seat)
 {
     seat->refused = true;
-    vb_loan_uncount(seat->host->loans, MOST_PLACES, seat->place);
+    place_uncounts(seat);
     pidfd_send_signal(seat->process_file, SIGKILL, NULL, 0);
     file_close(seat->channel);
     seat->channel = -1;
@@ -317,5 +316,5 @@ void seat_ended(struct seat *seat)
     seat->process = 0;
     seat->here = false;
     seat_clear(seat);
-    loan_leave(seat);
+    place_leaves(seat);
 }

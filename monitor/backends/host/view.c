@@ -1,5 +1,5 @@
 /* What the lender shows of itself and of each guest, and what may be changed. */
-#include "loans.h"
+#include "places.h"
 #include "view.h"
 
 struct guest_terms host_usual_terms(const struct host *host)
@@ -41,9 +41,9 @@ static enum guest_state state_of(const struct seat *seat)
         return GUEST_ABSENT;
     if (seat->gone)
         return GUEST_LEAVING;
-    if (seat->waits_for == WAITS_FOR_ROOM)
+    if (seat_waits_for(seat) == WAITS_FOR_ROOM)
         return GUEST_WAITING;
-    if (seat->pages == 0)
+    if (seat_pages(seat) == 0)
         return GUEST_COMING;
     return seat_is_ready(seat) ? GUEST_READY : GUEST_STARTING;
 }
@@ -51,7 +51,7 @@ static enum guest_state state_of(const struct seat *seat)
 /* Whether it has taken no pages unasked since it came. */
 static bool cooperates(const struct seat *seat)
 {
-    return seat->cooperates && (seat->report.holds || seat->report.counters.taken == 0);
+    return seat->trust == COOPERATES && (seat->report.holds || seat->report.counters.taken == 0);
 }
 
 void host_see(const struct host *host, struct host_view *view)
@@ -78,8 +78,8 @@ void host_see(const struct host *host, struct host_view *view)
                                .dropped = lines_dropped};
     for (unsigned i = 0; i < host->count; i++) {
         const struct seat *seat = host->seats[i];
-        view->lent += loan_of(seat)->lent;
-        view->waiting += seat->waits_for != WAITS_FOR_NOTHING;
+        view->lent += seat_lent(seat);
+        view->waiting += seat_waits_for(seat) != WAITS_FOR_NOTHING;
         view->silent += seat_is_ready(seat) && !seat_answers(seat);
         view->uncooperative += !cooperates(seat);
     }
@@ -109,18 +109,17 @@ void host_see_guest(const struct host *host, unsigned number, struct guest_view 
 {
     const struct seat *seat = host->seats[number];
     const struct lending_message *report = &seat->report;
-    const VbLoan *loan = &host->loans[seat->place];
     *view = (struct guest_view){.name = seat->name,
                                 .path = seat->path,
                                 .process = seat->serving,
                                 .version = report->words,
                                 .state = state_of(seat),
                                 .terms = seat->terms,
-                                .pages = seat->pages,
+                                .pages = seat_pages(seat),
                                 .held_kib = report->held_kib,
-                                .loan = loan->lent,
+                                .loan = seat_lent(seat),
                                 .excess = loan_excess(seat),
-                                .asked = loan->asked,
+                                .asked = loan_of(seat).asked,
                                 .granted = seat->granted,
                                 .limit = seat->writer.written,
                                 .limit_failures = seat->writer.failures,
@@ -133,11 +132,11 @@ void host_see_guest(const struct host *host, unsigned number, struct guest_view 
                                 .answers = seat_answers(seat),
                                 .reports = seat_reports(seat),
                                 .cooperates = cooperates(seat),
-                                .waits_for = seat->waits_for,
+                                .waits_for = seat_waits_for(seat),
                                 .ended = seat->ended,
                                 .clients = seat->clients,
                                 .lost = seat->lost + report->lost};
-    if (seat->waits_for != WAITS_FOR_NOTHING)
+    if (seat_waits_for(seat) != WAITS_FOR_NOTHING)
         view->waits = seconds_since(seat->waits_since);
     if (seat_is_taken(seat)) {
         view->silent = seconds_since(seat->heard_at);

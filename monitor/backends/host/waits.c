@@ -1,6 +1,6 @@
 /* What a guest's process waits for, and how its waits end: by what the lender has answered to the
  * number of each. */
-#include "host.h"
+#include "places.h"
 #include "measures.h"
 
 /* For what a process waits by a report, and the number of that wait. */
@@ -13,24 +13,30 @@ static enum guest_wait wait_of(const struct lending_message *report, uint32_t *n
     return report->held_pages > 0 ? WAITS_FOR_DEFLATE : WAITS_FOR_NOTHING;
 }
 
+enum guest_wait seat_waits_for(const struct seat *seat)
+{
+    uint32_t number;
+    return wait_of(&seat->report, &number);
+}
+
 static enum wait_end end_of_wait(const struct seat *seat)
 {
-    const struct lending_message *report = &seat->report;
-    if (seat->waits_for == WAITS_FOR_DEFLATE)
-        return report->held_wait == seat->held_granted ? WAS_GRANTED : WAS_WITHDRAWN;
-    if (report->wait != seat->wait_answered)
-        return WAS_WITHDRAWN;
-    return seat->wait_admitted ? WAS_GRANTED : WAS_REFUSED;
+    const VbSeat *its = place_of(seat);
+    bool waits_for_room = seat_waits_for(seat) == WAITS_FOR_ROOM;
+    bool has_room = its->granted > 0 && seat->report.wanted <= its->pages;
+    if (waits_for_room ? has_room : its->granted == seat->asks)
+        return WAS_GRANTED;
+    return waits_for_room && seat->refused ? WAS_REFUSED : WAS_WITHDRAWN;
 }
 
 void seat_ends_wait(struct seat *seat)
 {
-    if (seat->waits_for == WAITS_FOR_NOTHING)
+    enum guest_wait what = seat_waits_for(seat);
+    if (what == WAITS_FOR_NOTHING)
         return;
     double seconds = (double)(loop_now() - seat->waits_since) / 1000;
     seat->ended =
-        (struct ended_wait){seat->ended.number + 1, seat->waits_for, end_of_wait(seat), seconds};
-    seat->waits_for = WAITS_FOR_NOTHING;
+        (struct ended_wait){seat->ended.number + 1, what, end_of_wait(seat), seconds};
     measure_wait(seat->ended.how, seconds);
 }
 
@@ -38,11 +44,10 @@ void seat_waits(struct seat *seat, const struct lending_message *report)
 {
     uint32_t number, before;
     enum guest_wait now = wait_of(report, &number);
-    wait_of(&seat->report, &before);
-    if (now == seat->waits_for && (now == WAITS_FOR_NOTHING || number == before))
+    enum guest_wait was = wait_of(&seat->report, &before);
+    if (now == was && (now == WAITS_FOR_NOTHING || number == before))
         return;
     seat_ends_wait(seat);
-    seat->waits_for = now;
     seat->waits_since = loop_now();
     seat->wait_named = false;
 }

@@ -9,7 +9,16 @@ import struct
 import threading
 
 import linux_host
-from vhost_client import BUFFERS, DEFLATE, INFLATE, PAGE, REGIONS, STATISTICS, Client
+from vhost_client import (
+    BUFFERS,
+    DEFLATE,
+    GET_CONFIG,
+    INFLATE,
+    PAGE,
+    REGIONS,
+    STATISTICS,
+    Client,
+)
 from waiting import PATIENCE, eventually
 
 # Tags of statistics (VIRTIO 1.1, 5.5.6.3), and the first pages of a client's regions: the first
@@ -71,8 +80,14 @@ class Guest(threading.Thread):
         self.client.publish(STATISTICS, 0)
         self.client.kick(STATISTICS)
 
+    def read_target(self):
+        """Reads the configuration, with its target."""
+        with self.lock:
+            self.client.send(GET_CONFIG, struct.pack("<III", 0, 8, 0) + bytes(8))
+
     def give(self, pages):
-        """Puts pages into its balloon."""
+        """Puts pages into its balloon, by the target that it reads before."""
+        self.read_target()
         with self.lock:
             self.client.post_pages(INFLATE, pages)
 

@@ -8,13 +8,13 @@
  *     7  doesn't decide anew when the floor changes
  *     9  lowers a guest's limit by its target, before its pages came
  *    10  grants a deflate before the guest's limit is raised
- *    11  lends a guest nothing before it asks
- *    12  has a guest wait for what it gave for an earlier target
+ *    11  tells a guest all of a target that falls, and lends only a part of that
+ *    12  takes a target for read before its driver has read it
  *    13  grants as if there were a MiB more
  *
  * 5 and 8 are wrong in guests' processes (wrong_lent.c).
  */
-#include "../../backends/host/loans.h"
+#include "../../backends/host/places.h"
 
 #include <stdlib.h>
 #include <string.h>
@@ -28,7 +28,7 @@ enum {
     LOWERS_EARLY = 9,
     GRANTS_EARLY,
     NONE_AHEAD,
-    KEEPS_NONE,
+    READS_EARLY,
     GRANTS_MORE
 };
 
@@ -50,12 +50,8 @@ void __real_limits_follow(struct host *);
 void __wrap_limits_follow(struct host *);
 bool __real_limit_allows(const struct seat *);
 bool __wrap_limit_allows(const struct seat *);
-uint32_t __real_loan_ahead(struct seat *, uint32_t);
-uint32_t __wrap_loan_ahead(struct seat *, uint32_t);
-void __real_loan_take_in(struct seat *, uint32_t);
-void __wrap_loan_take_in(struct seat *, uint32_t);
-VbGrant __real_vb_loan_grant(uint32_t, VbLoan *, size_t);
-VbGrant __wrap_vb_loan_grant(uint32_t, VbLoan *, size_t);
+uint32_t __real_vb_host_step(VbHost *, VbSeat *, size_t, const VbHostEvent *);
+uint32_t __wrap_vb_host_step(VbHost *, VbSeat *, size_t, const VbHostEvent *);
 
 static int wrong(void)
 {
@@ -142,16 +138,15 @@ void __wrap_host_changed(struct host *host, enum reason reason)
 
 void __wrap_limits_follow(struct host *host)
 {
-    VbLoan loans[MOST_PLACES];
-    memcpy(loans, host->loans, sizeof loans);
-    for (unsigned i = 0; i < host->count && wrong() == LOWERS_EARLY; i++) {
-        VbLoan *loan = &host->loans[host->seats[i]->place];
-        uint32_t asked =
-            host->seats[i]->told > loan->ballooned ? host->seats[i]->told - loan->ballooned : 0;
-        loan->lent -= asked < loan->lent ? asked : loan->lent;
+    static VbSeat places[MOST_PLACES];
+    memcpy(places, host->places, sizeof places);
+    for (unsigned i = 0; i < MOST_PLACES && wrong() == LOWERS_EARLY; i++) {
+        VbSeat *its = &host->places[i];
+        if (its->granted > 0 && its->target > its->ballooned)
+            its->ballooned = its->least_target = its->target;
     }
     __real_limits_follow(host);
-    memcpy(host->loans, loans, sizeof loans);
+    memcpy(host->places, places, sizeof places);
 }
 
 bool __wrap_limit_allows(const struct seat *seat)
@@ -159,21 +154,35 @@ bool __wrap_limit_allows(const struct seat *seat)
     return wrong() == GRANTS_EARLY || __real_limit_allows(seat);
 }
 
-uint32_t __wrap_loan_ahead(struct seat *seat, uint32_t pages)
+/* A report of a driver that has read its last target, whether or not it has. */
+static void read_by_all(const VbSeat *seats, VbHostEvent *event)
 {
-    return wrong() == NONE_AHEAD ? pages : __real_loan_ahead(seat, pages);
+    event->report.target_number = seats[event->guest].target_number;
+    event->report.read_target = seats[event->guest].target;
 }
 
-void __wrap_loan_take_in(struct seat *seat, uint32_t pages)
+/* Falls to what is wanted, and lends nothing by that. */
+static void lend_none(VbSeat *seats, size_t count)
 {
-    if (wrong() == KEEPS_NONE)
-        vb_loan_give(seat->host->loans, MOST_PLACES, seat->place, pages);
-    else
-        __real_loan_take_in(seat, pages);
+    for (size_t i = 0; i < count; i++)
+        if (seats[i].granted > 0 && !vb_seat_waits(&seats[i]) && seats[i].target > seats[i].wanted) {
+            seats[i].target = seats[i].wanted;
+            seats[i].target_number++;
+        }
 }
 
-VbGrant __wrap_vb_loan_grant(uint32_t frames, VbLoan *loans, size_t count)
+uint32_t __wrap_vb_host_step(VbHost *host, VbSeat *seats, size_t count, const VbHostEvent *event)
 {
-    return __real_vb_loan_grant(frames + (wrong() == GRANTS_MORE ? PAGES_PER_MIB : 0), loans,
-                                count);
+    VbHost other = *host;
+    VbHostEvent changed = *event;
+    if (wrong() == GRANTS_MORE && event->kind != VB_BUDGET)
+        other.frames += PAGES_PER_MIB;
+    if (wrong() == READS_EARLY && event->kind == VB_HEARS)
+        read_by_all(seats, &changed);
+    uint32_t code = __real_vb_host_step(wrong() == GRANTS_MORE ? &other : host, seats, count, &changed);
+    if (wrong() == GRANTS_MORE && event->kind == VB_BUDGET)
+        host->frames = event->frames;
+    if (wrong() == NONE_AHEAD)
+        lend_none(seats, count);
+    return code;
 }

@@ -1,0 +1,106 @@
+/* A report of a guest's process as the lender's step takes it: what it asks for, and which target it
+ * has received and its driver has read. */
+#include "places.h"
+
+/* Milliseconds for which a driver whose reads aren't seen may obey an earlier target than the one
+ * that its process has received. */
+enum { LINGERS = 3000 };
+
+static bool is_let_in(const struct seat *seat)
+{
+    return place_of(seat)->granted > 0;
+}
+
+static bool is_same(struct ask one, struct ask other)
+{
+    return one.what == other.what && one.number == other.number;
+}
+
+struct ask ask_of(const struct seat *seat)
+{
+    const struct lending_message *message = &seat->report;
+    struct ask deflate = {message->held_pages > 0 ? WAITS_FOR_DEFLATE : WAITS_FOR_NOTHING,
+                          message->held_wait};
+    bool was_granted = is_same(seat->ask, deflate) && place_of(seat)->granted == seat->asks;
+    if (deflate.what == WAITS_FOR_DEFLATE && was_granted)
+        return deflate;
+    if (message->waits == WAIT_RESET)
+        return (struct ask){WAITS_FOR_RESET, message->wait};
+    if (message->waits == WAIT_ROOM && !is_let_in(seat))
+        return (struct ask){WAITS_FOR_ROOM, message->wait};
+    return deflate;
+}
+
+bool target_is_received(const struct seat *seat)
+{
+    const VbSeat *its = place_of(seat);
+    return seat->told == its->target_number && seat->answered >= seat->told_by &&
+           seat->report.target == its->target;
+}
+
+void ask_note(struct seat *seat)
+{
+    struct ask now = ask_of(seat);
+    if (now.what != WAITS_FOR_NOTHING && !is_same(now, seat->ask)) {
+        seat->ask = now;
+        seat->asks++;
+        host_changed(seat->host, BY_GUESTS);
+    }
+    if (!target_is_received(seat))
+        seat->received_at = 0;
+    else if (seat->received_at == 0)
+        seat->received_at = loop_now();
+}
+
+/* The target that its driver has read last, or one that isn't the last one, where it may still obey
+ * another. */
+static uint32_t read_target(const struct seat *seat)
+{
+    uint32_t obeyed = seat->report.obeyed, target = place_of(seat)->target;
+    if (obeyed > 0)
+        return obeyed - 1;
+    bool lingers = seat->received_at == 0 || loop_now() - seat->received_at < LINGERS;
+    return lingers ? target ^ 1 : target;
+}
+
+/* The pages in its balloon: all of one that isn't let in yet, and none where its balloon doesn't
+ * count. */
+static uint32_t counted_balloon(const struct seat *seat, enum guest_wait what)
+{
+    if (seat->trust == UNCOUNTED)
+        return 0;
+    return what == WAITS_FOR_ROOM ? place_of(seat)->pages : seat->report.ballooned;
+}
+
+/* The pages of the deflate that it asks for: a reset takes all that is in its balloon, and is
+ * granted by number also where that is empty. */
+static uint32_t held_pages(const struct seat *seat, enum guest_wait what)
+{
+    const struct lending_message *message = &seat->report;
+    const uint32_t pages[] = {
+        [WAITS_FOR_NOTHING] = 0,
+        [WAITS_FOR_ROOM] = place_of(seat)->pages,
+        [WAITS_FOR_DEFLATE] = message->held_pages,
+        [WAITS_FOR_RESET] = message->ballooned > 0 ? message->ballooned : 1,
+    };
+    return pages[what];
+}
+
+VbReport ask_report(const struct seat *seat)
+{
+    static const uint32_t lines[] = {[WAITS_FOR_DEFLATE] = VB_LINE_DEFLATES,
+                                     [WAITS_FOR_RESET] = VB_LINE_RESETS,
+                                     [WAITS_FOR_ROOM] = VB_LINE_ARRIVALS};
+    const struct lending_message *message = &seat->report;
+    const VbSeat *its = place_of(seat);
+    enum guest_wait what = ask_of(seat).what;
+    bool is_smaller = message->waits != WAIT_ROOM && message->pages < its->pages;
+    return (VbReport){.ballooned = counted_balloon(seat, what),
+                      .target = message->target,
+                      .read_target = read_target(seat),
+                      .held = held_pages(seat, what),
+                      .line = lines[what],
+                      .target_number = its->target_number - !target_is_received(seat),
+                      .deflates = seat->asks,
+                      .removed = its->removed + (is_smaller ? its->pages - message->pages : 0)};
+}

@@ -1,0 +1,283 @@
+/* The lender's step over the places of guests: each event, and what is sent by what comes of it. */
+#include "places.h"
+
+#include <stdlib.h>
+
+uint32_t seat_pages(const struct seat *seat)
+{
+    return place_of(seat)->granted > 0 ? place_of(seat)->pages : 0;
+}
+
+uint32_t seat_told(const struct seat *seat)
+{
+    return place_of(seat)->target_number > 0 ? place_of(seat)->target : 0;
+}
+
+uint32_t seat_lent(const struct seat *seat)
+{
+    uint32_t added =
+        seat->added == NO_PLACE ? 0 : vb_seat_lent(&seat->host->places[seat->added]);
+    return vb_seat_lent(place_of(seat)) + added;
+}
+
+uint64_t places_owed(const struct host *host)
+{
+    return vb_host_owed(host->places, host->place_count);
+}
+
+bool places_wait(const struct host *host)
+{
+    return vb_host_first(host->places, host->place_count) != SIZE_MAX;
+}
+
+/* The seat of this number, of those that are leaving after all others; NULL after these. */
+static struct seat *seat_at(const struct host *host, unsigned number)
+{
+    if (number < host->count)
+        return host->seats[number];
+    number -= host->count;
+    return number < host->leaving_count ? host->leaving[number] : NULL;
+}
+
+/* A place that nobody has: there are enough for all seats and their added memory. */
+static size_t free_place(struct host *host)
+{
+    bool taken[MOST_PLACES + 1] = {false};
+    const struct seat *seat;
+    size_t place = 0;
+    for (unsigned i = 0; (seat = seat_at(host, i)); i++) {
+        taken[seat->place] = true;
+        taken[seat->added == NO_PLACE ? MOST_PLACES : seat->added] = true;
+    }
+    while (taken[place])
+        place++;
+    host->place_count = place < host->place_count ? host->place_count : place + 1;
+    return place;
+}
+
+void place_begin(struct seat *seat)
+{
+    seat->place = free_place(seat->host);
+    seat->added = NO_PLACE;
+}
+
+/* ---- a step */
+
+/* What it has asked for is granted. */
+static void note_grant(struct seat *seat)
+{
+    struct host *host = seat->host;
+    host->counters.admitted += seat->granted_asks == 0;
+    host->counters.grants++;
+    seat->granted_asks = place_of(seat)->granted;
+    seat_repeat(seat);
+    host_changed(host, BY_GUESTS);
+}
+
+/* Notes and sends what a step has made of a guest, to which so many frames were lent before. */
+static void follow_step(struct seat *seat, uint32_t before)
+{
+    const VbSeat *its = place_of(seat);
+    uint32_t lent = seat_lent(seat);
+    if (seat->holds && lent > before)
+        seat->granted += lent - before;
+    if (seat->holds && its->granted != seat->granted_asks)
+        note_grant(seat);
+    if (its->target_number != seat->told)
+        seat_tell(seat);
+}
+
+static void join(struct seat *seat);
+
+/* Something happens. */
+static void happens(struct host *host, VbHostEvent event)
+{
+    uint32_t before[2 * MOST_GUESTS];
+    struct seat *seat;
+    for (unsigned i = 0; (seat = seat_at(host, i)); i++)
+        before[i] = seat_lent(seat);
+    uint32_t code = vb_host_step(&host->lends, host->places, host->place_count, &event);
+    if (code != VB_OK) {
+        complain("the lender's step refuses event %u: %u", event.kind, code);
+        abort();
+    }
+    for (unsigned i = 0; (seat = seat_at(host, i)); i++)
+        follow_step(seat, before[i]);
+    for (unsigned i = 0; (seat = seat_at(host, i)); i++)
+        join(seat);
+}
+
+static void arrive(struct seat *seat, size_t place, uint32_t pages)
+{
+    happens(seat->host, (VbHostEvent){.kind = VB_ARRIVES, .guest = place, .pages = pages});
+}
+
+void places_follow_budget(struct host *host)
+{
+    uint32_t frames = host_awaits(host) ? 0 : host->frames;
+    if (frames != host->lends.frames)
+        happens(host, (VbHostEvent){.kind = VB_BUDGET, .frames = frames});
+}
+
+/* ---- memory that is added to a guest at work */
+
+static void drop_added(struct seat *seat)
+{
+    if (seat->added == NO_PLACE)
+        return;
+    arrive(seat, seat->added, 0);
+    seat->added = NO_PLACE;
+}
+
+/* Memory that was let in joins its guest. */
+static void join(struct seat *seat)
+{
+    struct host *host = seat->host;
+    size_t added = seat->added;
+    if (added == NO_PLACE || host->places[added].granted == 0)
+        return;
+    host->counters.grants++;
+    happens(host, (VbHostEvent){.kind = VB_JOINS, .guest = seat->place, .added = added});
+    if (host->places[added].pages > 0)
+        complain("its added memory of %u pages can't join it", host->places[added].pages);
+    drop_added(seat);
+    seat_repeat(seat);
+    host_changed(host, BY_GUESTS);
+}
+
+/* Added memory is a guest of its own, which waits for all its pages. */
+static void hear_of_added(struct seat *seat, uint32_t pages)
+{
+    if (pages == 0) {
+        drop_added(seat);
+        return;
+    }
+    if (seat->added == NO_PLACE)
+        seat->added = free_place(seat->host);
+    VbReport report = {
+        .ballooned = pages, .held = pages, .line = VB_LINE_ARRIVALS, .deflates = 1};
+    if (seat->host->places[seat->added].pages != pages) {
+        arrive(seat, seat->added, pages);
+        host_changed(seat->host, BY_GUESTS);
+    }
+    happens(seat->host,
+            (VbHostEvent){.kind = VB_HEARS, .guest = seat->added, .report = report});
+}
+
+/* ---- a guest */
+
+/* The pages for which its process waits beyond those that have room. */
+static uint32_t room_wanted(const struct seat *seat)
+{
+    const struct lending_message *message = &seat->report;
+    uint32_t has = seat_pages(seat);
+    bool waits = message->waits == WAIT_ROOM && message->wanted > has && !seat->refused;
+    return waits ? message->wanted - has : 0;
+}
+
+static void hear(struct seat *seat)
+{
+    happens(seat->host, (VbHostEvent){.kind = VB_HEARS,
+                                      .guest = seat->place,
+                                      .report = ask_report(seat)});
+}
+
+/* A guest that isn't let in yet. */
+static void hear_newcomer(struct seat *seat)
+{
+    uint32_t wanted = room_wanted(seat);
+    if (place_of(seat)->pages != wanted)
+        arrive(seat, seat->place, wanted);
+    if (wanted > 0)
+        hear(seat);
+}
+
+static void take_over(struct seat *seat, uint32_t pages, VbReport report)
+{
+    happens(seat->host, (VbHostEvent){.kind = VB_TAKES_OVER,
+                                      .guest = seat->place,
+                                      .pages = pages,
+                                      .report = report});
+}
+
+/* A guest whose process holds nothing back: it has what its report says, and any target at once. */
+static void follow(struct seat *seat, uint32_t pages, uint32_t target)
+{
+    const VbSeat *its = place_of(seat);
+    VbReport report = {.ballooned = seat->trust == UNCOUNTED ? 0 : seat->report.ballooned,
+                       .target = target,
+                       .read_target = target,
+                       .target_number = its->target_number + (its->target != target),
+                       .deflates = 1};
+    take_over(seat, pages, report);
+}
+
+void place_hears(struct seat *seat)
+{
+    const VbSeat *its = place_of(seat);
+    bool waits = seat->report.waits == WAIT_ROOM;
+    if (!seat->holds) {
+        follow(seat, waits ? its->pages : seat->report.pages, its->wanted);
+    } else if (its->granted == 0) {
+        hear_newcomer(seat);
+    } else {
+        hear(seat);
+        hear_of_added(seat, room_wanted(seat));
+    }
+}
+
+void place_admits(struct seat *seat)
+{
+    follow(seat, seat->report.wanted, place_of(seat)->wanted);
+}
+
+void place_reserves(struct seat *seat, uint32_t pages)
+{
+    take_over(seat, pages, (VbReport){.deflates = 1});
+}
+
+void place_takes_over(struct seat *seat)
+{
+    const struct lending_message *message = &seat->report;
+    if (message->pages == 0) {
+        arrive(seat, seat->place, 0);
+        return;
+    }
+    VbReport report = {.ballooned = message->ballooned,
+                       .target = message->target,
+                       .read_target = message->obeyed > 0 ? message->obeyed - 1 : message->target,
+                       .target_number = 1,
+                       .deflates = 1};
+    seat->asks = seat->granted_asks = seat->told = 1;
+    take_over(seat, message->pages, report);
+    seat->granted = 0;
+}
+
+void place_uncounts(struct seat *seat)
+{
+    uint64_t granted = seat->granted;
+    seat->trust = UNCOUNTED;
+    drop_added(seat);
+    if (place_of(seat)->granted == 0)
+        arrive(seat, seat->place, 0);
+    else
+        happens(seat->host, (VbHostEvent){.kind = VB_UNCOUNTS, .guest = seat->place});
+    seat->granted = granted;
+    host_changed(seat->host, BY_GUESTS);
+}
+
+void place_leaves(struct seat *seat)
+{
+    drop_added(seat);
+    arrive(seat, seat->place, 0);
+}
+
+void place_wants(struct seat *seat, uint32_t pages)
+{
+    const VbSeat *its = place_of(seat);
+    if (!seat->holds)
+        follow(seat, its->pages, pages);
+    else
+        happens(seat->host,
+                (VbHostEvent){.kind = VB_WANTS, .guest = seat->place, .pages = pages});
+}

@@ -1,0 +1,82 @@
+/* The lender's step (vb_host.h) over the places of guests: what is passed on to it, and what comes
+ * of that. */
+#ifndef PLACES_H
+#define PLACES_H
+#include "host.h"
+
+static inline uint32_t smaller(uint32_t one, uint32_t other)
+{
+    return one < other ? one : other;
+}
+
+static inline VbSeat *place_of(const struct seat *seat)
+{
+    return &seat->host->places[seat->place];
+}
+
+/* ---- asks.c */
+
+/* For what its process asks, by its last report: a deflate that was granted, as long as it holds
+ * that; else for a reset, or for room of a guest that wasn't let in, or for a deflate. */
+struct ask ask_of(const struct seat *seat);
+
+/* Notes what it asks for: what isn't the ask before has another number. And since when its last
+ * target is received. */
+void ask_note(struct seat *seat);
+
+/* Its last report, as the step takes it. */
+VbReport ask_report(const struct seat *seat);
+
+/* Whether its process has received its last target. */
+bool target_is_received(const struct seat *seat);
+
+/* ---- places.c */
+
+/* Gives a seat a place that nobody has. */
+void place_begin(struct seat *seat);
+
+/* An earlier lender has left a guest of so many pages: all are lent to it until it reports. */
+void place_reserves(struct seat *seat, uint32_t pages);
+
+/* A later lender has its first report; it has reported; it is admitted, where nothing of it waits
+ * for a grant; it has taken pages without a grant; it has gone. */
+void place_takes_over(struct seat *seat);
+void place_hears(struct seat *seat);
+void place_admits(struct seat *seat);
+void place_uncounts(struct seat *seat);
+void place_leaves(struct seat *seat);
+
+/* So many of its pages are wanted in its balloon. */
+void place_wants(struct seat *seat, uint32_t pages);
+
+/* What may be lent is the budget, once all guests of an earlier lender have reported. */
+void places_follow_budget(struct host *host);
+
+/* The pages of its memory that has room; and its last target, 0 where it was sent none. */
+uint32_t seat_pages(const struct seat *seat);
+uint32_t seat_told(const struct seat *seat);
+
+/* The frames that are lent to it, also of memory that is added; and to all together. */
+uint32_t seat_lent(const struct seat *seat);
+uint64_t places_owed(const struct host *host);
+
+/* Whether somebody waits. */
+bool places_wait(const struct host *host);
+
+/* ---- loans.c */
+
+/* What is lent to it, as the policy has it. */
+VbLoan loan_of(const struct seat *seat);
+
+/* Frames that it holds above its loan. */
+uint32_t loan_excess(const struct seat *seat);
+
+/* Its last report shows fewer pages in its balloon than it was granted: it is named. It counts with
+ * all that it has, unless the kernel has it within its limit. */
+void loan_audit(struct seat *seat);
+
+/* Names each guest that holds more than its loan and its overhead, whose balloon doesn't count any
+ * longer; and each that waits in vain, once. */
+void loans_audit(struct host *host);
+
+#endif
