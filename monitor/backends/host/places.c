@@ -251,6 +251,7 @@ void place_takes_over(struct seat *seat)
     seat->asks = seat->granted_asks = seat->told = 1;
     take_over(seat, message->pages, report);
     seat->granted = 0;
+    host_changed(seat->host, BY_GUESTS);
 }
 
 void place_uncounts(struct seat *seat)

@@ -207,7 +207,7 @@ static void take(struct seat *seat, struct lending_message *message, pid_t sende
         take_report(seat, message);
         folder_keep_pages(seat);
     }
-    bool isnt_admitted = message->kind == TELL_REFUSED && seat->pages == 0 && !seat->refused;
+    bool isnt_admitted = message->kind == TELL_REFUSED && seat_pages(seat) == 0 && !seat->refused;
     seat->host->counters.refused += isnt_admitted;
     if (message->kind == TELL_GONE)
         take_leave(seat);

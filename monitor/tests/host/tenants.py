@@ -57,12 +57,12 @@ class Lender(linux_host.Host):
 
 
 class Guest(threading.Thread):
-    """A guest whose driver answers each question by these figures, and obeys its target, as Linux
-    does."""
+    """A guest whose driver answers each question by these figures, and reads its target, as Linux
+    does, unless it `reads` none."""
 
-    def __init__(self, lender, name, figures, obeys=True, folder=None, client=Client):
+    def __init__(self, lender, name, figures, reads=True, folder=None, client=Client):
         super().__init__(daemon=True)
-        self.figures, self.obeys, self.lender, self.name_of = dict(figures), obeys, lender, name
+        self.figures, self.reads, self.lender, self.name_of = dict(figures), reads, lender, name
         self.gone = False
         self.client = client(f"{lender.folder}/{name}", lambda: "", folder)
         self.ended, self.answers, self.lock = threading.Event(), True, threading.Lock()
@@ -80,14 +80,8 @@ class Guest(threading.Thread):
         self.client.publish(STATISTICS, 0)
         self.client.kick(STATISTICS)
 
-    def read_target(self):
-        """Reads the configuration, with its target."""
-        with self.lock:
-            self.client.send(GET_CONFIG, struct.pack("<III", 0, 8, 0) + bytes(8))
-
     def give(self, pages):
-        """Puts pages into its balloon, by the target that it reads before."""
-        self.read_target()
+        """Puts pages into its balloon."""
         with self.lock:
             self.client.post_pages(INFLATE, pages)
 
@@ -96,19 +90,21 @@ class Guest(threading.Thread):
         with self.lock:
             self.client.post_pages(DEFLATE, pages)
 
+    def answer(self, told):
+        """Reads its target once that has changed, and tells its statistics where it is asked: another process that goes on may tell of what was
+        used long ago."""
+        if told is None and self.reads:
+            self.client.send(GET_CONFIG, struct.pack("<III", 0, 8, 0) + bytes(8))
+        if told == STATISTICS and self.answers and self.client.is_all_used(STATISTICS):
+            self.tell()
+
     def run(self):
         """Answers until it goes, or the lender's process closes its socket."""
         try:
             while not self.ended.wait(0.01):
                 while select.select([self.client.own], [], [], 0)[0]:
                     with self.lock:
-                        # Another process that goes on may tell of what was used long ago.
-                        if (
-                            self.client.told(PATIENCE) == STATISTICS
-                            and self.answers
-                            and self.client.is_all_used(STATISTICS)
-                        ):
-                            self.tell()
+                        self.answer(self.client.told(PATIENCE))
         except (OSError, TypeError, AssertionError, ValueError):
             pass
 

@@ -335,19 +335,18 @@ def test_a_folder_keeps_what_is_no_guests(lend, tmp_path_factory):
 # A guest that has 4096 pages, of which 3000 are in its balloon, and is asked for 2560: those that
 # are missing of 6144 frames, as another one has 4096, and a third one 512, all of which are in its
 # balloon.
-FRAMES, MEMORY, BALLOONED, TARGET, EARLIER, SURPLUS = 6144, 4096, 3000, 2560, 2000, 512
+FRAMES, MEMORY, BALLOONED, TARGET, EARLIER, SURPLUS = 6144, 4096, 3000, 2560, 2048, 512
 
 
 @pytest.mark.parametrize(
     "obeyed, ahead",
-    ((EARLIER, BALLOONED - TARGET + SURPLUS), (TARGET, BALLOONED - TARGET)),
+    ((EARLIER, BALLOONED - EARLIER), (TARGET, BALLOONED - TARGET)),
     ids=("earlier", "last"),
 )
 def test_an_adopted_driver_that_obeys_an_earlier_target_has_what_it_may_take(
     lend, tmp_path_factory, obeyed, ahead
 ):
-    """All that there is room for, up to what the earlier target leaves; and, once it has read the
-    last one, what that leaves."""
+    """What the earlier target leaves; and, once it has read the last one, what that leaves."""
     folder, begin = str(tmp_path_factory.mktemp("l")), time.monotonic()
     listens = [Listens(folder, it) for it in "abc"]
     lender = lend(FRAMES // 256, *STRICT, folder=folder)

@@ -91,9 +91,9 @@ def test_who_comes_waits_for_room(two, lend):
 
 def test_a_deflate_waits_for_its_grant(two):
     lender, (a, b) = two
+    lender.demand("budget 0")
     a.give(GIVEN[:50])
     lender.become("a", ballooned=50, lent=78)
-    lender.demand("budget 0")
     a.take(GIVEN[:10])
     lender.become("a", waits="deflate", ballooned=50, lent=78)
     time.sleep(0.3)
@@ -110,9 +110,9 @@ def test_a_deflate_of_no_page_needs_no_grant(two):
     """All of its numbers are past the end of memory: they are skipped, and nothing is asked for.
     The next deflate is held as any other."""
     lender, (a, _) = two
+    lender.demand("budget 0")
     a.give(GIVEN[:50])
     lender.become("a", ballooned=50, lent=78)
-    lender.demand("budget 0")
     for count in (1, 2):
         a.take([10**6, 10**6 + 1])
         used(a, DEFLATE, count)
@@ -125,17 +125,20 @@ def test_a_deflate_of_no_page_needs_no_grant(two):
 
 def test_what_was_lent_ahead_stays_for_a_moment(two):
     """A driver may just take pages that it was told to, and hears meanwhile that it is to take
-    none: they stay lent for half a second, and no longer."""
+    none: they stay lent until it has read that, or hasn't for a while."""
     lender, (a, _) = two
     lender.demand("budget 0")
     lender.become("a", target=100)
     a.give(GIVEN[:100])
     lender.become("a", ballooned=100, lent=28)
-    begin = time.monotonic()
     lender.demand("budget 1")  # of 256 frames it and the other one have 156: all 100 are lent
+    lender.become("a", asked=0, lent=128)
+    time.sleep(0.2)  # it reads that
+    a.reads = False
+    begin = time.monotonic()
     lender.demand("budget 0")
     lender.become("a", target=128, lent=28)
-    assert 0.5 <= time.monotonic() - begin < 10
+    assert 0.5 <= time.monotonic() - begin
 
 
 def test_a_deflate_waits_until_another_guest_gives(two):
@@ -195,9 +198,9 @@ def test_what_a_target_lets_go_is_lent_before_it_is_asked_for(two, come):
 
 def test_inflates_are_served_while_a_deflate_is_held(two):
     lender, (a, b) = two
-    a.give(GIVEN[:50])
-    lender.become("a", ballooned=50)
     lender.demand("budget 0")
+    a.give(GIVEN[:50])
+    lender.become("a", ballooned=50, lent=78)
     a.take(GIVEN[:10])
     lender.become("a", waits="deflate")
     a.give(GIVEN[50:60])
@@ -290,9 +293,9 @@ def test_memory_that_goes_makes_room(two):
 
 def test_the_next_lender_grants_what_waits(two, lend):
     lender, (a, b) = two
+    lender.demand("budget 0")
     a.give(GIVEN[:50])
     lender.become("a", ballooned=50, lent=78)
-    lender.demand("budget 0")
     a.take(GIVEN[:10])
     lender.become("a", waits="deflate")
     process = process_of(lender, "a")
