@@ -9,6 +9,7 @@ import struct
 import threading
 
 import linux_host
+from bigvasta.connection import Connection
 from vhost_client import (
     BUFFERS,
     DEFLATE,
@@ -44,6 +45,18 @@ class Lender(linux_host.Host):
             lambda: seen() == wanted, lambda: f"{name} has {seen()}, and should have {wanted}"
         )
 
+    def set_budget(self, pages):
+        """Sets the budget to these pages."""
+        with Connection(f"{self.folder}/.control") as it:
+            it.ask("budget", bytes=pages * PAGE)
+
+    def reclaim(self, name, client, pages):
+        """Has a guest's target be as many pages as its balloon has, and its driver read that."""
+        lent = self.guests()[name]["pages"] - pages
+        self.become(name, ballooned=pages)
+        self.demand(f"{name} target {pages}")
+        eventually(lambda: read_target(client) and self.guests()[name]["lent"] == lent)
+
     def said(self):
         """Returns what it has said on standard error."""
         with open(self.log, encoding="latin-1") as log:
@@ -54,6 +67,11 @@ class Lender(linux_host.Host):
         self.process.kill()
         self.process.wait()
         self.process.stdin.close(), self.process.stdout.close()
+
+
+def read_target(client):
+    """Has a client's driver read its configuration, with its target; returns that."""
+    return client.send(GET_CONFIG, struct.pack("<III", 0, 8, 0) + bytes(8))
 
 
 class Guest(threading.Thread):
@@ -94,7 +112,7 @@ class Guest(threading.Thread):
         """Reads its target once that has changed, and tells its statistics where it is asked: another process that goes on may tell of what was
         used long ago."""
         if told is None and self.reads:
-            self.client.send(GET_CONFIG, struct.pack("<III", 0, 8, 0) + bytes(8))
+            read_target(self.client)
         if told == STATISTICS and self.answers and self.client.is_all_used(STATISTICS):
             self.tell()
 

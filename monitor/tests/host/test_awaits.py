@@ -21,9 +21,8 @@ def test_a_client_that_cannot_be_told_is_not_served_on_while_it_waits(lend, come
     other, client = come(lender, "b", {FREE: 100}), Client(lender.add("c"), lambda: "")
     begin(client)
     client.post_pages(INFLATE, GIVEN)
-    lender.become("c", ballooned=len(GIVEN), lent=64 - len(GIVEN))
-    with Connection(f"{lender.folder}/.control") as it:
-        it.ask("budget", bytes=(128 + 64 - len(GIVEN)) * PAGE)
+    lender.reclaim("c", client, len(GIVEN))
+    lender.set_budget(128 + 64 - len(GIVEN))
     client.post_pages(DEFLATE, GIVEN[:TAKEN])
     lender.become("c", waits="deflate")
     client.send(ADD_MEM_REG, client.region_body(1), client.files[1:], flags=1)

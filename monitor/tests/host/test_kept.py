@@ -251,6 +251,7 @@ def a_target_is_read(life):
 def a_deflate_is_held(life):
     life.comes()
     life.gives(GIVEN[:10], 1)
+    life.lender.reclaim("a", life.client, 10)
     life.lender.demand("budget 0")
     life.client.post_pages(DEFLATE, GIVEN[:3])
     life.lender.become("a", waits="deflate")
@@ -261,6 +262,7 @@ def a_deflate_is_held(life):
 def a_second_deflate_is_held(life):
     life.comes()
     life.gives(GIVEN[:10], 1), life.takes(GIVEN[:2], 1)
+    life.lender.reclaim("a", life.client, 8)
     life.lender.demand("budget 0")
     life.client.post_pages(DEFLATE, GIVEN[2:5])
     life.lender.become("a", waits="deflate")

@@ -67,7 +67,7 @@ class Before:
         self.client = Client(f"{self.lender.folder}/a")
         self.client.start()
         self.client.post_pages(INFLATE, GIVEN[:HALF])
-        self.lender.become("a", ready=1, ballooned=HALF, lent=HALF)
+        self.lender.reclaim("a", self.client, HALF)
         self.others.append(Client(self.lender.add("c")))
         self.others[0].negotiate(protocol=OFFERED)
         self.others[0].accepted(
@@ -203,6 +203,7 @@ def test_terms_go_on_whatever_the_later_lender_has_others(lend, come, first, sec
     next_one.give(GIVEN[:10])
     later.become("a", ballooned=10)
     later.demand("terms a least=0"), later.demand("budget 0")
+    later.become("a", lent=ALL - 10)
     next_one.take(GIVEN[:5])
     later.become("a", waits="deflate" if strict else "nothing", ballooned=10 if strict else 5)
 
@@ -211,20 +212,21 @@ def test_a_later_lender_with_a_smaller_budget_lends_nothing_before_there_is_room
     first = lend(2, *STRICT)
     a, b, c = (come(first, it, {FREE: 100}) for it in "abc")
     b.give(GIVEN[:10])
-    first.become("b", ballooned=10, lent=ALL - 10)
+    first.become("b", ballooned=10)
     first.kill()
     later = lend(1, *STRICT, folder=first.folder)
     eventually(
         lambda: sum(it["target"] for it in later.guests().values()) == 3 * ALL - 256, later.guests
     )
-    assert later.counters()["lent"] == 3 * ALL - 10
+    later.become("b", lent=ALL - 10)
     b.take(GIVEN[:5])
+    later.become("b", waits="deflate")
     a.give(GIVEN[:100]), c.give(GIVEN[:22])
     # Of 256 frames 4 are left, and it wants 5.
     later.become("a", lent=ALL - 100), later.become("c", lent=ALL - 22)
     later.become("b", waits="deflate", lent=ALL - 10)
     assert (b.client.used(DEFLATE)[0], later.counters()["lent"]) == (0, 252)
-    c.give(GIVEN[22:23])
+    a.give(GIVEN[100:101])
     used(b, DEFLATE, 1)
     assert lent(later) == 256
 
@@ -233,8 +235,9 @@ def test_a_later_lender_names_who_holds_more_than_its_loan(lend, come):
     """As the earlier one has."""
     first = lend(1, *STRICT)
     a = come(first, "a", {FREE: 100}, "overhead=0")
+    first.demand("budget 0")
     a.give(GIVEN[:50])
-    first.become("a", ballooned=50)
+    first.become("a", ballooned=50, lent=ALL - 50)
     a.fill()
     first.become("a", cooperates=0, lent=ALL)
     first.kill()

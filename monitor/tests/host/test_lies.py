@@ -40,10 +40,10 @@ def test_a_lie_ends_the_service_of_its_process_alone(lend, come, lie):
     lender = lend(1, *STRICT)
     b = come(lender, "b", {FREE: 100})
     b.give(GIVEN[:50])
-    lender.become("b", ballooned=50, lent=ALL - 50)
+    lender.become("b", ballooned=50)
     a = Played(lender, "a", pages=ALL)
     held = lender.counters()["held_kib"]
-    assert lent(lender) == 2 * ALL - 50
+    assert lent(lender) == 2 * ALL
     a.report(**changed)
     eventually(lambda: ended_by(a.listens.child) == signal.SIGKILL)
     eventually(
@@ -54,8 +54,8 @@ def test_a_lie_ends_the_service_of_its_process_alone(lend, come, lie):
     assert lender.counters()["held_kib"] <= held
     b.take(GIVEN[:10])
     used(b, DEFLATE, 1)
-    lender.become("b", lent=ALL - 40)
-    assert lent(lender) == ALL - 40
+    lender.become("b", ballooned=40)
+    assert lent(lender) == ALL
     a.channel.close()
 
 

@@ -25,9 +25,11 @@ pytestmark = pytest.mark.skipif(os.geteuid() != 0, reason="mounts and cgroups ar
 def test_a_limit_follows_its_loan(one):
     lender, a, _, its = one
     assert its.pages() == ALL
+    lender.set_budget(ALL + 78)
     a.give(GIVEN[:50])
     lender.become("a", lent=78, limit=78)
     assert its.pages() == 78
+    lender.set_budget(ALL + 88)
     a.take(GIVEN[:10])
     used(a, DEFLATE, 1)
     assert its.pages() == 88
@@ -48,10 +50,12 @@ def test_a_limit_is_lowered_after_pages_came(one):
 def test_a_limit_is_raised_before_its_grant(one):
     """Its writer is held up: the guest has nothing until that goes on, and nobody else waits."""
     lender, a, b, its = one
+    lender.set_budget(ALL + 78)
     a.give(GIVEN[:50])
     lender.become("a", limit=78)
     writer = writer_of(lender, "a")
     stop(writer)
+    lender.set_budget(ALL + 88)
     a.take(GIVEN[:10])
     lender.become("a", lent=88, waits="deflate")
     b.give(GIVEN[:20]), b.take(GIVEN[:5])

@@ -46,8 +46,10 @@ def test_while_a_limit_is_lowered_no_more_than_it_is_to_be_is_granted(one):
     lender, a, _, its = one
     writer = writer_of(lender, "a")
     stop(writer)
+    lender.set_budget(ALL + LEFT)
     a.give(GIVEN[:50])
     lender.become("a", lent=LEFT)
+    lender.set_budget(ALL + LEFT + 10)
     a.take(GIVEN[:10])
     lender.become("a", waits="deflate", lent=LEFT + 10)
     time.sleep(0.5)
@@ -62,6 +64,7 @@ def test_a_guest_that_holds_more_than_its_limit_allows_counts_like_any_other(one
     lender, a, _, its = one
     if fails:
         its.end()
+    lender.set_budget(ALL + LEFT)
     a.give(GIVEN[:50])
     lender.become("a", lent=LEFT)
     eventually(lambda: failures(lender) >= 1) if fails else lender.become("a", limit=LEFT)
@@ -77,6 +80,7 @@ def test_a_guest_that_holds_more_than_its_limit_allows_counts_like_any_other(one
 def test_a_limit_that_cannot_be_written_is_tried_twice_a_second(one):
     lender, a, _, its = one
     its.end()
+    lender.set_budget(ALL + LEFT)
     begin = time.monotonic()
     a.give(GIVEN[:50])
     eventually(lambda: failures(lender) >= 4)
@@ -110,10 +114,12 @@ def test_what_is_answered_for_an_earlier_client_is_none_of_the_next_ones(one):
     lender, a, _, its = one
     writer = writer_of(lender, "a")
     stop(writer)
+    lender.set_budget(ALL + LEFT)
     a.give(GIVEN[:50])
     lender.become("a", lent=LEFT)
     a.leave()
     lender.become("a", here=0)
+    lender.set_budget(2 * ALL)
     its.end()
     client = Client(f"{lender.folder}/a")
     client.negotiate()

@@ -15,11 +15,12 @@ def given(lend, come):
     """A host with two guests, which have given 50 and 60 pages; and what sets its budget to these
     pages."""
     lender = lend(1, *STRICT)
-    a, b = (come(lender, it, {FREE: 100}) for it in "ab")
+    a, b = (come(lender, name, {FREE: pages}) for name, pages in zip("ab", (50, 60)))
+    lender.set_budget(146)
     a.give(GIVEN[:50]), b.give(GIVEN[:60])
     lender.become("a", ballooned=50, lent=78), lender.become("b", ballooned=60, lent=68)
-    with Connection(f"{lender.folder}/.control") as it:
-        yield lender, a, b, lambda pages: it.ask("budget", bytes=pages * PAGE)
+    a.figures[FREE] = b.figures[FREE] = 100
+    return lender, a, b, lender.set_budget
 
 
 def begin_anew(guest):
@@ -51,7 +52,7 @@ def test_a_deflate_passes_a_new_life(given):
     lender, a, b, set_budget = given
     set_budget(160)  # 146 are lent
     begins = begin_anew(a)
-    lender.become("a", waits="reset", lent=78)
+    lender.become("a", waits="reset", lent=78), lender.become("b", lent=68)
     b.take(GIVEN[:10])
     used(b, DEFLATE, 1)
     lender.become("b", waits="nothing", ballooned=50, lent=78)
@@ -71,7 +72,7 @@ def test_who_waits_for_pages_that_nobody_can_give_is_named_once(given):
     lender, a, b, set_budget = given
     set_budget(150)  # 146 are lent
     begins = begin_anew(a)
-    lender.become("a", waits="reset", lent=78)
+    lender.become("a", waits="reset", lent=78), lender.become("b", lent=68)
     b.take(GIVEN[:10])
     lender.become("b", waits="deflate")
     said = [

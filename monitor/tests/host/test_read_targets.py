@@ -2,15 +2,14 @@
 guests' processes, which say which target a driver has read. Each of these guests is silent: it can
 spare what is in its balloon, and no more."""
 
-import struct
 import time
 
 import pytest
 from bigvasta.connection import Connection
 from played import WAIT_ROOM, Played
-from tenants import FREE
+from tenants import FREE, read_target
 from test_strict import GIVEN, STRICT, lent
-from vhost_client import GET_CONFIG, PAGE
+from vhost_client import PAGE
 
 # Frames of the host, which the first guest has at the beginning; pages of a request of Linux's; and
 # those for which the second one waits.
@@ -69,15 +68,14 @@ def test_a_driver_that_reads_no_target_has_a_moment(play):
     a.deflates(OF_REQUEST)
     a.deflated()
     a.lender.become("a", asked=2 * OF_REQUEST, lent=ALL)
-    begin = time.monotonic()
     a.report(target=2 * OF_REQUEST)
-    a.lender.become("a", lent=ALL - OF_REQUEST)
     a.deflates(OF_REQUEST)
     a.deflated()
-    if time.monotonic() - begin >= LINGERS:
-        pytest.skip("the machine is too busy")
+    a.lender.become("a", asked=OF_REQUEST, lent=ALL)
+    begin = time.monotonic()
     a.report(target=OF_REQUEST)
-    a.lender.become("a", asked=OF_REQUEST, lent=ALL - OF_REQUEST)
+    a.lender.become("a", lent=ALL - OF_REQUEST)
+    assert time.monotonic() - begin >= LINGERS - 0.5
     with Connection(f"{a.lender.folder}/.control") as it:
         it.ask("budget", bytes=(ALL - OF_REQUEST) * PAGE)
     a.deflates(OF_REQUEST)
@@ -91,8 +89,8 @@ def test_a_process_tells_what_its_driver_has_read(lend, come, reads):
     """What was lent ahead stays lent until the driver of a guest that reads targets has read the
     one that rose, or hasn't for a while."""
     lender = lend(1, *STRICT)
-    a, _ = (come(lender, it, {FREE: 100}) for it in "ab")
-    read = lambda: a.client.send(GET_CONFIG, struct.pack("<III", 0, 8, 0) + bytes(8))
+    a, _ = (come(lender, it, {FREE: 100}, reads=False) for it in "ab")
+    read = lambda: read_target(a.client)
     lender.demand("budget 0")
     lender.become("a", asked=100)
     a.give(GIVEN[:100])

@@ -149,11 +149,14 @@ def test_a_deflate_waits_until_another_guest_gives(two):
     client.negotiate()
     comes = Later(client.hand_over_memory)
     eventually(lambda: waits_of(lender, "c") == "room")
+    lender.become("a", lent=78)
     # A deflate is before the one who comes, whose 128 pages find 50.
     a.take(GIVEN[:10])
     used(a, DEFLATE, 1)
     lender.become("a", waits="nothing", ballooned=40, lent=88)
     assert comes.waits(0.2)
+    a.figures[FREE] = 0
+    lender.become("b", target=88)
     b.give(GIVEN[:88])
     comes.ends()
     assert lent(lender) == 256
@@ -203,12 +206,12 @@ def test_inflates_are_served_while_a_deflate_is_held(two):
     lender.become("a", ballooned=50, lent=78)
     a.take(GIVEN[:10])
     lender.become("a", waits="deflate")
-    a.give(GIVEN[50:60])
-    lender.become("a", waits="deflate", ballooned=60, lent=68)
+    a.give(GIVEN[50:55])
+    lender.become("a", waits="deflate", ballooned=55, lent=78)
     a.take(GIVEN[10:20])  # the next one is on the queue
     lender.demand("budget 1")
     used(a, DEFLATE, 2)
-    lender.become("a", waits="nothing", ballooned=40)
+    lender.become("a", waits="nothing", ballooned=35)
 
 
 def test_who_goes_makes_room(two):
@@ -256,17 +259,20 @@ def test_memory_that_grows_waits(two):
     client = Client(lender.add("c"), lambda: "")
     client.negotiate(protocol=OFFERED)
     a.give(GIVEN[:64])
+    a.figures[FREE] = 0
     client.accepted(ADD_MEM_REG, client.region_body(0), client.files[:1])
     lender.become("c", pages=64, lent=64)
     grows = Later(lambda: client.accepted(ADD_MEM_REG, client.region_body(1), client.files[1:]))
     assert grows.waits()
     lender.become("c", waits="room", lent=64)
+    lender.become("b", target=64)
     b.give(GIVEN[:10])
     lender.become("b", ballooned=10, lent=118)
     # A deflate is before it.
     a.take(GIVEN[:10])
     used(a, DEFLATE, 1)
     lender.become("a", waits="nothing", ballooned=54, lent=74)
+    lender.become("b", target=74)
     b.give(GIVEN[10:74])
     grows.ends()
     lender.become("c", pages=128, lent=128, waits="nothing")
@@ -279,6 +285,7 @@ def test_memory_that_goes_makes_room(two):
     client = Client(lender.add("c"), lambda: "")
     client.negotiate(protocol=OFFERED)
     a.give(GIVEN[:64]), b.give(GIVEN[:64])
+    a.figures[FREE] = b.figures[FREE] = 0
     for number in range(2):
         client.accepted(ADD_MEM_REG, client.region_body(number), client.files[number : number + 1])
     lender.become("c", pages=128, lent=128)
