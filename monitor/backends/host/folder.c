@@ -13,6 +13,9 @@ enum { MOST_KEPT = MOST_PATH + MOST_LIMIT_WORDS };
 /* The folder of channels; and what 0.3.0 had before a guest's name in place of it. */
 static const char channels_name[] = ".channels", earlier_mark[] = "+";
 
+/* What is before a guest's name in that folder, of the file that the writer of its limit locks. */
+static const char lock_mark[] = ".";
+
 /* How what is kept of a guest begins, and how many numbers follow. 0.3.0 kept its overhead and its
  * limit alone. */
 static const char terms_word[] = "terms ";
@@ -63,9 +66,33 @@ bool folder_lock(struct host *host)
     return false;
 }
 
+int folder_limit_lock(const struct seat *seat)
+{
+    char name[MOST_NAME + 1];
+    snprintf(name, sizeof name, "%s%s", lock_mark, seat->name);
+    return openat(seat->host->channels, name, O_RDONLY | O_CREAT | O_NOFOLLOW | O_CLOEXEC, S_IRUSR);
+}
+
+/* Removes the files that writers of limits have locked. */
+static void remove_locks(const struct host *host)
+{
+    char channels[MOST_PATH];
+    struct dirent **found;
+    snprintf(channels, sizeof channels, "/proc/self/fd/%d", host->channels);
+    int count = scandir(channels, &found, NULL, NULL);
+    for (int i = 0; i < count; i++) {
+        if (found[i]->d_name[0] == *lock_mark && is_name(found[i]->d_name + 1))
+            unlinkat(host->channels, found[i]->d_name, 0);
+        free(found[i]);
+    }
+    if (count >= 0)
+        free(found);
+}
+
 void folder_leave(const struct host *host)
 {
     char path[MOST_KEPT];
+    remove_locks(host);
     snprintf(path, sizeof path, "%s/%s", host->folder, channels_name);
     rmdir(path);
 }

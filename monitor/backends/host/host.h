@@ -219,6 +219,9 @@ bool folder_lock(struct host *host);
 /* The host has ended with its guests: no lender comes later. */
 void folder_leave(const struct host *host);
 
+/* Opens the file that the writer of a guest's limit locks; -1 with errno. */
+int folder_limit_lock(const struct seat *seat);
+
 /* Moves the channel of a process of 0.3.0 to the folder of channels; false where there is none. */
 bool folder_moves_channel(const struct seat *seat);
 

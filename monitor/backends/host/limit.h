@@ -44,8 +44,12 @@ struct limit_outcome {
     char words[96];
 };
 
+/* The file that a writer locks before its first write, and until it ends. */
+enum { LIMIT_LOCK = 3 };
+
 /* Serves requests of a socket until its other end is closed: the process of one guest's limit,
- * which alone waits for the kernel. */
+ * which alone waits for the kernel, and for the writer of an earlier lender, which may outlive
+ * that. */
 int limit_writer_run(int channel);
 
 #endif

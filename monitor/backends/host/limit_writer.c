@@ -8,6 +8,7 @@
 #include <inttypes.h>
 #include <stdio.h>
 #include <string.h>
+#include <sys/file.h>
 #include <sys/mount.h>
 #include <sys/socket.h>
 #include <unistd.h>
@@ -77,6 +78,9 @@ int limit_writer_run(int channel)
 {
     struct limit_request request;
     struct limit_outcome outcome;
+    while (flock(LIMIT_LOCK, LOCK_EX))
+        if (errno != EINTR)
+            return 1;
     for (ssize_t got; (got = recv(channel, &request, sizeof request, 0)) != 0;) {
         if (got < 0 && errno == EINTR)
             continue;

@@ -4,6 +4,7 @@
   * raised. */
 #include "places.h"
 
+#include <fcntl.h>
 #include <inttypes.h>
 #include <signal.h>
 #include <sys/socket.h>
@@ -41,7 +42,7 @@ bool limit_allows(const struct seat *seat)
 }
 
 /* Becomes the writer, which nobody waits for; its words name whose it is. */
-static void become_writer(int channel, const char *path)
+static void become_writer(int channel, int lock, const char *path)
 {
     sigset_t none;
     if (fork() != 0)
@@ -50,6 +51,8 @@ static void become_writer(int channel, const char *path)
     sigprocmask(SIG_SETMASK, &none, NULL);
     for (int file = STDIN_FILENO; file <= STDERR_FILENO; file++)
         dup2(channel, file);
+    if (dup2(lock, LIMIT_LOCK) == lock)
+        fcntl(lock, F_SETFD, 0);
     execl("/proc/self/exe", "vhost_user_host", writer_word, path, (char *)NULL);
     _exit(1);
 }
@@ -57,13 +60,19 @@ static void become_writer(int channel, const char *path)
 /* Starts a writer; false where there can't be one, with errno. */
 static bool start_writer(struct seat *seat)
 {
-    int pair[2];
-    if (socketpair(AF_UNIX, SOCK_SEQPACKET | SOCK_CLOEXEC, 0, pair))
+    int pair[2], lock = folder_limit_lock(seat);
+    if (lock < 0)
         return false;
+    if (socketpair(AF_UNIX, SOCK_SEQPACKET | SOCK_CLOEXEC, 0, pair)) {
+        int why = errno;
+        file_close(lock);
+        return errno = why, false;
+    }
     pid_t child = fork();
     if (child == 0)
-        become_writer(pair[1], seat->path);
+        become_writer(pair[1], lock, seat->path);
     int why = child > 0 && waitpid(child, NULL, 0) == child ? 0 : errno;
+    file_close(lock);
     file_close(pair[1]);
     if (why == 0)
         return seat->writer.channel = pair[0], true;

@@ -60,17 +60,27 @@ static bool goes_by_steps(const struct seat *seat)
     return host->step > 0 && seat->target > seat_told(seat) && is_calm;
 }
 
+/* What is wanted of it without steps: what was decided. Of a guest whose driver isn't there nothing
+ * is lent for a target, as nobody could take it. */
+static uint32_t all_wanted(const struct seat *seat)
+{
+    const VbSeat *its = place_of(seat);
+    uint32_t given = smaller(its->ballooned, its->least_target);
+    bool is_idle = seat->holds && its->granted > 0 && !seat_is_ready(seat);
+    return is_idle && given > seat->target ? given : seat->target;
+}
+
 void seat_set_target(struct seat *seat, uint32_t pages)
 {
     seat->target = pages;
     if (!goes_by_steps(seat))
-        place_wants(seat, pages);
+        place_wants(seat, all_wanted(seat));
 }
 
 bool seat_is_behind(const struct seat *seat)
 {
     bool is_told = seat->told == 0 || target_is_received(seat);
-    return seat_is_taken(seat) && (place_of(seat)->wanted != seat->target || !is_told);
+    return seat_is_taken(seat) && (place_of(seat)->wanted != all_wanted(seat) || !is_told);
 }
 
 void seat_step(struct seat *seat, int64_t milliseconds)
@@ -81,8 +91,8 @@ void seat_step(struct seat *seat, int64_t milliseconds)
         step = (uint64_t)seat_pages(seat) * (uint64_t)milliseconds /
                (UINT64_C(1000) * seat->host->step);
     step = step > 0 ? step : 1;
-    if (place_of(seat)->wanted != seat->target)
-        place_wants(seat, step < seat->target - told ? told + (uint32_t)step : seat->target);
+    if (place_of(seat)->wanted != all_wanted(seat))
+        place_wants(seat, step < seat->target - told ? told + (uint32_t)step : all_wanted(seat));
 }
 
 void seat_renew(struct seat *seat)

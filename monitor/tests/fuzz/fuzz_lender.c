@@ -1,8 +1,8 @@
 /* A lender, fuzzed: any messages of three guests' processes, which may obey it, or lie, or go; and
- * budgets, floors and terms that change. After each step every loan is one that the library may be
- * given, and in the end no file is left open. */
+ * budgets, floors and terms that change. After each step nobody waits who could be granted, and in
+ * the end no file is left open. */
 #define _GNU_SOURCE
-#include "../../backends/host/loans.h"
+#include "../../backends/host/places.h"
 #include "script.h"
 
 #include <stddef.h>
@@ -51,7 +51,7 @@ static void process_begins(unsigned number, bool adopted)
     seat->channel = ends[0];
     processes[number] = ends[1];
     seat->here = true;
-    seat->adopts = seat->adopted = seat->asks_terms = adopted;
+    seat->adopts = seat->asks_terms = adopted;
     seat->adopts_until = loop_now() + TELLS_IN;
     seat->holds = seat->terms.strict;
     reports[number] = (struct lending_message){.kind = TELL_REPORT, .holds = seat->holds};
@@ -167,7 +167,7 @@ static void look(unsigned number)
         seat_look(seat, true);
         seat->silent += seconds % 2;
     }
-    demand(!seat_is_taken(seat) || seat_is_behind(seat) || seat->target == seat->told);
+    demand(!seat_is_taken(seat) || seat_is_behind(seat) || seat->target <= place_of(seat)->wanted);
     seat_step(seat, STEP_MS);
     if (!seat_rests(seat))
         seat_remind(seat);
@@ -183,19 +183,20 @@ static void serve(void)
             seat_ended(seat);
     }
     question_answer(&host);
+    places_follow_budget(&host);
     if (host.news)
         policy_decide(&host);
-    loans_grant(&host);
 }
 
-/* What the library is given of each loan. */
-static void check_loans(void)
+/* Nobody waits who could be granted, and nobody has more pages than there may be. */
+static void check_places(void)
 {
+    size_t first = vb_host_first(host.places, host.place_count);
+    uint32_t asked = first == SIZE_MAX ? 0 : vb_seat_asked(&host.places[first]);
+    demand(first == SIZE_MAX || places_owed(&host) + asked > host.lends.frames);
     for (unsigned i = 0; i < MOST_PLACES; i++) {
-        const VbLoan *loan = &host.loans[i];
-        demand((uint64_t)loan->lent + loan->ballooned >= loan->pages &&
-               loan->pages >= (uint64_t)loan->lent + loan->asked);
-        demand(loan->pages <= MOST_SET);
+        const VbSeat *its = &host.places[i];
+        demand(its->pages <= MOST_SET && (!vb_seat_waits(its) || vb_seat_asked(its) > 0));
     }
     for (unsigned i = 0; i < SEATS; i++)
         demand(host_held(&host) >= host.seats[i]->report.held_kib);
@@ -241,7 +242,8 @@ static void begin_once(void)
 static void begin(void)
 {
     unsigned kind = next_byte();
-    memset(host.loans, 0, sizeof host.loans);
+    memset(host.places, 0, sizeof host.places);
+    host.lends = (VbHost){0};
     now = (struct timespec){1, 0};
     host.frames = FRAMES;
     host.floor = kind / 16;
@@ -267,7 +269,7 @@ int LLVMFuzzerTestOneInput(const uint8_t *data, size_t size)
     while (script_goes_on()) {
         act();
         serve();
-        check_loans();
+        check_places();
     }
     for (unsigned i = 0; i < SEATS; i++)
         process_goes(i);

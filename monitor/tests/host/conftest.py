@@ -101,11 +101,13 @@ def limits(request, tmp_path):
 
 @pytest.fixture
 def one(lend, come, limits):
-    """A host with 256 frames, a guest that has a limit, and one that has none."""
+    """A host, a guest that has a limit and is asked for 50 of its pages, and one that has none."""
     lender, its = lend(1, *STRICT), limits("a")
     guest = come(lender, "a", {FREE: 100}, f"overhead=0 limit={its.term}")
     other = come(lender, "b", {FREE: 100})
     lender.become("a", limit=128)
+    lender.set_budget(256 - 50)
+    lender.become("a", asked=50)
     return lender, guest, other, its
 
 

@@ -147,6 +147,7 @@ def stuck(lend, come):
     a.give(list(range(PAGES, PAGES + 60))), b.give(
         [*range(PAGES, PAGES + 64), *range(PAGES_OF_ALL + 20, PAGES_OF_ALL + 24)]
     )
+    a.figures, b.figures = {FREE: 0}, {FREE: 0}
     come(first, "c", {FREE: 0})
     assert first.counters()["lent"] == 256
     process = process_of(first, "b")

@@ -233,9 +233,9 @@ def test_a_later_lender_with_a_smaller_budget_lends_nothing_before_there_is_room
 
 def test_a_later_lender_names_who_holds_more_than_its_loan(lend, come):
     """As the earlier one has."""
-    first = lend(1, *STRICT)
-    a = come(first, "a", {FREE: 100}, "overhead=0")
-    first.demand("budget 0")
+    first = lend(2, *STRICT)
+    a, _, _ = (come(first, it, {FREE: 100}, "overhead=0") for it in "abc")
+    first.set_budget(3 * ALL - 50)
     a.give(GIVEN[:50])
     first.become("a", ballooned=50, lent=ALL - 50)
     a.fill()

@@ -25,7 +25,6 @@ pytestmark = pytest.mark.skipif(os.geteuid() != 0, reason="mounts and cgroups ar
 def test_a_limit_follows_its_loan(one):
     lender, a, _, its = one
     assert its.pages() == ALL
-    lender.set_budget(ALL + 78)
     a.give(GIVEN[:50])
     lender.become("a", lent=78, limit=78)
     assert its.pages() == 78
@@ -50,7 +49,6 @@ def test_a_limit_is_lowered_after_pages_came(one):
 def test_a_limit_is_raised_before_its_grant(one):
     """Its writer is held up: the guest has nothing until that goes on, and nobody else waits."""
     lender, a, b, its = one
-    lender.set_budget(ALL + 78)
     a.give(GIVEN[:50])
     lender.become("a", limit=78)
     writer = writer_of(lender, "a")
@@ -82,7 +80,9 @@ def test_who_comes_has_its_limit_first(lend, limits):
 
 def test_overhead_is_beside_the_loan(lend, come, limits):
     lender, its = lend(1, *STRICT), limits("a")
-    come(lender, "a", {FREE: 100}, f"overhead=1 limit={its.term}").give(GIVEN[:50])
+    guest = come(lender, "a", {FREE: 100}, f"overhead=1 limit={its.term}")
+    lender.set_budget(78)
+    guest.give(GIVEN[:50])
     lender.become("a", limit=78 + 256)
     assert its.pages() == 78 + 256
 
@@ -93,12 +93,11 @@ def test_a_limit_goes_on_with_the_next_lender(one, lend):
     lender.become("a", limit=78)
     lender.kill()
     second = lend(1, *STRICT, folder=lender.folder)
-    # What the first one may have lent ahead is lent again, for a moment.
-    second.become("a", limit=128, overhead=0)
-    second.become("a", limit=78, overhead=0)
+    # Of its frames it has enough for both.
+    second.become("a", limit=ALL, overhead=0)
     a.take(GIVEN[:10])
     used(a, DEFLATE, 1)
-    assert its.pages() == 88
+    assert its.pages() == ALL
     second.demand("remove a")
     assert os.readlink(f"{lender.folder}/=b").endswith(" none") and not os.path.lexists(
         f"{lender.folder}/=a"
@@ -138,6 +137,7 @@ def test_a_limit_that_cannot_be_written_is_named(one):
     a.give(GIVEN[:50])
     lender.become("a", limit=78)
     its.end()
+    lender.set_budget(ALL + 88)
     a.take(GIVEN[:10])
     eventually(lambda: lender.guests()["a"]["limit_failures"] >= 2)
     assert a.client.used(DEFLATE)[0] == 0
@@ -158,12 +158,14 @@ def test_a_guest_cannot_pass_its_limit(lend, come, tmp_path):
         guest = come(lender, "a", {FREE: 100}, folder=its.path)
         guest.fill()
         lender.become("a", limit=ALL, held_kib=4 * ALL)
+        lender.set_budget(78)
         guest.give(GIVEN[:50])
         lender.become("a", limit=78, held_kib=4 * 78)
         address = GIVEN[0] * PAGE
         with pytest.raises(OSError) as refused:
             guest.client.write(address, b"x")
         assert refused.value.errno == errno.ENOSPC
+        lender.set_budget(ALL)
         guest.take(GIVEN[:1])
         used(guest, DEFLATE, 1)
         guest.client.write(address, b"x")

@@ -46,7 +46,6 @@ def test_while_a_limit_is_lowered_no_more_than_it_is_to_be_is_granted(one):
     lender, a, _, its = one
     writer = writer_of(lender, "a")
     stop(writer)
-    lender.set_budget(ALL + LEFT)
     a.give(GIVEN[:50])
     lender.become("a", lent=LEFT)
     lender.set_budget(ALL + LEFT + 10)
@@ -64,7 +63,6 @@ def test_a_guest_that_holds_more_than_its_limit_allows_counts_like_any_other(one
     lender, a, _, its = one
     if fails:
         its.end()
-    lender.set_budget(ALL + LEFT)
     a.give(GIVEN[:50])
     lender.become("a", lent=LEFT)
     eventually(lambda: failures(lender) >= 1) if fails else lender.become("a", limit=LEFT)
@@ -80,7 +78,6 @@ def test_a_guest_that_holds_more_than_its_limit_allows_counts_like_any_other(one
 def test_a_limit_that_cannot_be_written_is_tried_twice_a_second(one):
     lender, a, _, its = one
     its.end()
-    lender.set_budget(ALL + LEFT)
     begin = time.monotonic()
     a.give(GIVEN[:50])
     eventually(lambda: failures(lender) >= 4)
@@ -96,6 +93,7 @@ def test_the_next_client_has_its_limit_written_before_it_has_room(one):
     writer = writer_of(lender, "a")
     a.leave()
     lender.become("a", here=0)
+    lender.set_budget(2 * ALL)
     stop(writer)
     client = Client(f"{lender.folder}/a")
     client.negotiate()
@@ -114,7 +112,6 @@ def test_what_is_answered_for_an_earlier_client_is_none_of_the_next_ones(one):
     lender, a, _, its = one
     writer = writer_of(lender, "a")
     stop(writer)
-    lender.set_budget(ALL + LEFT)
     a.give(GIVEN[:50])
     lender.become("a", lent=LEFT)
     a.leave()
@@ -146,6 +143,7 @@ def test_another_limit_is_written_and_the_one_before_stays(one, limits):
         lender.become("a", limit=LEFT)
         assert its.pages() == LEFT
         eventually(lambda: has_ended(writer), "its writer lives on")
+    lender.set_budget(ALL + LEFT + 10)
     a.take(GIVEN[:10])
     used(a, DEFLATE, 1)
     assert (second.pages(), first.pages(), files_of(lender.process.pid)) == (LEFT + 10, LEFT, files)
@@ -175,9 +173,12 @@ def test_a_grant_is_told_as_its_limit_is_raised(lend, come, limits):
     """Its process doesn't report before, and isn't asked."""
     lender, its = lend(1, *QUIET), limits("a")
     a = come(lender, "a", {FREE: 100}, f"overhead=0 limit={its.term}")
+    lender.set_budget(LEFT)
     a.give(GIVEN[:50])
     lender.become("a", limit=LEFT)
     a.take(GIVEN[:10])
+    lender.become("a", waits="deflate")
+    lender.set_budget(LEFT + 10)
     used(a, DEFLATE, 1)
     assert its.pages() == LEFT + 10
 
@@ -190,6 +191,8 @@ def test_a_limit_allows_a_page_where_nothing_is_lent(lend, tmp_path):
         lender.demand(f"terms a overhead=0 limit={its.term}")
         lender.become("a", limit=ALL)
         guest.report(ballooned=ALL)
+        lender.become("a", ballooned=ALL), lender.demand(f"a target {ALL}")
+        guest.report(target=ALL, obeyed=ALL + 1)
         lender.become("a", lent=0, limit=1)
         assert its.pages() == 1
         guest.leave()
@@ -204,6 +207,7 @@ def test_the_kernel_says_why_a_limit_cannot_be_written(lend, come, tmp_path):
         a = come(lender, "a", {FREE: 100}, f"overhead=0 limit={its.term}")
         with open(f"{its.path}/other", "wb") as other:
             os.posix_fallocate(other.fileno(), 0, ALL * PAGE)
+        lender.set_budget(LEFT)
         a.give(GIVEN[:50])
         eventually(lambda: failures(lender) >= 1)
         assert (

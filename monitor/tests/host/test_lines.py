@@ -103,6 +103,7 @@ def test_what_was_given_for_an_earlier_target_is_taken_back_at_once(given):
     since it could give none meanwhile."""
     lender, a, b, set_budget = given
     a.figures, b.figures = {FREE: 30}, {FREE: 0}
+    lender.become("a", spare=80), lender.become("b", spare=60)
     set_budget(146)
     lender.become("a", asked=80), lender.become("b", target=30)
     a.figures = {FREE: 0}

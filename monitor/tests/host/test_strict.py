@@ -156,7 +156,7 @@ def test_a_deflate_waits_until_another_guest_gives(two):
     lender.become("a", waits="nothing", ballooned=40, lent=88)
     assert comes.waits(0.2)
     a.figures[FREE] = 0
-    lender.become("b", target=88)
+    lender.become("b", target=100)
     b.give(GIVEN[:88])
     comes.ends()
     assert lent(lender) == 256
@@ -265,14 +265,13 @@ def test_memory_that_grows_waits(two):
     grows = Later(lambda: client.accepted(ADD_MEM_REG, client.region_body(1), client.files[1:]))
     assert grows.waits()
     lender.become("c", waits="room", lent=64)
-    lender.become("b", target=64)
+    lender.become("b", target=100)
     b.give(GIVEN[:10])
     lender.become("b", ballooned=10, lent=118)
     # A deflate is before it.
     a.take(GIVEN[:10])
     used(a, DEFLATE, 1)
     lender.become("a", waits="nothing", ballooned=54, lent=74)
-    lender.become("b", target=74)
     b.give(GIVEN[10:74])
     grows.ends()
     lender.become("c", pages=128, lent=128, waits="nothing")
