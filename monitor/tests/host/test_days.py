@@ -86,10 +86,18 @@ def numbers_of(said):
 
 
 # Wrong hosts of tests/mutants/wrong_host.c, and what the first of the days says of each.
+HAVE_MORE, WAITS = "have more than the budget", "waits for a deflate"
 WRONG = {
-    "11": "waits for a deflate",
-    "12": "waits for a deflate",
-    "13": "have more than the budget",
+    "11": WAITS,
+    "12": WAITS,
+    "13": HAVE_MORE,
+    "14": WAITS,
+    "15": HAVE_MORE,
+    "16": HAVE_MORE,
+    "17": WAITS,
+    "18": WAITS,
+    "19": WAITS,
+    "20": WAITS,
 }
 
 

@@ -11,6 +11,13 @@
  *    11  tells a guest all of a target that falls, and lends only a part of that
  *    12  takes a target for read before its driver has read it
  *    13  grants as if there were a MiB more
+ *    14  never says what is wanted of a guest
+ *    15  grants each deflate that is held, whether or not it is due
+ *    16  counts the balloon of the report before, where that had more
+ *    17  counts each report's deflate as another one
+ *    18  never says that there is a budget, once all guests have reported
+ *    19  takes a report for that of the guest at the next place
+ *    20  sends no target
  *
  * 5 and 8 are wrong in guests' processes (wrong_lent.c).
  */
@@ -29,7 +36,14 @@ enum {
     GRANTS_EARLY,
     NONE_AHEAD,
     READS_EARLY,
-    GRANTS_MORE
+    GRANTS_MORE,
+    WANTS_NOTHING,
+    GRANTS_ALL,
+    COUNTS_BEFORE,
+    COUNTS_TWICE,
+    NO_BUDGET,
+    NEXT_PLACE,
+    TELLS_NONE
 };
 
 VbTargets __real_vb_guest_targets(const VbBudget *, const VbHostGuest *, size_t, VbShare *, size_t,
@@ -52,6 +66,11 @@ bool __real_limit_allows(const struct seat *);
 bool __wrap_limit_allows(const struct seat *);
 uint32_t __real_vb_host_step(VbHost *, VbSeat *, size_t, const VbHostEvent *);
 uint32_t __wrap_vb_host_step(VbHost *, VbSeat *, size_t, const VbHostEvent *);
+
+uint32_t __real_vb_seat_due_grant(const VbSeat *, const VbReport *);
+uint32_t __wrap_vb_seat_due_grant(const VbSeat *, const VbReport *);
+void __real_seat_tell(struct seat *);
+void __wrap_seat_tell(struct seat *);
 
 static int wrong(void)
 {
@@ -154,18 +173,47 @@ bool __wrap_limit_allows(const struct seat *seat)
     return wrong() == GRANTS_EARLY || __real_limit_allows(seat);
 }
 
-/* A report of a driver that has read its last target, whether or not it has. */
-static void read_by_all(const VbSeat *seats, VbHostEvent *event)
+uint32_t __wrap_vb_seat_due_grant(const VbSeat *seat, const VbReport *report)
 {
-    event->report.target_number = seats[event->guest].target_number;
-    event->report.read_target = seats[event->guest].target;
+    return wrong() == GRANTS_ALL ? report->held > 0 : __real_vb_seat_due_grant(seat, report);
+}
+
+void __wrap_seat_tell(struct seat *seat)
+{
+    if (wrong() != TELLS_NONE)
+        __real_seat_tell(seat);
+}
+
+/* What is wrong of a report. */
+static void change_report(const VbSeat *seats, const VbHostEvent *event, VbReport *report)
+{
+    static uint32_t before[MOST_PLACES];
+    static uint64_t count;
+    uint32_t ballooned = report->ballooned;
+    if (wrong() == READS_EARLY) {
+        report->target_number = seats[event->guest].target_number;
+        report->read_target = seats[event->guest].target;
+    }
+    if (wrong() == COUNTS_BEFORE && before[event->guest] > ballooned)
+        report->ballooned = before[event->guest];
+    if (wrong() == COUNTS_TWICE)
+        report->deflates += ++count;
+    before[event->guest] = ballooned;
+}
+
+/* Whether an event is left out. */
+static bool is_left_out(const VbHostEvent *event)
+{
+    return (wrong() == WANTS_NOTHING && event->kind == VB_WANTS) ||
+           (wrong() == NO_BUDGET && event->kind == VB_BUDGET);
 }
 
 /* Falls to what is wanted, and lends nothing by that. */
 static void lend_none(VbSeat *seats, size_t count)
 {
     for (size_t i = 0; i < count; i++)
-        if (seats[i].granted > 0 && !vb_seat_waits(&seats[i]) && seats[i].target > seats[i].wanted) {
+        if (seats[i].granted > 0 && !vb_seat_waits(&seats[i]) &&
+            seats[i].target > seats[i].wanted) {
             seats[i].target = seats[i].wanted;
             seats[i].target_number++;
         }
@@ -175,13 +223,15 @@ uint32_t __wrap_vb_host_step(VbHost *host, VbSeat *seats, size_t count, const Vb
 {
     VbHost other = *host;
     VbHostEvent changed = *event;
-    if (wrong() == GRANTS_MORE && event->kind != VB_BUDGET)
-        other.frames += PAGES_PER_MIB;
-    if (wrong() == READS_EARLY && event->kind == VB_HEARS)
-        read_by_all(seats, &changed);
-    uint32_t code = __real_vb_host_step(wrong() == GRANTS_MORE ? &other : host, seats, count, &changed);
-    if (wrong() == GRANTS_MORE && event->kind == VB_BUDGET)
-        host->frames = event->frames;
+    if (is_left_out(event))
+        return VB_OK;
+    if (event->kind == VB_HEARS)
+        change_report(seats, event, &changed.report);
+    if (wrong() == NEXT_PLACE && event->kind == VB_HEARS)
+        changed.guest = (event->guest + 1) % count;
+    other.frames += PAGES_PER_MIB;
+    bool has_more = wrong() == GRANTS_MORE && event->kind != VB_BUDGET;
+    uint32_t code = __real_vb_host_step(has_more ? &other : host, seats, count, &changed);
     if (wrong() == NONE_AHEAD)
         lend_none(seats, count);
     return code;
