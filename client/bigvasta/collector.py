@@ -17,6 +17,7 @@ HOST_BYTES = (
     ("held", "held", "Memory that all guests' files hold"),
     ("lent", "lent", "Memory that is lent to all guests"),
     ("missing", "missing", "Memory by which the guests can't give what is missing"),
+    ("overdrawn", "overdrawn", "Memory that is lent above the budget"),
 )
 HOST_COUNTS = (
     ("guests", "guests", "Guests that the host has"),

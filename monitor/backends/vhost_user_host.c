@@ -41,6 +41,7 @@
  * and the guests; SIGHUP has it read anew. --log-level: error, warning, notice, info (as it is) or
  * debug.
  *
+ * --overdraft: pages above the budget that are lent where all guests wait for each other (0).
  * --floor: what each guest keeps free (12 MiB). --step: a target grows by one part in N of the
  * guest in a second, while the host is within its budget (8; 0: at once). --strict: guests'
  * deflates and resets wait for their grant, and so do newcomers. --strict-pages: a page number past
@@ -73,7 +74,7 @@ static bool read_mebibytes(const char *word, void *at)
     return read;
 }
 
-static bool read_step(const char *word, void *at)
+static bool read_number_of(const char *word, void *at)
 {
     uint64_t number;
     bool read = read_number(word, 10, UINT32_MAX, &number);
@@ -96,6 +97,8 @@ static void take_config(struct host *host, const struct config *config)
         host->folder = config->fixed.folder;
     if (host->frames == 0 && config->budget != UINT32_MAX)
         host->frames = config->budget;
+    if (host->lends.overdraft == UINT32_MAX)
+        host->lends.overdraft = config->overdraft != UINT32_MAX ? config->overdraft : 0;
     if (host->floor == UINT32_MAX)
         host->floor = config->floor != UINT32_MAX ? config->floor : FLOOR_MIB * PAGES_PER_MIB;
     if (host->period == 0)
@@ -103,7 +106,8 @@ static void take_config(struct host *host, const struct config *config)
 }
 
 static const char help[] =
-    "vhost_user_host FOLDER --budget MIB [--floor MIB] [--period MS] [--step N] [--strict] "
+    "vhost_user_host FOLDER --budget MIB [--floor MIB] [--period MS] [--step N] [--overdraft PAGES] "
+    "[--strict] "
     "[--strict-pages] [--events] "
     "[--features HEX] [--lines N] [--program PATH] [--no-sandbox] [--end-with-lender] [--leave]\n"
     "                [--config FILE] [--control PATH] [--control-mode OCTAL] [--control-group "
@@ -115,7 +119,8 @@ static enum command_line read_words(struct host *host, struct service *service, 
 {
     const struct option_row rows[] = {{"budget", .read = read_mebibytes, .at = &host->frames},
                                       {"floor", .read = read_mebibytes, .at = &host->floor},
-                                      {"step", .read = read_step, .at = &host->step},
+                                      {"step", .read = read_number_of, .at = &host->step},
+                                      {"overdraft", .read = read_number_of, .at = &host->lends.overdraft},
                                       {"period", .read = read_period, .at = &host->period},
                                       {"features", .read = read_features, .at = &host->features},
                                       {"lines", .read = read_lines, .at = &most_lines},
@@ -132,7 +137,7 @@ static enum command_line read_words(struct host *host, struct service *service, 
                                       {0}};
     host->features = USUAL_FEATURES;
     host->step = STEP;
-    host->floor = UINT32_MAX;
+    host->floor = host->lends.overdraft = UINT32_MAX;
     service_defaults(service);
     enum command_line line = options_read(count, words, rows, &host->folder);
     take_config(host, &service->config);
@@ -200,6 +205,15 @@ static int become(const struct host *host, const struct service *service, char *
     return 2;
 }
 
+/* Whether its overdraft may be as large; says why not. */
+static bool can_overdraw(struct host *host)
+{
+    const char *fault = host_set_overdraft(host, host->lends.overdraft);
+    if (fault)
+        complain("overdraft: %s", fault);
+    return !fault;
+}
+
 int main(int count, char **words)
 {
     static struct host host;
@@ -214,7 +228,7 @@ int main(int count, char **words)
         return line == LINE_WRONG ? 2 : 0;
     process_allow_files(FILES_OF_LENDER + MOST_GUESTS * FILES_OF_SEAT +
                         CONTROL_SOCKETS * MOST_CONTROL_CLIENTS);
-    if (!can_be_shown(host.folder) || !can_offer(host.features) || !find_program(&host) ||
+    if (!can_overdraw(&host) || !can_be_shown(host.folder) || !can_offer(host.features) || !find_program(&host) ||
         !folder_lock(&host) || !answers_begin(&host.answers))
         return 2;
     folder_take_over(&host);

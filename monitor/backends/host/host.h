@@ -133,6 +133,13 @@ struct host_counters {
     uint64_t grants;                          /* of room, deflates and resets that waited */
 };
 
+/* Who has waited first, with so much lent to all; and since when nothing of that has changed. */
+struct stand {
+    size_t first;
+    uint64_t lent;
+    int64_t since;
+};
+
 /* The answers of standard output that nobody has read yet. */
 struct answers {
     FILE *out;
@@ -162,6 +169,7 @@ struct host {
     int channels;                 /* the folder where a later lender finds guests' processes */
     uint64_t features;
     VbHost lends;   /* what it may lend: nothing before a guest of an earlier lender has reported */
+    struct stand stand;
     VbSeat places[MOST_PLACES];
     size_t place_count; /* how many are, or were, somebody's */
     bool strict, strict_pages, events, no_sandbox, end_with_lender;

@@ -3,6 +3,8 @@
 
 #include <stdlib.h>
 
+enum { STANDS = 1000 }; /* milliseconds in which nothing moves before the overdraft is used */
+
 uint32_t seat_pages(const struct seat *seat)
 {
     return place_of(seat)->granted > 0 ? place_of(seat)->pages : 0;
@@ -117,6 +119,16 @@ void places_follow_budget(struct host *host)
     uint32_t frames = host_awaits(host) ? 0 : host->frames;
     if (frames != host->lends.frames)
         happens(host, (VbHostEvent){.kind = VB_BUDGET, .frames = frames});
+}
+
+void places_overdraw(struct host *host)
+{
+    size_t first = vb_host_first(host->places, host->place_count);
+    uint64_t lent = places_owed(host);
+    if (first != host->stand.first || lent != host->stand.lent)
+        host->stand = (struct stand){first, lent, loop_now()};
+    else if (first != SIZE_MAX && !host_awaits(host) && loop_now() - host->stand.since >= STANDS)
+        happens(host, (VbHostEvent){.kind = VB_OVERDRAWS, .guest = first});
 }
 
 /* ---- memory that is added to a guest at work */

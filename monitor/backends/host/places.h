@@ -52,6 +52,9 @@ void place_wants(struct seat *seat, uint32_t pages);
 /* What may be lent is the budget, once all guests of an earlier lender have reported. */
 void places_follow_budget(struct host *host);
 
+/* Grants the first that waits from the overdraft, once nothing has moved for a while. */
+void places_overdraw(struct host *host);
+
 /* The pages of its memory that has room; and its last target, 0 where it was sent none. */
 uint32_t seat_pages(const struct seat *seat);
 uint32_t seat_told(const struct seat *seat);

@@ -76,6 +76,8 @@ void host_see(const struct host *host, struct host_view *view)
                                .refused = its->refused,
                                .gone = its->gone,
                                .dropped = lines_dropped};
+    uint64_t lent = places_owed(host);
+    view->overdrawn = lent > host->frames ? lent - host->frames : 0;
     for (unsigned i = 0; i < host->count; i++) {
         const struct seat *seat = host->seats[i];
         view->lent += seat_lent(seat);
@@ -153,8 +155,20 @@ int host_find(const struct host *host, const char *name)
     return -1;
 }
 
+static const char above_budget[] = "an overdraft is no more than the budget";
+
+const char *host_set_overdraft(struct host *host, uint32_t pages)
+{
+    if (pages > host->frames)
+        return above_budget;
+    host->lends.overdraft = pages;
+    return NULL;
+}
+
 const char *host_set_budget(struct host *host, uint32_t pages)
 {
+    if (host->lends.overdraft > pages)
+        return above_budget;
     host->frames = pages;
     host_changed(host, BY_BUDGET);
     return NULL;

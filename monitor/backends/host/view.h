@@ -99,6 +99,7 @@ struct host_view {
     uint32_t budget, floor, step; /* pages; `step`: a guest's pages divided by it, in a second */
     uint64_t held_kib, lent;      /* lent: frames of all loans together */
     uint64_t short_by;            /* pages by which the guests can't give what is missing */
+    uint64_t overdrawn;           /* frames that are lent above the budget */
     unsigned waiting, silent, uncooperative; /* guests */
     bool strict;                             /* of a guest that comes without terms of its own */
     int64_t period;                          /* milliseconds */
@@ -119,6 +120,7 @@ struct guest_terms host_usual_terms(const struct host *host);
  * looked at anew at once. */
 const char *host_set_budget(struct host *host, uint32_t pages);
 const char *host_set_floor(struct host *host, uint32_t pages);
+const char *host_set_overdraft(struct host *host, uint32_t pages);
 const char *host_add(struct host *host, const char *name, const struct guest_terms *terms);
 const char *host_remove(struct host *host, const char *name);
 const char *host_set_terms(struct host *host, const char *name, const struct guest_terms *terms);

@@ -41,6 +41,7 @@ static const struct key keys[] = {
     {"host", "folder", WORD_PATH, offsetof(struct config, fixed.folder)},
     {"host", "budget", WORD_SIZE, offsetof(struct config, budget)},
     {"host", "floor", WORD_SIZE_OR_NONE, offsetof(struct config, floor)},
+    {"host", "overdraft", WORD_SIZE_OR_NONE, offsetof(struct config, overdraft)},
     {"host", "period", WORD_MILLISECONDS, offsetof(struct config, fixed.period)},
     {"control", "socket", WORD_PATH, offsetof(struct config, fixed.sockets[MAY_CHANGE].path)},
     {"control", "mode", WORD_MODE, offsetof(struct config, fixed.sockets[MAY_CHANGE].mode)},
@@ -206,11 +207,21 @@ static void check_guests(struct reader *reader)
     }
 }
 
+static void check_overdraft(struct reader *reader)
+{
+    const struct config *config = reader->config;
+    if (config->overdraft == UINT32_MAX || config->overdraft <= config->budget)
+        return;
+    reader->faulty = true;
+    say_fault("%s: overdraft: more than the budget", reader->path);
+}
+
 struct config config_empty(void)
 {
     return (struct config){
         .budget = UINT32_MAX,
         .floor = UINT32_MAX,
+        .overdraft = UINT32_MAX,
         .lines = UINT32_MAX,
         .level = UINT32_MAX,
         .fixed.sockets = {[MAY_CHANGE] = {.mode = UINT32_MAX}, [MAY_LOOK] = {.mode = UINT32_MAX}}};
@@ -229,6 +240,7 @@ bool config_read(const char *path, struct config *config)
         fault(&reader, "", "neither a section, nor a key with its value, nor a comment");
     }
     check_guests(&reader);
+    check_overdraft(&reader);
     return line == 0 && !reader.faulty;
 }
 

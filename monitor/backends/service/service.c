@@ -138,6 +138,22 @@ static bool guests_fit(const char *file, const struct config *config, const stru
     return good;
 }
 
+/* Sets what a configuration says of the host's frames. */
+static void set_sizes(const char *file, struct host *host, const struct config *config)
+{
+    const char *fault = NULL;
+    if (config->overdraft != UINT32_MAX)
+        host_set_overdraft(host, 0);
+    if (config->budget != UINT32_MAX)
+        fault = host_set_budget(host, config->budget);
+    if (config->overdraft != UINT32_MAX && !fault)
+        fault = host_set_overdraft(host, config->overdraft);
+    if (config->floor != UINT32_MAX)
+        host_set_floor(host, config->floor);
+    if (fault)
+        say_fault("%s: %s", file, fault);
+}
+
 /* Reads the configuration anew; where it is wrong, the old one stays. */
 static void reload(struct service *service, struct host *host)
 {
@@ -152,10 +168,7 @@ static void reload(struct service *service, struct host *host)
     else {
         service->config = config;
         take_config(service);
-        if (config.budget != UINT32_MAX)
-            host_set_budget(host, config.budget);
-        if (config.floor != UINT32_MAX)
-            host_set_floor(host, config.floor);
+        set_sizes(service->file, host, &config);
         apply_guests(service->file, &config, host);
         say_news("%s: read anew", service->file);
     }

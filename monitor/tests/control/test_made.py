@@ -70,7 +70,7 @@ GUEST = {
 HOST = {
     **rows("text", "folder"),
     **rows("count", "guests step waiting silent uncooperative"),
-    **rows("pages", "budget floor lent short_by=missing"),
+    **rows("pages", "budget floor lent short_by=missing overdrawn"),
     **rows("kib", "held_kib=held peak_kib=counters.peak"),
     **rows("flag", "strict"),
     **rows("ms", "period"),
@@ -257,6 +257,7 @@ METRICS = {
     "held_bytes": "held",
     "lent_bytes": "lent",
     "missing_bytes": "missing",
+    "overdrawn_bytes": "overdrawn",
     "held_peak_bytes": "counters.peak",
     "guests": "guests",
     "guests_waiting": "waiting",

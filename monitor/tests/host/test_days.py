@@ -13,6 +13,9 @@ import pytest
 # How many days of each kind, and the seconds of each, of its time and of a processor's at most.
 DAYS, SECONDS, LIMIT = int(os.environ.get("DAYS", "10")), 600, 60
 
+# Pages of a MiB.
+MIB = 256
+
 # A day ends by its processor's time.
 pytestmark = pytest.mark.timeout(0)
 
@@ -29,6 +32,7 @@ class Day(NamedTuple):
     beyond: int = 0
     slow: int = 1
     killed: int = 0
+    overdraft: int = 0
 
 
 # The last numbers are of works that are done on a day, at least, and of the first day: a lender
@@ -66,6 +70,8 @@ def live(program, folder, number, day):
         "--budget",
         str(day.budget),
         "--strict",
+        "--overdraft",
+        str(day.overdraft * MIB),
         "--program",
         "/bin/true",
     ]
@@ -121,6 +127,16 @@ def test_where_too_much_is_wanted_guests_wait_for_good(host, tmp_path_factory):
     _, said = live(host, str(tmp_path_factory.mktemp("d")), 1, Day(3, 480, beyond=120))
     assert said.startswith("fault: guest-") and "waits for a deflate" in said, said
     assert said.count("out of memory") == 3, said
+
+
+def test_an_overdraft_has_guests_go_on_that_wait_for_each_other(host, tmp_path_factory):
+    """What they want is a little more than what fits. With 4 MiB more each goes on in turn, and at
+    no step have they more than that."""
+    day = Day(3, 480, beyond=65)
+    status, said = live(host, str(tmp_path_factory.mktemp("d")), 1, day)
+    assert status == 1 and WAITS in said, said
+    status, said = live(host, str(tmp_path_factory.mktemp("d")), 1, day._replace(overdraft=4))
+    assert status == 0 and numbers_of(said)["works"] >= 500, said
 
 
 def test_a_day_of_one_number_is_always_the_same(host, tmp_path_factory):

@@ -2,7 +2,8 @@
  * environment says which day it is: DAY is its number, GUESTS how many there are, BUDGET the MiB
  * for all, SECONDS how long it is, FOLDER where the lender finds them; REBOOTS whether one of them
  * reboots, BEYOND by how many MiB what they want passes what fits, SLOW how many times as long as
- * usually each step takes, KILLED whether lenders end. */
+ * usually each step takes, KILLED whether lenders end, OVERDRAFT how many MiB may be lent above the
+ * budget. */
 #define _GNU_SOURCE
 #include "days.h"
 
@@ -109,7 +110,7 @@ void town_looks(void)
     uint64_t held = 0;
     for (unsigned i = 0; i < day->size; i++)
         held += day->guests[i].pages - day->guests[i].report.ballooned;
-    if (held > day->budget)
+    if (held > day->budget + town_number("OVERDRAFT") * MIB)
         town_ends("is the first of all, which have more than the budget", day->guests);
     for (unsigned i = 0; i < day->size; i++) {
         const struct guest *guest = &day->guests[i];
