@@ -63,15 +63,6 @@ static uint32_t read_target(const struct seat *seat)
     return lingers ? target ^ 1 : target;
 }
 
-/* The pages in its balloon: all of one that isn't let in yet, and none where its balloon doesn't
- * count. */
-static uint32_t counted_balloon(const struct seat *seat, enum guest_wait what)
-{
-    if (seat->trust == UNCOUNTED)
-        return 0;
-    return what == WAITS_FOR_ROOM ? place_of(seat)->pages : seat->report.ballooned;
-}
-
 /* The pages of the deflate that it asks for: a reset takes all that is in its balloon, and is
  * granted by number also where that is empty. */
 static uint32_t held_pages(const struct seat *seat, enum guest_wait what)
@@ -95,7 +86,7 @@ VbReport ask_report(const struct seat *seat)
     const VbSeat *its = place_of(seat);
     enum guest_wait what = ask_of(seat).what;
     bool is_smaller = message->waits != WAIT_ROOM && message->pages < its->pages;
-    return (VbReport){.ballooned = counted_balloon(seat, what),
+    return (VbReport){.ballooned = what == WAITS_FOR_ROOM ? its->pages : message->ballooned,
                       .target = message->target,
                       .read_target = read_target(seat),
                       .held = held_pages(seat, what),

@@ -53,10 +53,6 @@ struct ask {
     uint32_t number;
 };
 
-/* Whether a guest keeps to what is lent to it: it has taken pages unasked, and its limit stays; or
- * all its pages are lent to it. */
-enum trust { COOPERATES, TAKES, UNCOUNTED };
-
 /* A guest's place on the host, which it may leave and come back to. */
 struct seat {
     struct host *host;
@@ -107,7 +103,7 @@ struct seat {
     struct ended_wait ended; /* the last of its waits that ended, also those of clients before */
     bool wait_named;         /* it was said that its wait is long */
     bool asks_terms; /* they aren't in the folder: the first report of a process of 0.3.0 has them */
-    enum trust trust;
+    bool cooperates; /* it hasn't taken pages that nobody granted */
     /* What was passed on to the lender's step, and sent by what that made of it. */
     size_t place, added; /* of its VbSeat; of that of memory which is added to it: NO_PLACE */
     struct ask ask;      /* what its process has asked for last */

@@ -36,7 +36,7 @@ static void print_seat(const struct seat *seat)
             guest_wait_word(seat_waits_for(seat)));
     fprintf(to,
             " overhead %" PRIu32 " limit %" PRIu64 " limit_failures %" PRIu64 " cooperates %d\n",
-            seat->terms.overhead, seat->writer.written, seat->writer.failures, seat->trust == COOPERATES);
+            seat->terms.overhead, seat->writer.written, seat->writer.failures, seat->cooperates);
 }
 
 static void print_guests(const struct host *host)

@@ -12,11 +12,11 @@ VbLoan loan_of(const struct seat *seat)
     const VbSeat *its = place_of(seat),
                  *added = seat->added == NO_PLACE ? &none : &seat->host->places[seat->added];
     return (VbLoan){.pages = its->pages + added->pages,
-                    .ballooned = its->ballooned + added->ballooned,
+                    .ballooned = (its->uncounted ? 0 : its->ballooned) + added->ballooned,
                     .lent = seat_lent(seat),
                     .asked = vb_seat_asked(its) + vb_seat_asked(added),
                     .turn = its->turn > 0 ? its->turn : added->turn,
-                    .uncounted = seat->trust == UNCOUNTED};
+                    .uncounted = its->uncounted != 0};
 }
 
 uint32_t loan_excess(const struct seat *seat)
@@ -29,12 +29,11 @@ uint32_t loan_excess(const struct seat *seat)
  * has it within its limit. */
 static void name_taker(struct seat *seat, uint32_t pages, bool is_within)
 {
-    if (seat->trust == COOPERATES || !is_within)
+    if (seat->cooperates || !is_within)
         complain("has taken %" PRIu32 " pages unasked: %s", pages,
                  is_within ? "its limit stays" : "all its memory counts as lent from now on");
-    if (is_within)
-        seat->trust = TAKES;
-    else
+    seat->cooperates = false;
+    if (!is_within)
         place_uncounts(seat);
 }
 
@@ -46,7 +45,7 @@ void loan_audit(struct seat *seat)
     uint32_t had = its->ballooned - smaller(its->ballooned, gone);
     uint32_t granted = report.deflates == its->granted ? report.held : 0;
     uint32_t has = report.ballooned - smaller(report.ballooned, granted);
-    if (seat->holds && seat->trust != UNCOUNTED && has < had)
+    if (seat->holds && !its->uncounted && has < had)
         name_taker(seat, had - has, limit_holds(seat));
 }
 
@@ -54,7 +53,7 @@ void loan_audit(struct seat *seat)
  * than is lent to it, and than is beside. */
 static bool holds_too_much(const struct seat *seat)
 {
-    return seat_reports(seat) && seat->trust != UNCOUNTED &&
+    return seat_reports(seat) && !place_of(seat)->uncounted &&
            loan_excess(seat) > seat->terms.overhead;
 }
 

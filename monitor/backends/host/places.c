@@ -216,12 +216,15 @@ static void take_over(struct seat *seat, uint32_t pages, VbReport report)
 static void follow(struct seat *seat, uint32_t pages, uint32_t target)
 {
     const VbSeat *its = place_of(seat);
-    VbReport report = {.ballooned = seat->trust == UNCOUNTED ? 0 : seat->report.ballooned,
+    bool is_uncounted = its->uncounted;
+    VbReport report = {.ballooned = is_uncounted ? 0 : seat->report.ballooned,
                        .target = target,
                        .read_target = target,
                        .target_number = its->target_number + (its->target != target),
                        .deflates = 1};
     take_over(seat, pages, report);
+    if (is_uncounted)
+        happens(seat->host, (VbHostEvent){.kind = VB_UNCOUNTS, .guest = seat->place});
 }
 
 void place_hears(struct seat *seat)
@@ -269,7 +272,6 @@ void place_takes_over(struct seat *seat)
 void place_uncounts(struct seat *seat)
 {
     uint64_t granted = seat->granted;
-    seat->trust = UNCOUNTED;
     drop_added(seat);
     if (place_of(seat)->granted == 0)
         arrive(seat, seat->place, 0);

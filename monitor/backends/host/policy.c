@@ -48,7 +48,7 @@ static uint16_t contact_of(const struct seat *seat)
 /* Whether a guest counts by its loan: its process holds deflates, or its balloon doesn't count. */
 static bool has_loan(const struct seat *seat)
 {
-    return seat->holds || seat->trust == UNCOUNTED;
+    return seat->holds || place_of(seat)->uncounted;
 }
 
 /* What is known of a guest. Pages that it may take already aren't in the balloon of its loan. */
@@ -71,7 +71,7 @@ static VbHostGuest known_of(const struct seat *seat)
 /* By what is known of it, what a guest can spare is found. */
 static enum bound bound_of(const struct seat *seat)
 {
-    if (has_loan(seat) && (loan_of(seat).asked > 0 || seat->trust == UNCOUNTED))
+    if (has_loan(seat) && (loan_of(seat).asked > 0 || place_of(seat)->uncounted))
         return BY_LOAN;
     return !is_heard(seat) ? BY_SILENCE : is_paused(seat) ? BY_PAUSE : BY_STATISTICS;
 }

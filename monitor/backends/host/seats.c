@@ -51,7 +51,7 @@ void seat_clear(struct seat *seat)
     seat->ask = (struct ask){WAITS_FOR_NOTHING, 0};
     seat->asks = seat->granted_asks = seat->granted = seat->told = seat->told_by = 0;
     seat->received_at = 0;
-    seat->trust = COOPERATES;
+    seat->cooperates = true;
     seat->reserves = false;
     limit_forget(seat);
 }

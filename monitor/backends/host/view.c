@@ -51,7 +51,7 @@ static enum guest_state state_of(const struct seat *seat)
 /* Whether it has taken no pages unasked since it came. */
 static bool cooperates(const struct seat *seat)
 {
-    return seat->trust == COOPERATES && (seat->report.holds || seat->report.counters.taken == 0);
+    return seat->cooperates && (seat->report.holds || seat->report.counters.taken == 0);
 }
 
 void host_see(const struct host *host, struct host_view *view)
