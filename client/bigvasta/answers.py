@@ -69,7 +69,9 @@ HOST = {
     "strict": is_flag,
     "control": SOCKET,
     "status": SOCKET,
-    **fields(is_count, "guests budget floor held lent missing overdrawn waiting silent uncooperative"),
+    **fields(
+        is_count, "guests budget floor held lent missing overdrawn waiting silent uncooperative"
+    ),
     "counters": fields(
         is_count, "looks above peak decisions changed shorts admitted refused dropped"
     ),

@@ -106,9 +106,8 @@ static void take_config(struct host *host, const struct config *config)
 }
 
 static const char help[] =
-    "vhost_user_host FOLDER --budget MIB [--floor MIB] [--period MS] [--step N] [--overdraft PAGES] "
-    "[--strict] "
-    "[--strict-pages] [--events] "
+    "vhost_user_host FOLDER --budget MIB [--floor MIB] [--period MS] [--step N] "
+    "[--overdraft PAGES] [--strict] [--strict-pages] [--events] "
     "[--features HEX] [--lines N] [--program PATH] [--no-sandbox] [--end-with-lender] [--leave]\n"
     "                [--config FILE] [--control PATH] [--control-mode OCTAL] [--control-group "
     "NAME] [--status PATH] [--status-mode OCTAL] "
@@ -117,24 +116,25 @@ static const char help[] =
 static enum command_line read_words(struct host *host, struct service *service, int count,
                                     char **words)
 {
-    const struct option_row rows[] = {{"budget", .read = read_mebibytes, .at = &host->frames},
-                                      {"floor", .read = read_mebibytes, .at = &host->floor},
-                                      {"step", .read = read_number_of, .at = &host->step},
-                                      {"overdraft", .read = read_number_of, .at = &host->lends.overdraft},
-                                      {"period", .read = read_period, .at = &host->period},
-                                      {"features", .read = read_features, .at = &host->features},
-                                      {"lines", .read = read_lines, .at = &most_lines},
-                                      {"program", .read = read_word, .at = &host->program},
-                                      {"strict", .flag = &host->strict},
-                                      {"strict-pages", .flag = &host->strict_pages},
-                                      {"events", .flag = &host->events},
-                                      {"no-sandbox", .flag = &host->no_sandbox},
-                                      {"end-with-lender", .flag = &host->end_with_lender},
-                                      {"leave", .flag = &host->leaves},
-                                      SERVICE_OPTIONS(service),
-                                      {"help", .answer = help},
-                                      {"version", .answer = "vhost_user_host " VB_VERSION},
-                                      {0}};
+    const struct option_row rows[] = {
+        {"budget", .read = read_mebibytes, .at = &host->frames},
+        {"floor", .read = read_mebibytes, .at = &host->floor},
+        {"step", .read = read_number_of, .at = &host->step},
+        {"overdraft", .read = read_number_of, .at = &host->lends.overdraft},
+        {"period", .read = read_period, .at = &host->period},
+        {"features", .read = read_features, .at = &host->features},
+        {"lines", .read = read_lines, .at = &most_lines},
+        {"program", .read = read_word, .at = &host->program},
+        {"strict", .flag = &host->strict},
+        {"strict-pages", .flag = &host->strict_pages},
+        {"events", .flag = &host->events},
+        {"no-sandbox", .flag = &host->no_sandbox},
+        {"end-with-lender", .flag = &host->end_with_lender},
+        {"leave", .flag = &host->leaves},
+        SERVICE_OPTIONS(service),
+        {"help", .answer = help},
+        {"version", .answer = "vhost_user_host " VB_VERSION},
+        {0}};
     host->features = USUAL_FEATURES;
     host->step = STEP;
     host->floor = host->lends.overdraft = UINT32_MAX;
@@ -228,8 +228,8 @@ int main(int count, char **words)
         return line == LINE_WRONG ? 2 : 0;
     process_allow_files(FILES_OF_LENDER + MOST_GUESTS * FILES_OF_SEAT +
                         CONTROL_SOCKETS * MOST_CONTROL_CLIENTS);
-    if (!can_overdraw(&host) || !can_be_shown(host.folder) || !can_offer(host.features) || !find_program(&host) ||
-        !folder_lock(&host) || !answers_begin(&host.answers))
+    if (!can_overdraw(&host) || !can_be_shown(host.folder) || !can_offer(host.features) ||
+        !find_program(&host) || !folder_lock(&host) || !answers_begin(&host.answers))
         return 2;
     folder_take_over(&host);
     if (!service_begin(&service, &host, host.folder))

@@ -98,16 +98,17 @@ struct seat {
     uint64_t heard, taken; /* its counters when they were last looked at */
     int64_t paused_until;  /* it has taken pages itself: until then it is asked for no more than it
                               has given */
-    uint32_t target;      /* what was decided; what is wanted so far is in its VbSeat */
+    uint32_t target;       /* what was decided; what is wanted so far is in its VbSeat */
     int64_t waits_since;
     struct ended_wait ended; /* the last of its waits that ended, also those of clients before */
     bool wait_named;         /* it was said that its wait is long */
-    bool asks_terms; /* they aren't in the folder: the first report of a process of 0.3.0 has them */
+    bool
+        asks_terms; /* they aren't in the folder: the first report of a process of 0.3.0 has them */
     bool cooperates; /* it hasn't taken pages that nobody granted */
     /* What was passed on to the lender's step, and sent by what that made of it. */
-    size_t place, added; /* of its VbSeat; of that of memory which is added to it: NO_PLACE */
-    struct ask ask;      /* what its process has asked for last */
-    uint64_t asks;       /* how many asks there were: the number of the last one */
+    size_t place, added;   /* of its VbSeat; of that of memory which is added to it: NO_PLACE */
+    struct ask ask;        /* what its process has asked for last */
+    uint64_t asks;         /* how many asks there were: the number of the last one */
     uint64_t granted_asks; /* the number of the last grant that was noted */
     uint64_t granted; /* frames that were lent to it since it came, as it asked for them or was told
                          to take them */
@@ -164,7 +165,7 @@ struct host {
     const char *itself;           /* the lender's own program */
     int channels;                 /* the folder where a later lender finds guests' processes */
     uint64_t features;
-    VbHost lends;   /* what it may lend: nothing before a guest of an earlier lender has reported */
+    VbHost lends; /* what it may lend: nothing before a guest of an earlier lender has reported */
     struct stand stand;
     VbSeat places[MOST_PLACES];
     size_t place_count; /* how many are, or were, somebody's */

@@ -31,8 +31,8 @@ static void print_seat(const struct seat *seat)
     fprintf(to,
             " available %" PRIu32 " asked %" PRIu32 " least %" PRIu32 " most %" PRIu32
             " priority %" PRIu32 " reports %d process %d lent %" PRIu32 " waits %s",
-            seat->available, seat_told(seat), seat->terms.least, seat->terms.most, seat->terms.priority,
-            seat_reports(seat), (int)seat->serving, seat_lent(seat),
+            seat->available, seat_told(seat), seat->terms.least, seat->terms.most,
+            seat->terms.priority, seat_reports(seat), (int)seat->serving, seat_lent(seat),
             guest_wait_word(seat_waits_for(seat)));
     fprintf(to,
             " overhead %" PRIu32 " limit %" PRIu64 " limit_failures %" PRIu64 " cooperates %d\n",
@@ -59,8 +59,8 @@ static void print_counters(const struct host *host)
     fprintf(to,
             " shorts %" PRIu64 " admitted %" PRIu64 " refused %" PRIu64 " gone %" PRIu64
             " dropped %" PRIu64 " lent %" PRIu64 " grants %" PRIu64 "\n",
-            it->shorts, it->admitted, it->refused, it->gone, lines_dropped,
-            places_owed(host), it->grants);
+            it->shorts, it->admitted, it->refused, it->gone, lines_dropped, places_owed(host),
+            it->grants);
 }
 
 /* Reads a number of MiB as pages. */

@@ -60,8 +60,8 @@ static bool holds_too_much(const struct seat *seat)
 /* Whether it has waited for long, while the guests can't give what is missing. */
 static bool waits_in_vain(const struct seat *seat)
 {
-    bool is_long = seat_waits_for(seat) != WAITS_FOR_NOTHING &&
-                   loop_now() - seat->waits_since >= LONG_WAIT;
+    bool is_long =
+        seat_waits_for(seat) != WAITS_FOR_NOTHING && loop_now() - seat->waits_since >= LONG_WAIT;
     return is_long && seat->host->missing > 0 && loan_of(seat).asked > 0;
 }
 

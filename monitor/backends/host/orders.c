@@ -124,9 +124,8 @@ static void answer_room(struct seat *seat)
 static void grant(struct seat *seat)
 {
     struct ask ask = ask_of(seat);
-    struct lending_message message = {.kind = ask.what == WAITS_FOR_DEFLATE ? ORDER_GRANT
-                                                                            : ORDER_ADMIT,
-                                      .wait = ask.number};
+    struct lending_message message = {
+        .kind = ask.what == WAITS_FOR_DEFLATE ? ORDER_GRANT : ORDER_ADMIT, .wait = ask.number};
     order(seat, &message);
 }
 

@@ -17,8 +17,7 @@ uint32_t seat_told(const struct seat *seat)
 
 uint32_t seat_lent(const struct seat *seat)
 {
-    uint32_t added =
-        seat->added == NO_PLACE ? 0 : vb_seat_lent(&seat->host->places[seat->added]);
+    uint32_t added = seat->added == NO_PLACE ? 0 : vb_seat_lent(&seat->host->places[seat->added]);
     return vb_seat_lent(place_of(seat)) + added;
 }
 
@@ -166,14 +165,12 @@ static void hear_of_added(struct seat *seat, uint32_t pages)
     }
     if (seat->added == NO_PLACE)
         seat->added = free_place(seat->host);
-    VbReport report = {
-        .ballooned = pages, .held = pages, .line = VB_LINE_ARRIVALS, .deflates = 1};
+    VbReport report = {.ballooned = pages, .held = pages, .line = VB_LINE_ARRIVALS, .deflates = 1};
     if (seat->host->places[seat->added].pages != pages) {
         arrive(seat, seat->added, pages);
         host_changed(seat->host, BY_GUESTS);
     }
-    happens(seat->host,
-            (VbHostEvent){.kind = VB_HEARS, .guest = seat->added, .report = report});
+    happens(seat->host, (VbHostEvent){.kind = VB_HEARS, .guest = seat->added, .report = report});
 }
 
 /* ---- a guest */
@@ -189,9 +186,8 @@ static uint32_t room_wanted(const struct seat *seat)
 
 static void hear(struct seat *seat)
 {
-    happens(seat->host, (VbHostEvent){.kind = VB_HEARS,
-                                      .guest = seat->place,
-                                      .report = ask_report(seat)});
+    happens(seat->host,
+            (VbHostEvent){.kind = VB_HEARS, .guest = seat->place, .report = ask_report(seat)});
 }
 
 /* A guest that isn't let in yet. */
@@ -206,10 +202,9 @@ static void hear_newcomer(struct seat *seat)
 
 static void take_over(struct seat *seat, uint32_t pages, VbReport report)
 {
-    happens(seat->host, (VbHostEvent){.kind = VB_TAKES_OVER,
-                                      .guest = seat->place,
-                                      .pages = pages,
-                                      .report = report});
+    happens(seat->host,
+            (VbHostEvent){
+                .kind = VB_TAKES_OVER, .guest = seat->place, .pages = pages, .report = report});
 }
 
 /* A guest whose process holds nothing back: it has what its report says, and any target at once. */
@@ -293,6 +288,5 @@ void place_wants(struct seat *seat, uint32_t pages)
     if (!seat->holds)
         follow(seat, its->pages, pages);
     else
-        happens(seat->host,
-                (VbHostEvent){.kind = VB_WANTS, .guest = seat->place, .pages = pages});
+        happens(seat->host, (VbHostEvent){.kind = VB_WANTS, .guest = seat->place, .pages = pages});
 }

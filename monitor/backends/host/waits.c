@@ -35,8 +35,7 @@ void seat_ends_wait(struct seat *seat)
     if (what == WAITS_FOR_NOTHING)
         return;
     double seconds = (double)(loop_now() - seat->waits_since) / 1000;
-    seat->ended =
-        (struct ended_wait){seat->ended.number + 1, what, end_of_wait(seat), seconds};
+    seat->ended = (struct ended_wait){seat->ended.number + 1, what, end_of_wait(seat), seconds};
     measure_wait(seat->ended.how, seconds);
 }
 

@@ -10,16 +10,7 @@ import threading
 
 import linux_host
 from bigvasta.connection import Connection
-from vhost_client import (
-    BUFFERS,
-    DEFLATE,
-    GET_CONFIG,
-    INFLATE,
-    PAGE,
-    REGIONS,
-    STATISTICS,
-    Client,
-)
+from vhost_client import BUFFERS, DEFLATE, GET_CONFIG, INFLATE, PAGE, REGIONS, STATISTICS, Client
 from waiting import PATIENCE, eventually
 
 # Tags of statistics (VIRTIO 1.1, 5.5.6.3), and the first pages of a client's regions: the first
