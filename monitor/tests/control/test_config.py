@@ -117,6 +117,7 @@ WRONG = (
         "[guest web-1]\ncolour = red",
         "line 18: colour: this section has no such key",
     ),
+    ("floor = 8M", "overdraft = 481M", "overdraft: more than the budget"),
     (
         "[guest web-1]",
         "[guest web-1]\nleast = 9M\nmost = 8M",

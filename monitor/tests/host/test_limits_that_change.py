@@ -153,6 +153,20 @@ def test_another_limit_is_written_and_the_one_before_stays(one, limits):
     assert files_of(lender.process.pid) == files - 1
 
 
+def test_a_limit_is_written_once_the_writer_of_an_earlier_lender_has_ended(one, lend):
+    """That may be amid its last write, and outlives its lender."""
+    lender, _, _, _ = one
+    writer = writer_of(lender, "a")
+    stop(writer)
+    lender.kill()
+    later = lend(1, *STRICT, folder=lender.folder)
+    later.become("a", ready=1)
+    time.sleep(0.5)
+    assert later.guests()["a"]["limit"] == 0
+    go_on(writer)
+    later.become("a", limit=ALL)
+
+
 def test_who_is_removed_takes_its_writer_along(one):
     lender, _, _, _ = one
     writer = writer_of(lender, "a")

@@ -2,6 +2,7 @@
 budget. Guests have 128 pages."""
 
 import random
+import subprocess
 import threading
 import time
 
@@ -197,6 +198,36 @@ def test_what_a_target_lets_go_is_lent_before_it_is_asked_for(two, come):
     others[0].give(GIVEN[16:26])
     used(b, DEFLATE, 1)
     lender.become("b", waits="nothing", ballooned=18, lent=110)
+
+
+def test_an_overdraft_is_lent_where_nobody_can_give(lend, come):
+    """No more than that, and nobody is granted more by the budget before it has come back."""
+    lender = lend(1, *STRICT, "--overdraft", "10")
+    a, _ = (come(lender, name, {FREE: pages}) for name, pages in zip("ab", (50, 0)))
+    lender.set_budget(206)
+    lender.become("a", asked=50)
+    a.give(GIVEN[:50])
+    lender.become("a", ballooned=50, lent=78)
+    a.figures[FREE] = 0
+    a.take(GIVEN[:10])
+    used(a, DEFLATE, 1)
+    lender.become("a", lent=88, waits="nothing")
+    assert lender.status()["host"]["overdrawn"] == 10 * PAGE
+    assert lender.ask("budget 0") == "error: an overdraft is no more than the budget"
+    a.take(GIVEN[10:11])
+    lender.become("a", waits="deflate")
+    time.sleep(1.5)
+    assert a.client.used(DEFLATE)[0] == 1
+    lender.set_budget(217)
+    used(a, DEFLATE, 2)
+    assert lender.status()["host"]["overdrawn"] == 0
+
+
+def test_an_overdraft_above_the_budget_is_refused(plain, tmp_path):
+    words = [plain, tmp_path, "--budget", "1", "--overdraft", "257"]
+    ran = subprocess.run(words, capture_output=True, text=True, stdin=subprocess.DEVNULL)
+    assert (ran.returncode, ran.stdout) == (2, "")
+    assert "overdraft: an overdraft is no more than the budget" in ran.stderr
 
 
 def test_inflates_are_served_while_a_deflate_is_held(two):
