@@ -129,7 +129,7 @@ json_t *answer_host(const struct control *control, const struct host *host)
 {
     struct host_view view;
     host_see(host, &view);
-    return json_pack("{s:s, s:s, s:i, s:o, s:o, s:o, s:o, s:o, s:o, s:i, s:i, s:i, s:b, s:f, s:o, "
+    return json_pack("{s:s, s:s, s:i, s:o, s:o, s:o, s:o, s:o, s:o, s:o, s:i, s:i, s:i, s:b, s:f, "
                      "s:o, s:o, s:o, s:o}",
                      "version", VB_VERSION, "folder", view.folder, "guests", (int)view.guests,
                      "budget", part_bytes(view.budget), "floor", part_bytes(view.floor), "step",

@@ -182,6 +182,7 @@ def test_a_later_lender_waits_for_no_process_for_good(stuck):
     second, (a, _), _, _ = stuck
     second.become("a", ready=1)
     a.take(list(range(PAGES, PAGES + 10)))
+    second.demand("budget 2")  # there is room for all pages of that guest, too
     eventually(lambda: a.client.used(DEFLATE)[0] == 1)
     second.become("a", waits="nothing")
 

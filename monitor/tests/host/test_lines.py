@@ -20,6 +20,7 @@ def given(lend, come):
     a.give(GIVEN[:50]), b.give(GIVEN[:60])
     lender.become("a", ballooned=50, lent=78), lender.become("b", ballooned=60, lent=68)
     a.figures[FREE] = b.figures[FREE] = 100
+    lender.become("a", spare=128), lender.become("b", spare=128)
     return lender, a, b, lender.set_budget
 
 
