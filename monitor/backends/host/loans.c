@@ -53,7 +53,7 @@ void loan_audit(struct seat *seat)
  * than is lent to it, and than is beside. */
 static bool holds_too_much(const struct seat *seat)
 {
-    return seat_reports(seat) && !place_of(seat)->uncounted &&
+    return seat_pages(seat) > 0 && seat_reports(seat) && !place_of(seat)->uncounted &&
            loan_excess(seat) > seat->terms.overhead;
 }
 

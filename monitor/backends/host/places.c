@@ -268,9 +268,7 @@ void place_uncounts(struct seat *seat)
 {
     uint64_t granted = seat->granted;
     drop_added(seat);
-    if (place_of(seat)->granted == 0)
-        arrive(seat, seat->place, 0);
-    else
+    if (place_of(seat)->granted > 0)
         happens(seat->host, (VbHostEvent){.kind = VB_UNCOUNTS, .guest = seat->place});
     seat->granted = granted;
     host_changed(seat->host, BY_GUESTS);
