@@ -15,6 +15,7 @@ ALL, LEFT, LOOKED = 128, 78, 1
 def test_a_guest_whose_queues_are_stopped_counts_with_what_it_holds(lend, come):
     lender = lend(1, *STRICT)
     a = come(lender, "a", {FREE: 100}, "overhead=0")
+    lender.set_budget(LEFT)
     a.give(GIVEN[:50])
     lender.become("a", lent=LEFT)
     with a.lock:
@@ -44,15 +45,18 @@ class Sealing(Client):
 def test_what_cannot_be_discarded_stays_lent(lend, come):
     lender = lend(1, *STRICT)
     a = come(lender, "a", {FREE: 100}, "overhead=0", client=Sealing)
+    lender.set_budget(ALL - 10)
     a.give(GIVEN[:10])
     lender.become("a", lent=ALL - 10, ballooned=10)
     fcntl.fcntl(a.client.files[1], fcntl.F_ADD_SEALS, FUTURE_WRITE)
     a.give([*range(PAGES, PAGES + 30)])
-    lender.become("a", lent=ALL - 10, ballooned=10, target=0)
+    lender.become("a", lent=ALL - 10, ballooned=10, target=10)
+    lender.set_budget(ALL)
     a.take([*range(PAGES, PAGES + 30)])
     lender.become("a", lent=ALL, ballooned=0)
     a.take(GIVEN[:10])
     used(a, DEFLATE, 2)
+    lender.set_budget(ALL - 10)
     a.give(GIVEN[:10])
     lender.become("a", ballooned=10)
     assert not [it for it in lender.said() if "unasked" in it]
@@ -61,6 +65,7 @@ def test_what_cannot_be_discarded_stays_lent(lend, come):
 def test_a_request_in_holes_is_not_held(lend, come):
     lender = lend(1, *STRICT)
     a = come(lender, "a", {FREE: 100}, "overhead=0")
+    lender.set_budget(LEFT)
     a.give([*range(PAGES, PAGES + 50)])
     lender.become("a", lent=LEFT, held_kib=4 * LEFT)
     with a.lock:

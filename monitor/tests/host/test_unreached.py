@@ -20,8 +20,9 @@ def stuck(lend, come):
     """A lender whose two guests have all but 50 pages of its budget, of which a's process stands
     still; with b and that process."""
     lender = lend(1, *STRICT)
-    come(lender, "a", {FREE: 100})
+    come(lender, "a", {FREE: 0})
     b = come(lender, "b", {FREE: 100})
+    lender.set_budget(2 * ALL - 50)
     b.give(GIVEN[:50])
     lender.become("b", ballooned=50, lent=ALL - 50)
     process = process_of(lender, "a")
