@@ -55,6 +55,7 @@ WRONG = (
     ("budget = 480M", "budget = M", f"line 4: budget: a size of 1M or more: {SIZE}"),
     ("budget = 480M", "budget = 4 M", f"line 4: budget: a size of 1M or more: {SIZE}"),
     ("floor = 8M", "floor = 8k", f"line 5: floor: a size: {SIZE}"),
+    ("floor = 8M", "overdraft = 8k", f"line 5: overdraft: a size: {SIZE}"),
     ("period = 100", "period = 9", "line 6: period: milliseconds, from 10 to 60000"),
     ("period = 100", "period = 60001", "line 6: period: milliseconds, from 10 to 60000"),
     (
@@ -294,7 +295,7 @@ def test_each_key_is_wrong_once(folder):
                 if it.startswith("[")
             )
             wrong.add((re.findall(r"\[(\w+)", section or "[none")[-1], line[2]))
-    assert len(keys) == 18 and keys <= wrong, keys - wrong
+    assert len(keys) == 21 and keys <= wrong, keys - wrong
 
 
 def test_what_the_file_says_is_done(configured, folder):
