@@ -70,7 +70,8 @@ HOST = {
     "control": SOCKET,
     "status": SOCKET,
     **fields(
-        is_count, "guests budget floor held lent missing overdrawn waiting silent uncooperative"
+        is_count,
+        "guests budget overdraft floor held lent missing overdrawn waiting silent uncooperative",
     ),
     "counters": fields(
         is_count, "looks above peak decisions changed shorts admitted refused dropped"

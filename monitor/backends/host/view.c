@@ -60,6 +60,7 @@ void host_see(const struct host *host, struct host_view *view)
     *view = (struct host_view){.folder = host->folder,
                                .guests = host->count,
                                .budget = host->frames,
+                               .overdraft = host->lends.overdraft,
                                .floor = host->floor,
                                .step = host->step,
                                .held_kib = host_held(host),

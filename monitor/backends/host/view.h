@@ -95,11 +95,12 @@ struct guest_view {
 /* All of them together. */
 struct host_view {
     const char *folder;
-    unsigned guests;              /* how many seats there are, taken or not */
-    uint32_t budget, floor, step; /* pages; `step`: a guest's pages divided by it, in a second */
-    uint64_t held_kib, lent;      /* lent: frames of all loans together */
-    uint64_t short_by;            /* pages by which the guests can't give what is missing */
-    uint64_t overdrawn;           /* frames that are lent above the budget */
+    unsigned guests; /* how many seats there are, taken or not */
+    uint32_t budget, overdraft, floor;
+    uint32_t step;           /* a guest's pages divided by it, in a second */
+    uint64_t held_kib, lent; /* lent: frames of all loans together */
+    uint64_t short_by;       /* pages by which the guests can't give what is missing */
+    uint64_t overdrawn;      /* frames that are lent above the budget */
     unsigned waiting, silent, uncooperative; /* guests */
     bool strict;                             /* of a guest that comes without terms of its own */
     int64_t period;                          /* milliseconds */

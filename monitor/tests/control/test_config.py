@@ -208,6 +208,13 @@ TAKEN = (
     ),
     ("floor of [host]", "floor = 8M", "floor = 3M", lambda host: host.status()["floor"], 3 * MIB),
     (
+        "overdraft of [host]",
+        "floor = 8M",
+        "floor = 8M\noverdraft = 2M",
+        lambda host: host.status()["overdraft"],
+        2 * MIB,
+    ),
+    (
         "level of [log]",
         "level = info",
         "level = notice",

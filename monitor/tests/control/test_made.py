@@ -70,7 +70,7 @@ GUEST = {
 HOST = {
     **rows("text", "folder"),
     **rows("count", "guests step waiting silent uncooperative"),
-    **rows("pages", "budget floor lent short_by=missing overdrawn"),
+    **rows("pages", "budget overdraft floor lent short_by=missing overdrawn"),
     **rows("kib", "held_kib=held peak_kib=counters.peak"),
     **rows("flag", "strict"),
     **rows("ms", "period"),
