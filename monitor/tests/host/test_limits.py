@@ -17,7 +17,7 @@ from vhost_client import DEFLATE, PAGE, Client
 from waiting import PATIENCE
 
 # Pages of a guest.
-ALL = 128
+ALL, ANY = 128, (1 << 32) - 1
 
 pytestmark = pytest.mark.skipif(os.geteuid() != 0, reason="mounts and cgroups are for root")
 
@@ -238,7 +238,7 @@ def test_what_is_no_limit_is_refused(lend, terms, why):
     lender.demand("add a")
     assert lender.ask(f"terms a {terms}") == f"error: {why}"
     assert lender.guests()["a"]["overhead"] == 64 * 256
-    assert os.readlink(f"{lender.folder}/=a").endswith(" 16384 none")
+    assert os.readlink(f"{lender.folder}/=a").endswith(f" 16384 {ANY} {ANY} 0 none")
 
 
 def test_a_limit_is_one_guests(lend, limits):
