@@ -2,7 +2,7 @@
 use Rattle.std.proofs.Common.{◌≡◌, ◌⊎◌, ℕ, ◌+◌, ◌<◌, ◌≤◌, List, sum_by, map, IsPermutation}
 use Rattle.std.proofs.Common.{inl, inr, refl, ap, sym, ◌∙◌, arith}
 use Rattle.std.proofs.Common.{[], ◌∷◌, Bool, true, false, ◌&&◌, if◌then◌else◌, subst, get_or}
-use Rattle.std.proofs.Common.{slice_get, Some}
+use Rattle.std.proofs.Common.{eqb, slice_get, Some}
 use Rattle.std.proofs.lemmas.List.Folds.{sum_by-zero}
 use Rattle.std.proofs.lemmas.List.Sorted.{sum_by-IsPermutation}
 use Rattle.std.specs.List.{list_all}
@@ -159,7 +159,7 @@ equal_at f gs hs i j g ts us here there p q = omega (
 )
 
 -- what all are asked for on a short host
-short_by : Bool → Guest → ℕ
+abbrev short_by : Bool → Guest → ℕ
 short_by b g = if b then g.target else g.spare
 
 short_as_map : (host : Host) (gs : List Guest) (b : Bool) → list_all (may_stay host) gs ≡ b

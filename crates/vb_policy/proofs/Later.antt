@@ -112,11 +112,11 @@ no_later lack less gs hs d e l grow one other = elim (which_first e.tier d.tier)
 
 -- ---- where each can
 
-abbrev More : Guest → Guest → Type 0
+abbrev pub More : Guest → Guest → Type 0
 More g h = (h.weight ≡ g.weight) × (h.priority ≡ g.priority)
     × (g.unused ≤ h.unused) × (g.cached ≤ h.cached) × (g.spare ≤ h.spare)
 
-more_through : (t : Tier) (g h : Guest) → More g h → through t g ≤ through t h
+pub more_through : (t : Tier) (g h : Guest) → More g h → through t g ≤ through t h
 more_through Unused g h m = omega (arith, m.2, m.3, m.4)
 more_through Cache g h m = omega (arith, m.3, m.4)
 more_through Reserve g h m = m.4

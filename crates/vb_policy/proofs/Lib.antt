@@ -8,3 +8,6 @@ pub mod Enough
 pub mod Fairness
 pub mod Later
 pub mod Alike
+pub mod Rest
+mod DivisionFacts
+mod TargetFacts

@@ -11,7 +11,7 @@ ghost use Rattle.vb_policy.specs.declared.guest.Tier.{Tier};
 ghost use Rattle.vb_policy.specs.declared.guest.Tier.TheVariants.{Reserve};
 ghost use Rattle.vb_policy.specs.Decisions.{Decides};
 ghost use Rattle.vb_policy.specs.Divisions.{Divides, fair};
-ghost use Rattle.vb_policy.specs.Laws.{CanGiveMore, kept_of, unit_of, value_at, weight_of};
+ghost use Rattle.vb_policy.specs.Laws.{CanGiveMore, kept_of, unit_of, value_at, weight_of, with_targets};
 ghost use Rattle.vb_policy.specs.Settling.{most_of};
 ghost use Rattle.vb_policy.specs.Tiers.{before, through};
 
@@ -92,4 +92,11 @@ pub fn order_of_guests_is_free()
         Decides host guests d targets → Decides host others e set →
         slice_get guests i ≡ Some g → slice_get others j ≡ Some g →
         slice_index targets i ≡ slice_index set j }
+{}
+
+/// Deciding again with the targets that were set changes none.
+pub fn decisions_rest()
+    ensures { (host : Host) (guests : List Guest) (d e : Decision) (targets set : List ℕ) →
+        Decides host guests d targets → Decides host (with_targets guests targets) e set →
+        set ≡ targets }
 {}

@@ -7,10 +7,13 @@ mod guest;
 mod laws;
 mod level;
 mod settle;
+#[cfg(test)]
+mod tests;
 mod tiers;
 
 pub use decision::decide;
 pub use guest::{Decision, Division, Guest, Host, Tier};
-pub use laws::{nobody_waits_in_vain, no_more_than_asked, order_of_guests_is_free};
+pub use laws::{decisions_rest, nobody_waits_in_vain, no_more_than_asked};
+pub use laws::order_of_guests_is_free;
 pub use laws::{parts_are_fair, parts_are_monotone};
 pub use laws::{targets_are_enough, targets_are_possible, tiers_are_in_order};
