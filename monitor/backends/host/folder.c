@@ -126,7 +126,8 @@ const char *folder_keep(struct seat *seat, const struct guest_terms *terms)
 
 void folder_keep_pages(struct seat *seat)
 {
-    const char *fault = seat_pages(seat) == seat->kept_pages ? NULL : folder_keep(seat, &seat->terms);
+    const char *fault =
+        seat_pages(seat) == seat->kept_pages ? NULL : folder_keep(seat, &seat->terms);
     if (fault)
         complain("its pages can't be kept for a later lender: %s", fault);
 }

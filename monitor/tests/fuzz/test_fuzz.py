@@ -28,7 +28,15 @@ FUZZERS = {
         "guest/marks",
         "guest/lent_channel",
     ),
-    "lender": ("host/asks", "host/places", "host/reports", "host/message", "host/orders", "host/policy", "host/rest"),
+    "lender": (
+        "host/asks",
+        "host/places",
+        "host/reports",
+        "host/message",
+        "host/orders",
+        "host/policy",
+        "host/rest",
+    ),
 }
 
 
