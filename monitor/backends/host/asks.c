@@ -1,5 +1,5 @@
-/* A report of a guest's process as the lender's step takes it: what it asks for, and which target it
- * has received and its driver has read. */
+/* A report of a guest's process as the lender's step takes it: what it asks for, and which target
+ * it has received and its driver has read. */
 #include "places.h"
 
 /* Milliseconds for which a driver whose reads aren't seen may obey an earlier target than the one

@@ -309,8 +309,8 @@ void seat_remind(struct seat *seat);
 /* Decides how many pages the host wants in its balloon, and wants as many as a step allows. */
 void seat_set_target(struct seat *seat, uint32_t pages);
 
-/* Lets what is wanted grow by what `milliseconds` allow; whether that is less than what was decided,
- * or a target isn't received. */
+/* Lets what is wanted grow by what `milliseconds` allow; whether that is less than what was
+ * decided, or a target isn't received. */
 void seat_step(struct seat *seat, int64_t milliseconds);
 bool seat_is_behind(const struct seat *seat);
 
@@ -320,8 +320,8 @@ void seat_leave(struct seat *seat);
 /* Has another process, of the program that is there now, go on with its client. */
 void seat_renew(struct seat *seat);
 
-/* Sends what is due to its process: an answer for room, and the grant of what it has asked for, once
- * its limit allows that. */
+/* Sends what is due to its process: an answer for room, and the grant of what it has asked for,
+ * once its limit allows that. */
 void seat_repeat(struct seat *seat);
 
 /* Sends its last target, and an order to look after it: what answers that has received the target.
