@@ -11,7 +11,8 @@ ghost use Rattle.vb_policy.specs.declared.guest.Tier.{Tier};
 ghost use Rattle.vb_policy.specs.declared.guest.Tier.TheVariants.{Reserve};
 ghost use Rattle.vb_policy.specs.Decisions.{Decides};
 ghost use Rattle.vb_policy.specs.Divisions.{Divides, fair};
-ghost use Rattle.vb_policy.specs.Laws.{CanGiveMore, kept_of, unit_of, value_at, weight_of, with_targets};
+ghost use Rattle.vb_policy.specs.Laws.{CanGiveMore, kept_of, unit_of, value_at, weight_of};
+ghost use Rattle.vb_policy.specs.Laws.{with_targets};
 ghost use Rattle.vb_policy.specs.Settling.{most_of};
 ghost use Rattle.vb_policy.specs.Tiers.{before, through};
 
@@ -81,8 +82,8 @@ pub fn nobody_waits_in_vain()
         (host.lack ≤ sum targets) ⊎ (targets ≡ map (λ h. h.spare) guests) }
 {}
 
-/// The same guests in another order are decided alike, and equal guests get equal targets, wherever
-/// they stand. So there is one decision.
+/// Guests in another order get the targets that they had, and equal guests get equal targets at any
+/// place. So there is one decision.
 pub fn order_of_guests_is_free()
     ensures decisions { (host : Host) (guests others : List Guest) (d e : Decision)
         (targets set : List ℕ) → IsPermutation guests others → Decides host guests d targets →

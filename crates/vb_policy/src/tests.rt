@@ -153,7 +153,7 @@ fn is_right(host: &Host, guests: &[Guest], decision: Decision, targets: &[u32]) 
     }
 }
 
-/// Whether a host of random guests is decided about rightly, from this seed on.
+/// Whether a host of random guests is decided about correctly, from this seed on.
 fn is_right_from(seed: u64) -> bool {
     let mut state = seed;
     let guests = [

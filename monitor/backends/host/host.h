@@ -130,7 +130,7 @@ struct host_counters {
     uint64_t grants;                          /* of room, deflates and resets that waited */
 };
 
-/* Who has waited first, with so much lent to all; and since when nothing of that has changed. */
+/* Who waits first, and what is lent to all; and since when nothing of that has changed. */
 struct stand {
     size_t first;
     uint64_t lent;

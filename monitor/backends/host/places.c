@@ -75,7 +75,7 @@ static void note_grant(struct seat *seat)
     host_changed(host, BY_GUESTS);
 }
 
-/* Notes and sends what a step has made of a guest, to which so many frames were lent before. */
+/* Notes and sends what a step has made of a guest, which was lent `before` frames. */
 static void follow_step(struct seat *seat, uint32_t before)
 {
     const VbSeat *its = place_of(seat);

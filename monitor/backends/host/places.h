@@ -35,7 +35,7 @@ bool target_is_received(const struct seat *seat);
 /* Gives a seat a place that nobody has. */
 void place_begin(struct seat *seat);
 
-/* An earlier lender has left a guest of so many pages: all are lent to it until it reports. */
+/* An earlier lender has left a guest of `pages` pages: all are lent to it until it reports. */
 void place_reserves(struct seat *seat, uint32_t pages);
 
 /* A later lender has its first report; it has reported; it is admitted, where nothing of it waits
@@ -46,7 +46,7 @@ void place_admits(struct seat *seat);
 void place_uncounts(struct seat *seat);
 void place_leaves(struct seat *seat);
 
-/* So many of its pages are wanted in its balloon. */
+/* `pages` of it are wanted in its balloon. */
 void place_wants(struct seat *seat, uint32_t pages);
 
 /* What may be lent is the budget, once all guests of an earlier lender have reported. */

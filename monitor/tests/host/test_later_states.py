@@ -161,7 +161,7 @@ def test_a_later_lender_goes_on_with_a_guest_in_each_state(lend, come, state):
     before.end()
 
 
-# The user of the tests; and what stands for any number, or any user.
+# The user of the tests; and what means any number, or any user.
 USER, ANY = os.getuid(), (1 << 32) - 1
 
 

@@ -17,8 +17,8 @@ ALL, LENDERS = 128, 4
 
 @pytest.fixture
 def stuck(lend, come):
-    """A lender whose two guests have all but 50 pages of its budget, of which a's process stands
-    still; with b and that process."""
+    """A lender whose two guests have all but 50 pages of its budget, of which a's process is
+    stopped; with b and that process."""
     lender = lend(1, *STRICT)
     come(lender, "a", {FREE: 0})
     b = come(lender, "b", {FREE: 100})
