@@ -60,7 +60,7 @@ static void look(struct host *host)
     each_seat(host, seat_reach);
     loans_audit(host);
     policy_decide(host);
-    places_overdraw(host);
+    places_relieve(host);
     for (unsigned i = 0; i < host->leaving_count; i++)
         seat_leave(host->leaving[i]);
     for (unsigned i = 0; i < host->count; i++) {

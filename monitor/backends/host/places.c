@@ -3,7 +3,7 @@
 
 #include <stdlib.h>
 
-enum { STANDS = 1000 }; /* milliseconds in which nothing moves before the overdraft is used */
+enum { STANDS = 1000 }; /* milliseconds in which nothing moves, and a host stands still */
 
 uint32_t seat_pages(const struct seat *seat)
 {
@@ -120,13 +120,33 @@ void places_follow_budget(struct host *host)
         happens(host, (VbHostEvent){.kind = VB_BUDGET, .frames = frames});
 }
 
-void places_overdraw(struct host *host)
+/* The place of the guest that is preferred; SIZE_MAX where none is. */
+static size_t preferred(const struct host *host)
 {
-    size_t first = vb_host_first(host->places, host->place_count);
+    for (size_t i = 0; i < host->place_count; i++)
+        if (host->places[i].preferred)
+            return i;
+    return SIZE_MAX;
+}
+
+/* Whether nothing has moved for a while, after who waits first and what is lent were as they are. */
+static bool stands_still(struct host *host, size_t first)
+{
     uint64_t lent = places_owed(host);
     if (first != host->stand.first || lent != host->stand.lent)
         host->stand = (struct stand){first, lent, loop_now()};
-    else if (first != SIZE_MAX && !host_awaits(host) && loop_now() - host->stand.since >= STANDS)
+    return !host_awaits(host) && loop_now() - host->stand.since >= STANDS;
+}
+
+void places_relieve(struct host *host)
+{
+    size_t first = vb_host_first(host->places, host->place_count);
+    size_t alone = host->missing > 0 ? first : SIZE_MAX;
+    if (!stands_still(host, first))
+        return;
+    if (preferred(host) != alone)
+        happens(host, (VbHostEvent){.kind = VB_PREFERS, .guest = alone});
+    if (first != SIZE_MAX)
         happens(host, (VbHostEvent){.kind = VB_OVERDRAWS, .guest = first});
 }
 

@@ -52,8 +52,9 @@ void place_wants(struct seat *seat, uint32_t pages);
 /* What may be lent is the budget, once all guests of an earlier lender have reported. */
 void places_follow_budget(struct host *host);
 
-/* Grants the first that waits from the overdraft, once nothing has moved for a while. */
-void places_overdraw(struct host *host);
+/* Once nothing has moved for a while, the first that waits is granted from the overdraft, and on a
+ * short host proceeds alone: it comes before all others of its line until it asks no more. */
+void places_relieve(struct host *host);
 
 /* The pages of its memory that has room; and its last target, 0 where it was sent none. */
 uint32_t seat_pages(const struct seat *seat);
