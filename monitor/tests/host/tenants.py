@@ -6,6 +6,7 @@ import os
 import select
 import signal
 import struct
+import subprocess
 import threading
 
 import linux_host
@@ -148,6 +149,12 @@ def writer_of(lender, name):
         return None
 
     return eventually(found, f"nobody writes the limit of {name}")
+
+
+def begin_writer(program, channel, lock=os.devnull):
+    """Begins a writer of limits on this channel, whose lock is a file of number 3."""
+    words = ["sh", "-c", 'exec "$0" --write-limits test 3< "$1"', program, lock]
+    return subprocess.Popen(words, stdin=channel)
 
 
 def status_of(process):

@@ -222,11 +222,12 @@ def test_a_later_lender_with_a_smaller_budget_lends_nothing_before_there_is_room
     b.take(GIVEN[:5])
     later.become("b", waits="deflate")
     a.give(GIVEN[:100]), c.give(GIVEN[:22])
+    a.figures, c.figures = {FREE: 0}, {FREE: 6}
     # Of 256 frames 4 are left, and it wants 5.
     later.become("a", lent=ALL - 100), later.become("c", lent=ALL - 22)
     later.become("b", waits="deflate", lent=ALL - 10)
     assert (b.client.used(DEFLATE)[0], later.counters()["lent"]) == (0, 252)
-    a.give(GIVEN[100:101])
+    c.give(GIVEN[22:23])
     used(b, DEFLATE, 1)
     assert lent(later) == 256
 

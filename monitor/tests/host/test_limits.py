@@ -6,12 +6,11 @@ import errno
 import os
 import socket
 import struct
-import subprocess
 import time
 
 import pytest
 from host_places import FIRST, SECOND, Cgroup, Mount, cgroups, run
-from tenants import FREE, eventually, go_on, stop, writer_of
+from tenants import FREE, begin_writer, eventually, go_on, stop, writer_of
 from test_strict import GIVEN, STRICT, used, waits_of
 from vhost_client import DEFLATE, PAGE, Client
 from waiting import PATIENCE
@@ -287,7 +286,7 @@ def test_of_two_mounts_at_one_place_the_later_one_counts(lend, tmp_path):
 def answer_of_a_writer(lender, kind, path, pages):
     """Has the program of a lender write a limit, as a lender does; returns the errno."""
     ours, its = socket.socketpair(socket.AF_UNIX, socket.SOCK_SEQPACKET)
-    writer = subprocess.Popen([lender.process.args[0], "--write-limits", "test"], stdin=its)
+    writer = begin_writer(lender.process.args[0], its)
     its.close()
     ours.send(struct.pack("<QQI152s4x", 7, pages * PAGE, kind, path.encode()))
     number, code = struct.unpack("<Qi", ours.recv(4096)[:12])

@@ -4,13 +4,12 @@ limit isn't known of the next one's."""
 
 import os
 import socket
-import subprocess
 import time
 
 import pytest
 from host_places import Mount
 from played import Played
-from tenants import FREE, eventually, go_on, has_ended, stop, writer_of
+from tenants import FREE, begin_writer, eventually, go_on, has_ended, stop, writer_of
 from test_strict import GIVEN, STRICT, Later, used
 from vhost_client import DEFLATE, PAGE, Client
 from waiting import PATIENCE
@@ -237,7 +236,7 @@ def test_the_kernel_says_why_a_limit_cannot_be_written(lend, come, tmp_path):
 def test_a_writer_ends_by_what_is_no_request(plain):
     for sent in (b"x", bytes(175)):
         ours, its = socket.socketpair(socket.AF_UNIX, socket.SOCK_SEQPACKET)
-        writer = subprocess.Popen([plain, "--write-limits", "test"], stdin=its)
+        writer = begin_writer(plain, its)
         its.close()
         ours.send(sent)
         assert (writer.wait(PATIENCE), ours.recv(4096)) == (1, b"")
