@@ -112,6 +112,7 @@ const char *seat_add(struct host *host, const char *name, const struct guest_ter
         return strerror(named ? why : ENAMETOOLONG);
     }
     place_begin(seat);
+    seat->cooperates = true;
     host->seats[host->count++] = seat;
     seat_take_over(seat);
     return NULL;
