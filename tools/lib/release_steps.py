@@ -17,7 +17,10 @@ WARNINGS = "-Wall -Wextra -Werror"
 FLAGS = "$(pkg-config --cflags vb)"
 LINKED = "$(pkg-config --cflags --libs vb)"
 EXAMPLE = "/usr/share/doc/libvb-dev/examples/example.c"
-HEADER = "printf '#include <balloon.h>\\n#include <vb_lending.h>\\nint main(void) { return 0; }\\n'"
+HEADER = (
+    "printf '#include <balloon.h>\\n#include <vb_host.h>\\n#include <vb_lending.h>\\n"
+    "int main(void) { return 0; }\\n'"
+)
 
 # What the installed page of the simulator shows, beside what its command prints.
 EXAMPLE_OF_PAGE = r"""
