@@ -110,7 +110,7 @@ enum {
      * and they have fewer than 2^32 pages together. */
     VB_JOINS = 7,
     /* guest, pages, report: the first report to a later lender of a guest that has `pages`,
-     * whichever was at its place. */
+     * whichever was at its place. Until then its seat is these pages and zeros: all are lent. */
     VB_TAKES_OVER = 8,
     /* guest: it takes pages without a grant. All are lent to it, also those that it reports in its
      * balloon, until another guest is at its place. */

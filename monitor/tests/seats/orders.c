@@ -251,6 +251,16 @@ static void check_sums(void)
     expect(seats[0].pages == UINT32_MAX, "they have joined");
 }
 
+/* A guest that a later lender hasn't heard of: all its pages are lent, and stay so. */
+static void check_unheard(void)
+{
+    VbHost host = {.frames = 90};
+    VbSeat seats[2] = {{.pages = 50}, {.pages = 30}};
+    expect(step(&host, seats, (VbHostEvent){.kind = VB_TARGETS}) == VB_OK, "a target");
+    expect(vb_seat_lent(&seats[0]) == 50 && vb_host_owed(seats, 2) == 80, "all pages are lent");
+    expect(seats[0].target_number == 0 && seats[1].target_number == 0, "no target is set");
+}
+
 /* More is taken away than there is; the first deflate of all is held at a takeover. */
 static void check_less(void)
 {
@@ -289,5 +299,6 @@ void check_largest(void)
     check_overdraft();
     check_last();
     check_sums();
+    check_unheard();
     check_less();
 }
