@@ -129,7 +129,7 @@ static size_t preferred(const struct host *host)
     return SIZE_MAX;
 }
 
-/* Whether nothing has moved for a while, after who waits first and what is lent were as they are. */
+/* Whether nothing has moved for a while: who waits first, and what is lent. */
 static bool stands_still(struct host *host, size_t first)
 {
     uint64_t lent = places_owed(host);

@@ -1,8 +1,7 @@
 """A guest's process that waits for room, with a deflate in its hands that is granted meanwhile."""
 
-from bigvasta.connection import Connection
 from tenants import FREE, PAGES, PAGES_OF_ALL, eventually
-from vhost_client import ADD_MEM_REG, DEFLATE, INFLATE, OFFERED, PAGE, Client
+from vhost_client import ADD_MEM_REG, DEFLATE, INFLATE, OFFERED, Client
 
 # Pages of the first region that its driver gives, after its rings; and how many it takes back.
 GIVEN, TAKEN = [*range(PAGES_OF_ALL + 20, PAGES_OF_ALL + 60)], 10
