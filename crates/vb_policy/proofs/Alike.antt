@@ -1,5 +1,5 @@
 -- Decisions of the same guests in another order.
-use Rattle.std.proofs.Common.{◌≡◌, ◌⊎◌, ℕ, ◌+◌, ◌<◌, ◌≤◌, List, sum_by, map, IsPermutation}
+use Rattle.std.proofs.Common.{◌≡◌, ℕ, ◌+◌, ◌<◌, ◌≤◌, List, sum_by, map, IsPermutation}
 use Rattle.std.proofs.Common.{inl, inr, refl, ap, sym, ◌∙◌, arith}
 use Rattle.std.proofs.Common.{[], ◌∷◌, Bool, true, false, ◌&&◌, if◌then◌else◌, subst, get_or}
 use Rattle.std.proofs.Common.{eqb, slice_get, Some}
@@ -25,8 +25,8 @@ same_fields : (d e : Division) → d.tier ≡ e.tier → d.priority ≡ e.priori
     → d ≡ e
 same_fields d e t p k = ap (λ (u : Tier). of u d.priority d.kept) t
     ∙ (ap (λ (n : ℕ). of e.tier n d.kept) p ∙ ap (λ (n : ℕ). of e.tier e.priority n) k) where
-  of : Tier → ℕ → ℕ → Division
-  of t p k = record { tier = t; priority = p; kept = k }
+      of : Tier → ℕ → ℕ → Division
+      of t p k = record { tier = t; priority = p; kept = k }
 
 -- neither is later
 neither : (d e : Division) → IsNoLater e d → IsNoLater d e → d ≡ e
@@ -134,11 +134,12 @@ same_tests : {X : Type 0} (p : X → Bool) (xs : List X)
 same_tests p [] = refl
 same_tests p (x ∷ xs) = both (p x) (eqb (failed p x) 0) (list_all p xs)
     (list_all (λ x. eqb (failed p x) 0) xs) (tells (p x)) (same_tests p xs) where
-  tells : (b : Bool) → b ≡ eqb (if b then 0 else 1) 0
-  tells true = refl
-  tells false = refl
-  both : (a b c d : Bool) → a ≡ b → c ≡ d → (a && c) ≡ (b && d)
-  both a b c d e f = ap (λ (x : Bool). x && c) e ∙ ap (λ (x : Bool). b && x) f
+      tells : (b : Bool) → b ≡ eqb (if b then 0 else 1) 0
+      tells true = refl
+      tells false = refl
+
+      both : (a b c d : Bool) → a ≡ b → c ≡ d → (a && c) ≡ (b && d)
+      both a b c d e f = ap (λ (x : Bool). x && c) e ∙ ap (λ (x : Bool). b && x) f
 
 -- a test that all pass is passed by all in another order
 all_alike : {X : Type 0} (p : X → Bool) (xs ys : List X) → IsPermutation xs ys

@@ -7,7 +7,8 @@ use Rattle.vb_policy.specs.declared.guest.Tier.{Tier}
 use Rattle.vb_policy.specs.Divisions.{keeps, share}
 use Rattle.vb_policy.specs.Tiers.{before, high, low}
 use Rattle.vb_policy.proofs.Sums.{sums_below}
-use Rattle.vb_policy.proofs.Giving.{low-le-before, low-le-high, low-le-next, through-le, high-le-through}
+use Rattle.vb_policy.proofs.Giving.{low-le-before, low-le-high, low-le-next}
+use Rattle.vb_policy.proofs.Giving.{through-le, high-le-through}
 
 pub keeps_rise : (j k : ℕ) (g : Guest) → j ≤ k → keeps j g ≤ keeps k g
 keeps_rise j k g l = omega (arith, mul-le j (max 1 g.weight) k (max 1 g.weight) l (omega arith))
@@ -26,7 +27,8 @@ by_parts : (low high kept more : ℕ) → kept ≤ more → max low (high - more
 by_parts low high kept more l = omega arith
 
 pub share_falls : (t : Tier) (p j k : ℕ) (g : Guest) → j ≤ k → share t p k g ≤ share t p j g
-share_falls t p j k g l = by_parts (low t p g) (high t p g) (keeps j g) (keeps k g) (keeps_rise j k g l)
+share_falls t p j k g l =
+    by_parts (low t p g) (high t p g) (keeps j g) (keeps k g) (keeps_rise j k g l)
 
 pub share-le-high : (t : Tier) (p k : ℕ) (g : Guest) → share t p k g ≤ high t p g
 share-le-high t p k g = of_two (low t p g) (high t p g) (keeps k g) (low-le-high t p g) where

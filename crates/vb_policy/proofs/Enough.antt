@@ -1,6 +1,7 @@
 -- Targets are enough, and possible.
-use Rattle.std.proofs.Common.{◌≡◌, ◌⊎◌, ℕ, ◌+◌, ◌-◌, ◌*◌, ◌<◌, ◌≤◌, max, min, List, length, map, sum, sum_by}
-use Rattle.std.proofs.Common.{Bool, true, false, ◌&&◌, ◌||◌, not, if◌then◌else◌, nat_le, nat_lt, get_or, inl, inr, refl, ap, Contains, subst, sym, arith, ◌∙◌}
+use Rattle.std.proofs.Common.{◌≡◌, ◌⊎◌, ℕ, ◌+◌, ◌-◌, ◌<◌, ◌≤◌, max, List, length, map, sum, sum_by}
+use Rattle.std.proofs.Common.{Bool, true, false, ◌||◌, if◌then◌else◌, nat_lt, get_or}
+use Rattle.std.proofs.Common.{inl, inr, refl, ap, Contains, arith, ◌∙◌}
 use Rattle.std.proofs.lemmas.Bool.{cases_lt}
 use Rattle.std.proofs.lemmas.Bool.Decides.{nat_tests}
 use Rattle.std.proofs.lemmas.List.Sums.{AllPass-from_list_all, sum-map}
@@ -45,9 +46,13 @@ pub base-le : (host : Host) (t : Tier) (part : ℕ) (g : Guest) → part ≤ mos
     → base host t part g ≤ most_of g
 base-le host t part g l = elim (is_poor host t part g) as
     (λ b. (is_poor host t part g ≡ b) → (if b then part else g.target) ≤ most_of g) [
-  | true ↦ λ e. l
-  | false ↦ λ e. grind (arith, nat_tests, or_cases (nat_lt (most_of g) g.target) (is_squeezed host t part g) e)
-] refl
+      | true ↦ λ e. l
+      | false ↦ λ e. grind (
+        arith,
+        nat_tests,
+        or_cases (nat_lt (most_of g) g.target) (is_squeezed host t part g) e,
+      )
+    ] refl
 
 fair-le-most : (d : Division) (g : Guest) → fair d g ≤ most_of g
 fair-le-most d g = omega (arith, fair-le-through d g, through-le d.tier g)
@@ -56,8 +61,8 @@ pub settled-le-most : (host : Host) (d : Division) (gap : ℕ) (g : Guest)
     → settled host d gap g ≤ most_of g
 settled-le-most host d gap g = of_two (base host d.tier (fair d g) g) (fair d g) gap (most_of g)
     (base-le host d.tier (fair d g) g (fair-le-most d g)) (fair-le-most d g) where
-  of_two : (base fair gap most : ℕ) → base ≤ most → fair ≤ most → max base (fair - gap) ≤ most
-  of_two base fair gap most l m = omega (arith, l, m)
+      of_two : (base fair gap most : ℕ) → base ≤ most → fair ≤ most → max base (fair - gap) ≤ most
+      of_two base fair gap most l m = omega (arith, l, m)
 
 -- ---- where nothing is missing
 
@@ -99,20 +104,20 @@ more_at host gs i l = elim (list_all (may_stay host) gs) as
     (λ b. (list_all (may_stay host) gs ≡ b)
     → get_or (if b then map (λ g. g.target) gs else map (λ g. g.spare) gs) i 0
     ≤ value_at (λ g. g.spare) gs i + host.slack) [
-  | true ↦ λ e. tested_below (may_stay host) (λ g. g.target) (λ g. g.spare) host.slack
-      (stays-most host) gs i l e
-  | false ↦ λ e. omega arith
-] refl
+      | true ↦ λ e. tested_below (may_stay host) (λ g. g.target) (λ g. g.spare) host.slack
+          (stays-most host) gs i l e
+      | false ↦ λ e. omega arith
+    ] refl
 
 less_at : (host : Host) (gs : List Guest) (i : ℕ) → i < length gs
     → value_at (λ g. g.spare) gs i ≤ get_or (short_targets host gs) i 0 + host.slack
 less_at host gs i l = elim (list_all (may_stay host) gs) as
     (λ b. (list_all (may_stay host) gs ≡ b) → value_at (λ g. g.spare) gs i
     ≤ get_or (if b then map (λ g. g.target) gs else map (λ g. g.spare) gs) i 0 + host.slack) [
-  | true ↦ λ e. tested_below (may_stay host) (λ g. g.spare) (λ g. g.target) host.slack
-      (stays-least host) gs i l e
-  | false ↦ λ e. omega arith
-] refl
+      | true ↦ λ e. tested_below (may_stay host) (λ g. g.spare) (λ g. g.target) host.slack
+          (stays-least host) gs i l e
+      | false ↦ λ e. omega arith
+    ] refl
 
 short_is : (host : Host) (gs : List Guest) (decision : Decision) (targets : List ℕ)
     → Decides host gs decision targets → sum_by (through Reserve) gs < host.lack
@@ -150,16 +155,16 @@ none_stay : (host : Host) (gs : List Guest) (g : Guest) → Contains gs g → g.
 none_stay host gs g among e = elim (list_all (may_stay host) gs) as
     (λ b. (list_all (may_stay host) gs ≡ b)
     → (if b then map (λ h. h.target) gs else map (λ h. h.spare) gs) ≡ map (λ h. h.spare) gs) [
-  | true ↦ λ all. absurd (waiting host g e (All-contains (λ h. may_stay host h ≡ true) gs g
-      (AllPass-from_list_all (may_stay host) gs all) among))
-  | false ↦ λ some. refl
-] refl
+      | true ↦ λ all. absurd (waiting host g e (All-contains (λ h. may_stay host h ≡ true) gs g
+          (AllPass-from_list_all (may_stay host) gs all) among))
+      | false ↦ λ some. refl
+    ] refl
 
 pub not_in_vain : (host : Host) (gs : List Guest) (decision : Decision) (targets : List ℕ)
     (g : Guest) → Decides host gs decision targets → Contains gs g → g.waits ≡ true
     → (host.lack ≤ sum targets) ⊎ (targets ≡ map (λ h. h.spare) gs)
 not_in_vain host gs decision targets g is among e =
     elim (cases_lt (sum_by (through Reserve) gs) host.lack) [
-  | inl short ↦ inr (short_is host gs decision targets is short ∙ none_stay host gs g among e)
-  | inr given ↦ inl (enough host gs decision targets is given)
-]
+      | inl short ↦ inr (short_is host gs decision targets is short ∙ none_stay host gs g among e)
+      | inr given ↦ inl (enough host gs decision targets is given)
+    ]

@@ -1,8 +1,9 @@
 -- What guests of one class keep, by their weights.
-use Rattle.std.proofs.Common.{◌≡◌, ◌≤◌, ℕ, ◌+◌, ◌*◌, ◌/◌, ◌-◌, ◌<◌, max, nat_le, nat_lt, ap, sym, ◌∙◌, arith}
+use Rattle.std.proofs.Common.{◌≡◌, ◌≤◌, ℕ, ◌+◌, ◌*◌, ◌-◌, ◌<◌, max, ap, sym, ◌∙◌, arith}
 use Rattle.std.proofs.lemmas.Bool.Decides.{nat_tests}
 use Rattle.std.proofs.lemmas.Nat.{mul-le}
-use Rattle.std.proofs.Math.Nat.{lt_of_mul-lt-mul_right, mul-lt-mul_of_pos_right, mul_assoc, mul_comm}
+use Rattle.std.proofs.Math.Nat.{lt_of_mul-lt-mul_right, mul-lt-mul_of_pos_right, mul_assoc}
+use Rattle.std.proofs.Math.Nat.{mul_comm}
 use Rattle.vb_policy.specs.declared.guest.Division.{Division}
 use Rattle.vb_policy.specs.declared.guest.Guest.{Guest}
 use Rattle.vb_policy.specs.declared.guest.Tier.{Tier}
@@ -20,8 +21,8 @@ of_class t p g e = grind (arith, nat_tests)
 kept-le : (d : Division) (g : Guest) → g.priority ≡ d.priority → kept_of d g ≤ keeps d.kept g
 kept-le d g e = of_parts (low d.tier d.priority g) (high d.tier d.priority g) (through d.tier g)
     (keeps d.kept g) (in_class d.tier d.priority g e) where
-  of_parts : (low high all kept : ℕ) → high ≡ all → all - max low (high - kept) ≤ kept
-  of_parts low high all kept e = omega (arith, e)
+      of_parts : (low high all kept : ℕ) → high ≡ all → all - max low (high - kept) ≤ kept
+      of_parts low high all kept e = omega (arith, e)
 
 -- and no less where it gives some of the tier
 le-kept : (d : Division) (g : Guest) → g.priority ≡ d.priority → before d.tier g < fair d g
@@ -29,9 +30,9 @@ le-kept : (d : Division) (g : Guest) → g.priority ≡ d.priority → before d.
 le-kept d g e more = of_parts (low d.tier d.priority g) (high d.tier d.priority g)
     (before d.tier g) (through d.tier g) (keeps d.kept g) (in_class d.tier d.priority g e)
     (of_class d.tier d.priority g e) more where
-  of_parts : (low high before all kept : ℕ) → high ≡ all → low ≡ before
-      → before < max low (high - kept) → kept ≤ all - max low (high - kept)
-  of_parts low high before all kept e f more = omega (arith, e, f, more)
+      of_parts : (low high before all kept : ℕ) → high ≡ all → low ≡ before
+          → before < max low (high - kept) → kept ≤ all - max low (high - kept)
+      of_parts low high before all kept e f more = omega (arith, e, f, more)
 
 -- ---- products
 

@@ -1,6 +1,6 @@
 -- Divisions that ask for more, and those that ask for less.
-use Rattle.std.proofs.Common.{◌≡◌, ◌⊎◌, ℕ, ◌-◌, ◌*◌, ◌/◌, ◌<◌, ◌≤◌, max, List, [], ◌∷◌, sum_by, nat_lt, nat_le}
-use Rattle.std.proofs.Common.{inl, inr, ap, ◌∙◌, arith}
+use Rattle.std.proofs.Common.{◌≡◌, ◌⊎◌, ℕ, ◌-◌, ◌*◌, ◌/◌, ◌<◌, ◌≤◌, max, List, [], ◌∷◌, sum_by}
+use Rattle.std.proofs.Common.{inl, inr, ap, arith}
 use Rattle.std.proofs.lemmas.Bool.{cases_lt}
 use Rattle.std.proofs.lemmas.Bool.Decides.{nat_tests}
 use Rattle.std.proofs.lemmas.List.Sums.{sum_by-cons, sum_by-le-sum_by}
@@ -12,14 +12,15 @@ use Rattle.vb_policy.specs.Divisions.{Divides, fair, keeps, share}
 use Rattle.vb_policy.specs.Laws.{CanGiveMore}
 use Rattle.vb_policy.specs.Tiers.{before, high, low, through}
 use Rattle.vb_policy.proofs.Divisions.{low-le-share, share-le-high, share_falls}
-use Rattle.vb_policy.proofs.Giving.{before-le-low, high-le-low, high-le-through, rank}
+use Rattle.vb_policy.proofs.Giving.{high-le-low, rank}
 use Rattle.vb_policy.proofs.Giving.{through-le-before, which_first}
 use Rattle.vb_policy.proofs.Order.{before-le-fair, fair-le-through}
 
 -- one division is of an earlier tier or class, or keeps as much
 abbrev pub IsNoLater : Division → Division → Type 0
 IsNoLater e d = (rank e.tier < rank d.tier)
-    ⊎ ((e.tier ≡ d.tier) × ((e.priority < d.priority) ⊎ ((e.priority ≡ d.priority) × (d.kept ≤ e.kept))))
+    ⊎ ((e.tier ≡ d.tier)
+    × ((e.priority < d.priority) ⊎ ((e.priority ≡ d.priority) × (d.kept ≤ e.kept))))
 
 in_class : (e d : Division) (g : Guest) → e.tier ≡ d.tier → e.priority < d.priority
     → fair e g ≤ fair d g
@@ -104,7 +105,7 @@ no_later lack less gs hs d e l grow one other = elim (which_first e.tier d.tier)
       one.tier,
       grow.through d.tier,
       sum_by-le-sum_by (through d.tier) (before e.tier) hs
-      (λ g. through-le-before d.tier e.tier g last),
+          (λ g. through-le-before d.tier e.tier g last),
       other.tier_first,
     ))
   ]
@@ -136,9 +137,9 @@ pub more_share : (t : Tier) (p k : ℕ) (g h : Guest) → More g h → share t p
 more_share t p k g h m = of_parts (low t p g) (low t p h) (high t p g) (high t p h) (keeps k g)
     (keeps k h) (more_low t p g h m) (more_high t p g h m)
     (ap (λ (w : ℕ). k * max 1 w / 4096) m.0) where
-  of_parts : (l1 l2 h1 h2 k1 k2 : ℕ) → l1 ≤ l2 → h1 ≤ h2 → k2 ≡ k1
-      → max l1 (h1 - k1) ≤ max l2 (h2 - k2)
-  of_parts l1 l2 h1 h2 k1 k2 l m e = omega (arith, l, m, e)
+      of_parts : (l1 l2 h1 h2 k1 k2 : ℕ) → l1 ≤ l2 → h1 ≤ h2 → k2 ≡ k1
+          → max l1 (h1 - k1) ≤ max l2 (h2 - k2)
+      of_parts l1 l2 h1 h2 k1 k2 l m e = omega (arith, l, m, e)
 
 each_more : (f : Guest → ℕ) → ((g h : Guest) → More g h → f g ≤ f h) → (gs hs : List Guest)
     → CanGiveMore gs hs → sum_by f gs ≤ sum_by f hs

@@ -1,9 +1,9 @@
 -- Which guests give first, and how much more than is missing.
-use Rattle.std.proofs.Common.{◌≡◌, ◌⊎◌, ℕ, ◌+◌, ◌*◌, ◌/◌, ◌-◌, ◌<◌, ◌≤◌, max, List, [], ◌∷◌, sum_by}
-use Rattle.std.proofs.Common.{nat_lt, nat_le, inl, inr, ap, refl, arith}
+use Rattle.std.proofs.Common.{◌≡◌, ℕ, ◌+◌, ◌*◌, ◌/◌, ◌-◌, ◌<◌, ◌≤◌, max, List, [], ◌∷◌, sum_by}
+use Rattle.std.proofs.Common.{inl, inr, ap, arith}
 use Rattle.std.proofs.lemmas.Bool.{cases_lt}
 use Rattle.std.proofs.lemmas.Bool.Decides.{nat_tests}
-use Rattle.std.proofs.lemmas.List.Sums.{sum_by-cons, sum_by-le-sum_by}
+use Rattle.std.proofs.lemmas.List.Sums.{sum_by-cons}
 use Rattle.vb_policy.specs.declared.guest.Division.{Division}
 use Rattle.vb_policy.specs.declared.guest.Guest.{Guest}
 use Rattle.vb_policy.specs.declared.guest.Tier.{Tier}
@@ -11,7 +11,7 @@ use Rattle.vb_policy.specs.Divisions.{Divides, fair, keeps, share}
 use Rattle.vb_policy.specs.Laws.{unit_of, weight_of}
 use Rattle.vb_policy.specs.Tiers.{before, high, low, through}
 use Rattle.vb_policy.proofs.Divisions.{low-le-share, share-le-high}
-use Rattle.vb_policy.proofs.Giving.{before-le, before-le-low, high-le-through, rank}
+use Rattle.vb_policy.proofs.Giving.{before-le, before-le-low, high-le-through}
 use Rattle.vb_policy.proofs.Giving.{through-le-before, which_first}
 
 pub fair-le-through : (d : Division) (g : Guest) → fair d g ≤ through d.tier g
@@ -83,9 +83,9 @@ quotients k w = let e : (k + 1) * w ≡ k * w + w = right_distributes k w in ome
 share_steps : (t : Tier) (p k : ℕ) (g : Guest) → share t p k g ≤ share t p (k + 1) g + unit_of g
 share_steps t p k g = of_two (low t p g) (high t p g) (keeps k g) (keeps (k + 1) g) (unit_of g)
     (quotients k (weight_of g)) where
-  of_two : (low high less more unit : ℕ) → more ≤ less + unit
-      → max low (high - less) ≤ max low (high - more) + unit
-  of_two low high less more unit l = omega (arith, l)
+      of_two : (low high less more unit : ℕ) → more ≤ less + unit
+          → max low (high - less) ≤ max low (high - more) + unit
+      of_two low high less more unit l = omega (arith, l)
 
 -- a sum of terms that are larger by no more than others
 pub sum_within : {X : Type 0} (f h u : X → ℕ) → ((x : X) → f x ≤ h x + u x) → (xs : List X)
@@ -107,7 +107,7 @@ little_more lack gs d is = elim (cases_lt (sum_by (share d.tier d.priority (d.ke
     arith,
     less,
     sum_within (fair d) (share d.tier d.priority (d.kept + 1)) unit_of
-    (share_steps d.tier d.priority d.kept) gs,
+        (share_steps d.tier d.priority d.kept) gs,
   )
   | inr enough ↦ absurd (omega (arith, is.kept_most (d.kept + 1) enough))
 ]

@@ -54,9 +54,9 @@ same_fair : (d : Division) (f : Guest → ℕ) (g : Guest) → fair d (retargete
 same_fair d f g = omega (
   arith,
   more_share d.tier d.priority d.kept g (retargeted f g)
-  (refl, refl, omega arith, omega arith, omega arith),
+      (refl, refl, omega arith, omega arith, omega arith),
   more_share d.tier d.priority d.kept (retargeted f g) g
-  (refl, refl, omega arith, omega arith, omega arith),
+      (refl, refl, omega arith, omega arith, omega arith),
 )
 
 squeezed_no : (host : Host) (t : Tier) (part : ℕ) (g : Guest)
@@ -93,12 +93,12 @@ settled_band : (host : Host) (t : Tier) (part gap : ℕ) (g : Guest)
 settled_band host t part gap g = elim (is_poor host t part g) as
     (λ b. (is_poor host t part g ≡ b) → min 100 host.band * (through t g - part)
     ≤ 100 * ((through t g - max (if b then part else g.target) (part - gap)) + host.slack)) [
-  | true ↦ λ e. has_part (min 100 host.band * (through t g - part)) (through t g) part gap
-      host.slack (band_of_part host.band (through t g) part)
-  | false ↦ λ e. has_risen (min 100 host.band * (through t g - part)) (through t g) part gap
-      g.target host.slack (band_of_part host.band (through t g) part) (squeezed_no host t part g
-      (or_none (nat_lt (most_of g) g.target) (is_squeezed host t part g) e))
-] refl
+      | true ↦ λ e. has_part (min 100 host.band * (through t g - part)) (through t g) part gap
+          host.slack (band_of_part host.band (through t g) part)
+      | false ↦ λ e. has_risen (min 100 host.band * (through t g - part)) (through t g) part gap
+          g.target host.slack (band_of_part host.band (through t g) part) (squeezed_no host t part g
+          (or_none (nat_lt (most_of g) g.target) (is_squeezed host t part g) e))
+    ] refl
 
 -- a guest whose target may be and isn't squeezed stays
 rests : (host : Host) (t : Tier) (part : ℕ) (f : Guest → ℕ) (g : Guest) → f g ≤ most_of g
@@ -117,9 +117,9 @@ settled_rests host d gap n g l = let f : Guest → ℕ = settled host d gap in
     ∙ within (base host d.tier part (retargeted f g)) (f g) (base host d.tier part g) part
     (rests host d.tier part f g (settled-le-most host d gap g)
     (settled_band host d.tier part gap g)) refl where
-  within : (now new old part : ℕ) → now ≡ new → new ≡ max old (part - gap)
-      → max now (part - n) ≡ new
-  within now new old part e m = omega (arith, l, e, m)
+      within : (now new old part : ℕ) → now ≡ new → new ≡ max old (part - gap)
+          → max now (part - n) ≡ new
+      within now new old part e m = omega (arith, l, e, m)
 
 relieved_rests : (host : Host) (g : Guest)
     → base host Unused 0 (retargeted (base host Unused 0) g) ≡ base host Unused 0 g
@@ -128,8 +128,8 @@ relieved_rests host g = rests host Unused 0 (base host Unused 0) g
     (λ (n : ℕ). min 100 host.band * (through Unused g - 0)
     ≤ 100 * ((through Unused g - n) + host.slack))
     (no_gap (base host Unused 0 g)) (settled_band host Unused 0 0 g)) where
-  no_gap : (n : ℕ) → max n (0 - 0) ≡ n
-  no_gap n = omega arith
+      no_gap : (n : ℕ) → max n (0 - 0) ≡ n
+      no_gap n = omega arith
 
 -- ---- of all
 
@@ -192,14 +192,15 @@ all_asked : (host : Host) (gs : List Guest)
 all_asked host gs = elim (list_all (may_stay host) (map (retargeted (λ g. g.spare)) gs)) as
     (λ b. (if b then map (λ g. g.target) (map (retargeted (λ g. g.spare)) gs)
     else map (λ g. g.spare) (map (retargeted (λ g. g.spare)) gs)) ≡ map (λ g. g.spare) gs) [
-  | true ↦ maps_rest (λ g. g.target) (λ g. g.spare) (λ g. refl) gs
-  | false ↦ maps_rest (λ g. g.spare) (λ g. g.spare) (λ g. refl) gs
-]
+      | true ↦ maps_rest (λ g. g.target) (λ g. g.spare) (λ g. refl) gs
+      | false ↦ maps_rest (λ g. g.spare) (λ g. g.spare) (λ g. refl) gs
+    ]
 
 -- what all are asked for on a short host is asked again
 short_at_rest : (host : Host) (gs : List Guest) (m : ℕ) (e : Decision) (us : List ℕ) (b : Bool)
     → list_all (may_stay host) gs ≡ b → 0 < m → host.lack ≡ sum_by (through Reserve) gs + m
-    → Decides host (with_targets gs (if b then map (λ g. g.target) gs else map (λ g. g.spare) gs)) e us
+    → Decides host
+    (with_targets gs (if b then map (λ g. g.target) gs else map (λ g. g.spare) gs)) e us
     → us ≡ (if b then map (λ g. g.target) gs else map (λ g. g.spare) gs)
 short_at_rest host gs m e us true stay some is q =
     short_again host gs (λ g. g.target) m e us some is

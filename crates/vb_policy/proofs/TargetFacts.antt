@@ -1,12 +1,11 @@
 -- Worked facts of poor guests and of the targets that are set: numbers by hand, in pages.
-use Rattle.std.proofs.Common.{◌≡◌, ℕ, ◌<◌, ◌≤◌, List, [], ◌∷◌, map, Bool, true, false, refl, arith}
-use Rattle.vb_policy.specs.declared.guest.Decision.{Decision}
+use Rattle.std.proofs.Common.{◌≡◌, ℕ, List, [], ◌∷◌, map, true, false, refl, arith}
 use Rattle.vb_policy.specs.declared.guest.Decision.TheVariants.{Enough, Divided, Short}
 use Rattle.vb_policy.specs.declared.guest.Division.{Division}
 use Rattle.vb_policy.specs.declared.guest.Guest.{Guest}
 use Rattle.vb_policy.specs.declared.guest.Host.{Host}
-use Rattle.vb_policy.specs.declared.guest.Tier.TheVariants.{Unused, Cache, Reserve}
-use Rattle.vb_policy.specs.Decisions.{Decides, may_stay, short_targets}
+use Rattle.vb_policy.specs.declared.guest.Tier.TheVariants.{Unused}
+use Rattle.vb_policy.specs.Decisions.{Decides, short_targets}
 use Rattle.vb_policy.specs.Laws.{with_targets}
 use Rattle.vb_policy.specs.Settling.{base, is_poor, settled, Settles}
 use Rattle.vb_policy.proofs.DivisionFacts.{guest, of_tier}

@@ -5,7 +5,7 @@ use Rattle.vb_policy.specs.declared.guest.Guest.{Guest}
 use Rattle.vb_policy.specs.declared.guest.Tier.{Tier}
 use Rattle.vb_policy.specs.Tiers.{before, high, low, through}
 
--- the pages that a guest may keep, by its weight, where a unit of it keeps `kept` 4096ths of a page
+-- the pages that a guest may keep, where a unit of its weight keeps this many 4096ths of a page
 abbrev pub keeps : ℕ → Guest → ℕ
 keeps kept g = kept * max 1 g.weight / 4096
 

@@ -13,7 +13,8 @@ mod tiers;
 
 pub use decision::decide;
 pub use guest::{Decision, Division, Guest, Host, Tier};
-pub use laws::{decisions_rest, nobody_waits_in_vain, no_more_than_asked};
-pub use laws::order_of_guests_is_free;
-pub use laws::{parts_are_fair, parts_are_monotone};
-pub use laws::{targets_are_enough, targets_are_possible, tiers_are_in_order};
+pub use laws::{
+    decisions_rest, no_more_than_asked, nobody_waits_in_vain, order_of_guests_is_free,
+    parts_are_fair, parts_are_monotone, targets_are_enough, targets_are_possible,
+    tiers_are_in_order,
+};
