@@ -3,6 +3,7 @@ lends to the others as before."""
 
 import contextlib
 import os
+import re
 import signal
 
 import pytest
@@ -78,8 +79,8 @@ def terms_after(lend, lender, kept=None):
     link, channel = f"{lender.folder}/=a", f"{lender.folder}/.channels/a"
     lender.kill()
     os.unlink(channel)
-    if kept:
-        os.unlink(link), os.symlink(kept, link)
+    kept = kept or re.sub(r" 0 none$", f" {ALL} none", os.readlink(link))
+    os.unlink(link), os.symlink(kept, link)
     listens = Listens(lender.folder, "a")
     later = lend(1, *STRICT, folder=lender.folder)
     a = Played(
