@@ -82,8 +82,8 @@ pub fn nobody_waits_in_vain()
         (host.lack ≤ sum targets) ⊎ (targets ≡ map (λ h. h.spare) guests) }
 {}
 
-/// Guests in another order get one decision, and equal guests get equal targets in whatever place.
-/// So there is one decision.
+/// Guests in another order get the targets that they had, and equal guests get equal targets at any
+/// place. So there is one decision.
 pub fn order_of_guests_is_free()
     ensures decisions { (host : Host) (guests others : List Guest) (d e : Decision)
         (targets set : List ℕ) → IsPermutation guests others → Decides host guests d targets →
