@@ -42,6 +42,8 @@
  * debug.
  *
  * --overdraft: pages above the budget that are lent where all guests wait for each other (0).
+ * --cost: milliseconds that a client costs its seat, which may owe a minute (2000; 0: clients come
+ * as they like).
  * --floor: what each guest keeps free (12 MiB). --step: a target grows by one part in N of the
  * guest in a second, while the host is within its budget (8; 0: at once). --strict: guests'
  * deflates and resets wait for their grant, and so do newcomers. --strict-pages: a page number past
@@ -60,7 +62,14 @@
 #include <sys/pidfd.h>
 #include <unistd.h>
 
-enum { PERIOD = 200, FLOOR_MIB = 12, STEP = 8, FILES_OF_LENDER = 32, FILES_OF_SEAT = 4 };
+enum {
+    PERIOD = 200,
+    FLOOR_MIB = 12,
+    STEP = 8,
+    COST = 2000,
+    FILES_OF_LENDER = 32,
+    FILES_OF_SEAT = 4
+};
 
 /* Milliseconds in which guests' processes end that are told to. */
 enum { LEAVES_IN = 1000 };
@@ -107,7 +116,7 @@ static void take_config(struct host *host, const struct config *config)
 
 static const char help[] =
     "vhost_user_host FOLDER --budget MIB [--floor MIB] [--period MS] [--step N] "
-    "[--overdraft PAGES] [--strict] [--strict-pages] [--events] "
+    "[--overdraft PAGES] [--cost MS] [--strict] [--strict-pages] [--events] "
     "[--features HEX] [--lines N] [--program PATH] [--no-sandbox] [--end-with-lender] [--leave]\n"
     "                [--config FILE] [--control PATH] [--control-mode OCTAL] [--control-group "
     "NAME] [--status PATH] [--status-mode OCTAL] "
@@ -122,6 +131,7 @@ static enum command_line read_words(struct host *host, struct service *service, 
         {"step", .read = read_number_of, .at = &host->step},
         {"overdraft", .read = read_number_of, .at = &host->lends.overdraft},
         {"period", .read = read_period, .at = &host->period},
+        {"cost", .read = read_number_of, .at = &host->cost},
         {"features", .read = read_features, .at = &host->features},
         {"lines", .read = read_lines, .at = &most_lines},
         {"program", .read = read_word, .at = &host->program},
@@ -137,6 +147,7 @@ static enum command_line read_words(struct host *host, struct service *service, 
         {0}};
     host->features = USUAL_FEATURES;
     host->step = STEP;
+    host->cost = COST;
     host->floor = host->lends.overdraft = UINT32_MAX;
     service_defaults(service);
     enum command_line line = options_read(count, words, rows, &host->folder);

@@ -178,6 +178,7 @@ struct host {
     uint32_t frames, floor; /* pages: the budget, and what each guest is to keep free */
     uint32_t step;          /* a target grows by 1/step of the guest in a second; 0: at once */
     int64_t period;         /* milliseconds */
+    uint32_t cost;          /* of a client to its seat, in milliseconds; 0: clients cost nothing */
     int64_t rests_until; /* clients aren't taken before this, as there was no file left for one */
     int64_t paid_until;  /* the processes that were started are paid for until then, each with its
                             milliseconds */

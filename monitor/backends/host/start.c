@@ -18,9 +18,9 @@ extern char **environ;
  * clients of one guest. */
 enum { REST = 1000, PACE = 20 };
 
-/* Milliseconds that a client costs its seat, and that memory of the budget's size does, as guests
- * make room for it; and what a seat may owe. */
-enum { COST_OF_CLIENT = 2000, COST_OF_BUDGET = 30000, MOST_OWED = 60000 };
+/* Milliseconds that memory of the budget's size costs its seat beside the client, as guests make
+ * room for it; and what a seat may owe. */
+enum { COST_OF_BUDGET = 30000, MOST_OWED = 60000 };
 
 /* Milliseconds in which the guests of an earlier lender tell what they have. */
 enum { TOLD_IN = 5000 };
@@ -140,10 +140,12 @@ static void rest(struct seat *seat, int why)
     seat->host->rests_until = loop_now() + REST;
 }
 
-/* It owes these milliseconds, too. */
+/* It owes these milliseconds, too, where clients cost anything. */
 static void owe(struct seat *seat, int64_t cost)
 {
     int64_t now = loop_now();
+    if (seat->host->cost == 0)
+        return;
     seat->paid_until = (seat->paid_until > now ? seat->paid_until : now) + cost;
 }
 
@@ -163,7 +165,7 @@ void seat_start(struct seat *seat)
     int files[FILES_HANDED] = {-1, -1, -1};
     seat_clear(seat);
     seat->comes_at = loop_now() + PACE;
-    owe(seat, COST_OF_CLIENT);
+    owe(seat, seat->host->cost);
     int why = open_files(seat, files);
     why = why == 0 ? spawn(seat, files, &seat->process) : why;
     close_files(files);

@@ -12,6 +12,7 @@ from vhost_client import Client
 
 # Seconds: what a client costs, what memory of the budget's size does, and what a seat may owe.
 OF_CLIENT, OF_BUDGET, MOST_OWED = 2, 30, 60
+COSTS = ("--cost", "2000")
 
 OFTEN = "a: its clients come too often: "
 
@@ -39,7 +40,7 @@ def most_clients(cost, seconds):
 
 
 def test_a_seat_whose_clients_come_and_go_is_slowed(lend, come):
-    lender = lend(1, *QUICK)
+    lender = lend(1, *QUICK, *COSTS)
     b = come(lender, "b", {FREE: 100})
     lender.demand("add a")
 
@@ -55,7 +56,7 @@ def test_a_seat_whose_clients_come_and_go_is_slowed(lend, come):
 
 
 def test_memory_that_comes_and_goes_is_slowed_by_its_part_of_the_budget(lend):
-    lender = lend(1, *STRICT)
+    lender = lend(1, *STRICT, *COSTS)
     lender.demand("add a")
 
     def act():

@@ -41,12 +41,16 @@ def pairs(words):
 
 
 class Host(Backend):
-    """The process for all guests, and its control pipe."""
+    """The process for all guests, and its control pipe. Clients may come as they like."""
 
     def __init__(self, program, folder, budget, options=(), environment=None):
         self.folder, self.budget = folder, budget
+        cost = () if "--cost" in options else ("--cost", "0")
         super().__init__(
-            program, folder, [folder, "--budget", str(budget), *options], environment=environment
+            program,
+            folder,
+            [folder, "--budget", str(budget), *cost, *options],
+            environment=environment,
         )
 
     def close(self):
