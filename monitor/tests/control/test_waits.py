@@ -120,8 +120,9 @@ def test_a_wait_for_room_that_ends_without_a_grant_is_no_grant(host, arrive, hea
 def test_a_deflate_whose_guest_goes_is_no_grant(host, arrive, heard):
     guest = arrive("a")
     eventually(lambda: host.guest("a")["answers"])
+    host.ask("guest", name="a", target=len(GIVEN) * PAGE)
     guest.client.post_pages(INFLATE, GIVEN)
-    eventually(lambda: host.guest("a")["ballooned"] == len(GIVEN) * PAGE)
+    eventually(lambda: host.guest("a")["loan"] == GUEST - len(GIVEN) * PAGE)
     host.ask("budget", bytes=PAGE)
     before = ends(host)
     guest.client.post_pages(DEFLATE, GIVEN)
