@@ -65,6 +65,8 @@ def leaves(struct, name="", expression="", arrays=()):
     arrays of structs that it is in."""
     for of, declared in structs()[struct]:
         own, count = re.match(r"(\w+)(?:\[(.*)\])?", declared).groups()
+        if own == "unused":
+            continue
         inner, here = of.removeprefix("struct "), f"{expression}.{own}"
         if inner not in structs() or inner in WHOLE:
             yield (name + own, of, here, arrays)
