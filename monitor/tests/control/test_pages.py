@@ -179,7 +179,7 @@ COMPLETIONS = (
     (["bigvasta", "guest", "web-1", "l"], {"least=", "limit="}),
     (["bigvasta", "guest", "web-1", "t"], {"target="}),
     (["bigvasta", "add", "web-3", "t"], set()),
-    (["bigvasta", "add", "web-3", "m"], {"most="}),
+    (["bigvasta", "add", "web-3", "m"], {"memory=", "most="}),
     (["bigvasta", "log", "--s"], {"--since"}),
     (["bigvasta", "upgrade", "--"], {"--control", "--json", "--help"}),
     (["bigvasta", "plan", "--s"], {"--scheduler", "--seed", "--steps"}),
