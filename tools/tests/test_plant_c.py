@@ -106,7 +106,11 @@ SEEN = (
     ("monitor/backends/host/limits.c", ["host", "control"], "monitor/tests/host/test_limits.py"),
     ("monitor/backends/guest/virtio_pci.c", ["pci-proxy"], None),
     ("monitor/backends/guest/lent.c", ["vhost-user", "host", "control"], None),
-    ("client/bigvasta/picture.py", ["control", "plan"], "monitor/tests/control/test_client.py"),
+    (
+        "client/bigvasta/picture.py",
+        ["control", "plan"],
+        "monitor/tests/control/test_client_words.py",
+    ),
     ("client/bigvasta/plan/days.py", ["plan", "fleet"], "monitor/tests/plan/test_days.py"),
     ("client/bigvasta/plan/placing.py", ["fleet", "plan"], "monitor/tests/fleet/test_placing.py"),
 )
