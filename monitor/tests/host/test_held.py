@@ -58,7 +58,7 @@ def test_what_cannot_be_discarded_stays_lent(lend, come):
     used(a, DEFLATE, 2)
     lender.set_budget(ALL - 10)
     a.give(GIVEN[:10])
-    lender.become("a", ballooned=10)
+    lender.become("a", lent=ALL - 10, ballooned=10)
     assert not [it for it in lender.said() if "unasked" in it]
 
 
