@@ -129,7 +129,7 @@ def test_each_part_of_an_answer_may_be_anything(capsys, good, answers, path, wor
             assert is_plain(said) and is_plain(fault), (place, trash, said, fault)
 
 
-# A command, what it is answered in place of a good answer, and what it says then.
+# A command, what a host answers in place of a good answer, and what the command says then.
 LACKS = (
     ("status", ("host", "budget"), GONE, "host.budget"),
     ("status", ("host", "version"), 5, "host.version"),

@@ -177,13 +177,13 @@ class Kept:
             return next(map(int, children.read().split()), None)
 
     def kill(self, lender):
-        """Kills the process, and waits until the next one has kept what it goes on with. The lender
-        stands still meanwhile: it says nothing."""
+        """Kills the process, and waits until the next one has kept what it continues with. The
+        lender stands still meanwhile: it says nothing."""
         stop(lender.process.pid) if lender.is_there() else None
         stop(self.process)
         turns = self["kept.turns"]
         os.kill(self.process, signal.SIGKILL)
-        eventually(lambda: self["kept.turns"] > turns, "no other process goes on")
+        eventually(lambda: self["kept.turns"] > turns, "no other process takes over")
         self.process = self.next_process()
 
     def leave(self, lender):

@@ -86,7 +86,7 @@ class Before:
         self.client.post_pages(DEFLATE, GIVEN[:10])
 
     def waits_for_a_reset(self):
-        """A driver begins anew, with all of its pages."""
+        """A driver starts again, with all of its pages."""
         self.is_ready()
         for number in range(4):
             self.client.enable(number, 0)
@@ -140,7 +140,7 @@ def test_each_state_has_its_later_lender():
 
 @pytest.mark.parametrize("state", STATES)
 def test_a_later_lender_goes_on_with_a_guest_in_each_state(lend, come, state):
-    """It has no more frames than the earlier one: who waits goes on to wait, until there is
+    """It has no more frames than the earlier one: who waits keeps waiting, until there is
     room."""
     begin, wanted = STATES[state]
     before = Before(lend, come)

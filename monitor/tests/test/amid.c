@@ -171,7 +171,7 @@ static uint32_t go_steps(uint32_t kind, unsigned steps)
 }
 
 /* An event after some steps: a stale notice ends, changes nothing and asks for nothing; another one
- * goes on. */
+ * continues. */
 static bool happens(uint32_t kind, unsigned steps, unsigned event)
 {
     struct balloon *it = &amid.balloon;

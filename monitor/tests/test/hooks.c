@@ -156,7 +156,7 @@ static void notify_here(void)
     refused = balloon_set_regions(&amid.balloon, amid.regions, 1);
 }
 
-/* No notice begins in a hook, and no region changes; what the notice does goes on. */
+/* No notice begins in a hook, and no region changes; what the notice does continues. */
 static void nothing_begins_in_a_hook(void)
 {
     offer(VB_INFLATE);

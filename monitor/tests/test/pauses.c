@@ -160,7 +160,7 @@ static void where_calls_end(void)
     }
 }
 
-/* Two queues pause, a third one is served between, and each goes on with its own chain. */
+/* Two queues pause, a third one is served between, and each continues with its own chain. */
 static void two_queues_pause(void)
 {
     static struct guest guest;
@@ -239,7 +239,7 @@ static void save_and_restore(struct guest *guest)
            balloon_restore(&guest->balloon, bytes, sizeof bytes) == VB_OK);
 }
 
-/* After a reset, a stop or a restore no notice goes on: what is published then is served from its
+/* After a reset, a stop or a restore no notice continues: what is published then is served from its
  * first number on. */
 static void no_notice_goes_on_after(void (*change)(struct guest *guest), bool is_published)
 {

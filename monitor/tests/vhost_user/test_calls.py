@@ -27,7 +27,7 @@ def test_pipes_and_sockets_for_calls(start_by_events):
         os.close(client.calls[INFLATE])
         client.calls[INFLATE], theirs = ends
         client.accepted(SET_VRING_CALL, word(INFLATE), [theirs])
-        assert client.said(INFLATE) == word(1)  # who is called anew may have missed a call
+        assert client.said(INFLATE) == word(1)  # who is called again may have missed a call
         client.post_pages(INFLATE, [FIRST])
         assert client.said(INFLATE) == word(1)
         os.close(theirs)
