@@ -18,7 +18,7 @@ LOGS = os.path.join(ROOT, "out", "tests")
 LIMIT, LINES = 7200, 40
 
 SHIMS = "make gcc g++ clang libc6-dev python3 rustc cargo librust-vm-memory-dev"
-LINT = "make gcc cppcheck libc6-dev libjansson-dev libinih-dev libsystemd-dev libseccomp-dev"
+LINT = "make gcc clang-tidy cppcheck libc6-dev libjansson-dev libinih-dev libsystemd-dev libseccomp-dev"
 # The days and the notices of the quick part.
 FEWER = ("DAYS=100000", "NOTICES=100000")
 

@@ -9,7 +9,8 @@
 
 static json_t *kibibytes(uint64_t kib)
 {
-    return json_integer((json_int_t)(kib * 1024));
+    uint64_t bytes = kib * 1024;
+    return json_integer((json_int_t)bytes);
 }
 
 static json_t *count(uint64_t number)

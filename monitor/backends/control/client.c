@@ -97,7 +97,7 @@ char *client_text(const json_t *object, const char *rest, size_t *length)
     }
     if (rest) {
         line[own - 1] = ','; /* in place of the last brace */
-        memcpy(line + own, rest, more);
+        memcpy(line + own, rest, more + 1);
     }
     line[own + more] = '\n';
     *length = own + more + 1;

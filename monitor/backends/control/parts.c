@@ -4,7 +4,8 @@
 
 json_t *part_bytes(uint64_t pages)
 {
-    return json_integer((json_int_t)(pages * PAGE_BYTES));
+    uint64_t bytes = pages * PAGE_BYTES;
+    return json_integer((json_int_t)bytes);
 }
 
 /* A whole whose last change was answered by this code. */

@@ -276,7 +276,7 @@ static json_t *answer(struct asked *asked)
     if (!refusal && !json_is_string(name))
         refusal = request_refusal("bad-field", "request", "a string");
     for (unsigned i = 0; i < sizeof kinds / sizeof kinds[0] && !refusal; i++) {
-        if (strcmp(kinds[i].name, json_string_value(name)))
+        if (strcmp(kinds[i].name, json_string_value(name)) != 0)
             continue;
         refusal = change_refusal(asked, &kinds[i]);
         refusal = refusal ? refusal : fields_refusal(asked->fields, kinds[i].fields);

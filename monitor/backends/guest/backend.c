@@ -52,7 +52,7 @@ static void copy(void *context, const struct balloon_region *region, uint64_t at
 bool backend_start(struct backend *backend, const struct options *options)
 {
     /* Where memory ends is known when the client hands it over. */
-    VbSettings settings = {.memory_end = 2 * BALLOON_PAGE,
+    VbSettings settings = {.memory_end = 2ull * BALLOON_PAGE,
                            .offered =
                                options->features | (options->hints ? VB_F_FREE_PAGE_HINT : 0),
                            .skips_bad_pages = !options->strict,

@@ -202,7 +202,7 @@ static void become(const struct keeper *keeper)
     unsigned count = kept_files(keeper->kept, files), next = 2;
     files[count++] = KEPT_FILE;
     for (char **word = keeper->words + 1; *word && next < MOST_LINE - 1; word++)
-        if (strcmp(*word, goes_on_word))
+        if (strcmp(*word, goes_on_word) != 0)
             words[next++] = *word;
     for (unsigned i = 0; i < count; i++)
         fcntl(files[i], F_SETFD, 0);

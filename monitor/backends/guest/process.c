@@ -136,9 +136,11 @@ int poll_some(struct pollfd *files, nfds_t count, int limit)
         poll(NULL, 0, REST);
     }
     for (nfds_t i = 0; i < count; i++)
-        files[i].revents = files[i].fd >= 0 ? some[number++].revents : 0;
-    for (nfds_t i = 0; found < 0 && i < count; i++)
-        files[i].revents = 0;
+        if (files[i].fd >= 0)
+            files[i].revents = some[number++].revents;
+    for (nfds_t i = 0; i < count; i++)
+        if (found < 0 || files[i].fd < 0)
+            files[i].revents = 0;
     return found;
 }
 

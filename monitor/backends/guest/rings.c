@@ -219,13 +219,13 @@ static bool holds(struct backend *backend, unsigned number)
 {
     const struct ring *ring = &backend->rings[number];
     const VbQueue *queue = queue_of(backend, kind_of(backend, number));
-    uint64_t table, avail, used;
+    uint64_t table, avail, used, size = queue->size;
     return memory_of_user(&backend->memory, ring->table, &table) && table == queue->table &&
            memory_of_user(&backend->memory, ring->avail, &avail) && avail == queue->avail &&
            memory_of_user(&backend->memory, ring->used, &used) && used == queue->used &&
-           memory_holds(&backend->memory, table, DESCRIPTOR_SIZE * queue->size) &&
-           memory_holds(&backend->memory, avail, RING_META_SIZE + AVAIL_ENTRY_SIZE * queue->size) &&
-           memory_holds(&backend->memory, used, RING_META_SIZE + USED_ELEMENT_SIZE * queue->size);
+           memory_holds(&backend->memory, table, DESCRIPTOR_SIZE * size) &&
+           memory_holds(&backend->memory, avail, RING_META_SIZE + AVAIL_ENTRY_SIZE * size) &&
+           memory_holds(&backend->memory, used, RING_META_SIZE + USED_ELEMENT_SIZE * size);
 }
 
 bool rings_hold(struct backend *backend)

@@ -119,7 +119,7 @@ static bool has_file(const char *folder, const char *name)
 static const char *cgroup_fault(const char *path, const struct place *place)
 {
     bool second = !strcmp(place->type, "cgroup2");
-    if (!second && (strcmp(place->type, "cgroup") || !place->has_memory))
+    if (!second && (strcmp(place->type, "cgroup") != 0 || !place->has_memory))
         return "no cgroup of memory";
     if (access(path, F_OK))
         return errno == ENOENT ? NULL : strerror(errno);
@@ -137,8 +137,8 @@ const char *limit_fault(const struct guest_limit *limit)
         return "the kernel's table of mounts can't be read";
     if (limit->kind == LIMIT_CGROUP)
         return cgroup_fault(limit->path, &place);
-    return strcmp(place.folder, limit->path) || strcmp(place.type, "tmpfs") ? "no mount of tmpfs"
-                                                                            : NULL;
+    bool is_tmpfs = !strcmp(place.folder, limit->path) && !strcmp(place.type, "tmpfs");
+    return is_tmpfs ? NULL : "no mount of tmpfs";
 }
 
 bool limits_meet(const struct guest_limit *one, const struct guest_limit *other)

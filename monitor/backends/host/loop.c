@@ -136,8 +136,8 @@ static int64_t latest(int64_t one, int64_t other)
 static void wait_for_seat(struct seat *seat)
 {
     struct loop *loop = &seat->host->loop;
-    int64_t host_comes_at =
-        latest(seat->host->rests_until, seat->host->paid_until - STARTS_AHEAD * START_EVERY);
+    int64_t host_comes_at = latest(seat->host->rests_until,
+                                   seat->host->paid_until - (int64_t)STARTS_AHEAD * START_EVERY);
     int64_t comes_at = latest(latest(seat->comes_at, seat_has_paid(seat)), host_comes_at);
     bool waits = !seat->here && seat->listener >= 0, comes = comes_at <= loop_now();
     loop_wait_for(loop, seat->writer.channel, POLLIN, take_limit, seat);

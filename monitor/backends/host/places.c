@@ -93,7 +93,7 @@ static void join(struct seat *seat);
 /* Something happens. */
 static void happens(struct host *host, VbHostEvent event)
 {
-    uint32_t before[2 * MOST_GUESTS];
+    uint32_t before[2 * MOST_GUESTS] = {0};
     struct seat *seat;
     for (unsigned i = 0; (seat = seat_at(host, i)); i++)
         before[i] = seat_lent(seat);

@@ -29,7 +29,7 @@ struct service {
         word "-group", .read = read_socket_group, .at = &(its)->sockets[rights].group              \
     }
 #define SERVICE_OPTIONS(its)                                                                       \
-    {"config", .read = read_config, .at = its}, SOCKET_OPTIONS(its, MAY_CHANGE, "control"),        \
+    {"config", .read = read_config, .at = (its)}, SOCKET_OPTIONS(its, MAY_CHANGE, "control"),      \
         SOCKET_OPTIONS(its, MAY_LOOK, "status"),                                                   \
     {                                                                                              \
         "log-level", .read = read_log_level                                                        \
