@@ -201,7 +201,19 @@ def test_what_is_said(tree, monkeypatch, capsys):
         "monitor/add.c:4: constant: 1 -> 2: PASSED",
     ]
     # Whatever a sum is compared with, both results are the sum.
-    assert last == "seed 3: 2 tried, 1 refused, 1 passed; 0 not compiled, 2 the same"
+    assert last == "seed 3: 0 listed, 2 tried, 1 refused, 1 passed; 0 not compiled, 2 the same"
+
+
+def test_what_is_listed(tree, monkeypatch, capsys):
+    monkeypatch.setattr(PLANT, "core_of", lambda: None)
+    monkeypatch.setattr(PLANT, "commands_of", None)
+    assert PLANT.main(["--seed", "3", "--count", "9", "--list"]) == 0
+    *lines, last = capsys.readouterr().out.splitlines()
+    assert sorted(lines) == [
+        "monitor/add.c:3: sign: + -> -: no test was run",
+        "monitor/add.c:4: constant: 1 -> 2: no test was run",
+    ]
+    assert last == "seed 3: 2 listed, 0 tried, 0 refused, 0 passed; 0 not compiled, 2 the same"
 
 
 def test_a_file_that_is_not_shipped(tree, monkeypatch, capsys):
