@@ -5,6 +5,7 @@ import json
 import os
 import socket
 import stat
+import time
 
 import pytest
 from bigvasta.statuses import Refused
@@ -219,6 +220,14 @@ def test_a_line_of_the_most_bytes_and_one_more(host, raw):
     }
     assert raw.lines.readline() == b""
     assert host.status()["control"]["clients"] == 1
+
+
+def test_a_line_that_is_too_long_by_its_second_part(raw):
+    raw.socket.sendall(b"x")
+    time.sleep(0.3)
+    raw.socket.sendall(b"x" * 4096)
+    assert json.loads(raw.lines.readline())["error"]["code"] == "too-long"
+    assert raw.lines.readline() == b""
 
 
 def test_who_ends_what_it_sends_is_answered_and_then_closed(raw):

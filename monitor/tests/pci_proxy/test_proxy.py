@@ -3,6 +3,7 @@ random bytes leave it without a fault."""
 
 import os
 import random
+import resource
 import signal
 import socket
 import struct
@@ -30,6 +31,7 @@ from pci_client import (
     STATUS,
     SYNC_MEMORY,
 )
+from program_words import demand_options_taken
 from vhost_client import NO_NUMBERS
 from waiting import PATIENCE, patience_from_now
 
@@ -226,6 +228,22 @@ def test_help_and_version(program):
             timeout=PATIENCE,
         )
         assert (ran.returncode, ran.stderr, ran.stdout[: len(said)]) == (0, "", said)
+
+
+def test_each_option_that_the_help_names_is_taken(program):
+    demand_options_taken(program)
+
+
+def test_few_files_are_allowed(serve):
+    """It allows itself as many as it may have open, and no more."""
+    few, most = 64, resource.getrlimit(resource.RLIMIT_NOFILE)
+    resource.setrlimit(resource.RLIMIT_NOFILE, (few, most[1]))
+    try:
+        client = serve()
+    finally:
+        resource.setrlimit(resource.RLIMIT_NOFILE, most)
+    allowed, _ = resource.prlimit(client.backend.process.pid, resource.RLIMIT_NOFILE)
+    assert few < allowed < 4 * few
 
 
 def test_a_signal_ends_it(serve):

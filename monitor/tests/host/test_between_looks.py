@@ -1,0 +1,124 @@
+"""What a host does between two of its looks, and what it leaves until then."""
+
+import time
+
+import pytest
+from played import ORDER_LOOK, TELL_REPORT, VERSION, Message
+from tenants import FREE, eventually
+from test_channels import channel
+from test_strict import GIVEN, STRICT, used
+from vhost_client import DEFLATE, PAGE
+
+# A host that looks at its guests once a minute; how often a story is told again that has lasted
+# longer, as the machine is busy; and the seconds in which all that was said is heard.
+SELDOM, TRIES, HEARD = ("--floor", "0", "--step", "0", "--period", "60000"), 3, 0.5
+
+
+def has_target(lender, name, pages):
+    """Waits until a guest is asked for these pages, by what a host shows, for which it asks nobody
+    for a report."""
+
+    def target():
+        return next(it["target"] for it in lender.status()["guests"] if it["name"] == name)
+
+    eventually(
+        lambda: target() == pages * PAGE, lambda: f"{name} is asked for {target() // PAGE} pages"
+    )
+
+
+def statistics_are_heard(lender, come):
+    """Who had none free, and has some now, is asked for them."""
+    guest = come(lender, "a", {FREE: 0})
+    lender.set_budget(78)
+    guest.figures[FREE] = 100
+    has_target(lender, "a", 0)
+    lender.demand("a ask")
+    has_target(lender, "a", 50)
+
+
+def pages_are_taken_unasked(lender, come):
+    """Who takes what it gave has none free: another one is asked."""
+    a, b = (come(lender, name, {FREE: 100}, "strict=0") for name in "ab")
+    lender.set_budget(156)
+    has_target(lender, "a", 100), has_target(lender, "b", 0)
+    a.give(GIVEN[:100])
+    lender.become("a", ballooned=100)
+    a.take(GIVEN[:100])
+    has_target(lender, "b", 100)
+
+
+def a_deflate_is_held(lender, come):
+    """It is granted."""
+    guest = come(lender, "a", {FREE: 100})
+    lender.set_budget(78)
+    has_target(lender, "a", 50)
+    guest.give(GIVEN[:50])
+    lender.become("a", ballooned=50, lent=78)
+    lender.set_budget(128)
+    has_target(lender, "a", 0)
+    time.sleep(HEARD)
+    guest.take(GIVEN[:10])
+    used(guest, DEFLATE, 1)
+
+
+def statistics_are_waited_for(lender, come):
+    """Who can be asked, and doesn't answer, is waited for until it is clear that it won't soon."""
+    come(lender, "a", {FREE: 100}).answers = False
+    return lender.ask("a ask") == "asked"
+
+
+STORIES = (
+    statistics_are_heard,
+    pages_are_taken_unasked,
+    a_deflate_is_held,
+    statistics_are_waited_for,
+)
+
+
+@pytest.mark.parametrize("story", STORIES)
+def test_what_waits_for_no_look(lend, come, story):
+    for number in range(TRIES):
+        lender = lend(1, *SELDOM, "--strict")
+        if story(lender, come) is not False and lender.counters()["looks"] == 0:
+            return
+        lender.close()
+    raise AssertionError("it waits for a look")
+
+
+def test_lines_ask_no_guest_for_its_statistics(lend, come):
+    lender = lend(1, *SELDOM)
+    come(lender, "a", {FREE: 100})
+    before = lender.guests()["a"]["statistics"]
+    for _ in range(10):
+        lender.guests(), lender.counters(), lender.demand("a counters")
+        time.sleep(HEARD / 10)
+    assert lender.guests()["a"]["statistics"] == before
+
+
+def test_an_order_to_look_is_answered_once(lend, come):
+    lender = lend(1, *SELDOM)
+    come(lender, "a", {FREE: 100})
+    lender.kill()
+    with channel() as it:
+        it.connect(f"{lender.folder}/.channels/a")
+        for number in (7, 1, 8):
+            it.send(bytes(Message(version=VERSION, kind=ORDER_LOOK, number=number)))
+        reports = []
+        while not reports or reports[-1].number != 8:
+            reports.append(Message.from_buffer_copy(it.recv(1 << 16)))
+    assert {(its.kind, its.asked) for its in reports} == {(TELL_REPORT, 0)}
+    assert [its.number for its in reports if its.number] == [7, 1, 8]
+    lend(1, *SELDOM, folder=lender.folder)
+
+
+def test_an_overdraft_is_lent_once_nothing_has_moved_for_a_second(lend, come):
+    lender = lend(1, *STRICT, "--overdraft", "10")
+    guest = come(lender, "a", {FREE: 50})
+    lender.set_budget(78)
+    has_target(lender, "a", 50)
+    guest.give(GIVEN[:50])
+    lender.become("a", ballooned=50, lent=78)
+    begin = time.monotonic()
+    guest.take(GIVEN[:10])
+    used(guest, DEFLATE, 1)
+    assert time.monotonic() - begin >= 1

@@ -1,0 +1,80 @@
+"""What a guest's process reports: each field of a report, with numbers that differ."""
+
+import struct
+
+from bigvasta import __version__
+from played import NUMBERS, ORDER_LOOK, ORDER_TARGET, TELL_REPORT, VERSION, Message
+from tenants import AVAILABLE, FREE, eventually
+from test_channels import channel
+from test_strict import GIVEN, STRICT
+from vhost_client import PAGE, REGIONS, SET_CONFIG
+
+# Where `actual` is in the configuration (VIRTIO 1.1, 5.5.4), and what is written there.
+ACTUAL_AT, ACTUAL = 4, 29
+
+# A guest of 128 pages that has given 45, whose target is 33 now, and that holds a deflate of 10;
+# the number of the order to look; what isn't here is 0.
+ALL, GAVE, TARGET, TAKES, DRIVER_OK, LOOK = 128, 45, 33, 10, 15, 7
+WANTED = {
+    "kind": TELL_REPORT,
+    "number": LOOK,
+    "held_kib": 4 * (ALL - GAVE),
+    "end": (REGIONS[1][0] // PAGE) + ALL // 2,
+    "pages": ALL,
+    "wanted": ALL,
+    "wait": 1,
+    "holds": 1,
+    "held_pages": TAKES,
+    "held_wait": 1,
+    "target": TARGET,
+    "actual": ACTUAL,
+    "ballooned": GAVE,
+    "status": DRIVER_OK,
+    "ready": 1,
+    "obeyed": TARGET + 1,
+    "ballooned_then": GAVE,
+    "figure_count": 2,
+}
+
+
+def order(channel, kind, **its):
+    """Gives an order, as a lender does."""
+    channel.send(bytes(Message(version=VERSION, kind=kind, **its)))
+
+
+def reported(channel):
+    """Returns the report that answers an order to look."""
+    order(channel, ORDER_LOOK, number=LOOK)
+    return next(
+        it
+        for it in iter(lambda: Message.from_buffer_copy(channel.recv(1 << 16)), None)
+        if it.number == LOOK
+    )
+
+
+def test_each_field_of_a_report(lend, come):
+    lender = lend(1, *STRICT)
+    guest = come(lender, "a", {FREE: 100, AVAILABLE: 90})
+    lender.set_budget(ALL - GAVE)
+    guest.give(GIVEN[:GAVE])
+    lender.become("a", ballooned=GAVE, lent=ALL - GAVE)
+    told = lender.guests()["a"]["statistics"]
+    eventually(lambda: lender.guests()["a"]["statistics"] > told + 1)
+    lender.kill()
+    with channel() as it:
+        it.connect(f"{lender.folder}/.channels/a")
+        order(it, ORDER_TARGET, target=TARGET)
+        with guest.lock:
+            guest.client.send(SET_CONFIG, struct.pack("<IIII", ACTUAL_AT, 4, 0, ACTUAL))
+        guest.take(GIVEN[:TAKES])
+        report = eventually(
+            lambda: (its := reported(it)).held_pages and its.obeyed == TARGET + 1 and its
+        )
+    fields = ("kind", "number", "held_kib", "end", "lost", *NUMBERS)
+    assert {it: getattr(report, it) for it in fields} == {it: WANTED.get(it, 0) for it in fields}
+    assert report.serial > 0 and report.words == __version__.encode()
+    assert [(it.tag, it.value) for it in report.figures[:2]] == [
+        (FREE, 100 * PAGE),
+        (AVAILABLE, 90 * PAGE),
+    ]
+    lend(1, *STRICT, folder=lender.folder)
