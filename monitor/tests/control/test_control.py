@@ -222,12 +222,13 @@ def test_a_line_of_the_most_bytes_and_one_more(host, raw):
     assert host.status()["control"]["clients"] == 1
 
 
-def test_a_line_that_is_too_long_by_its_second_part(raw):
+def test_a_line_that_is_too_long_by_its_second_part(host, raw):
+    """Its answer may be lost, as bytes are left that nobody reads."""
     raw.socket.sendall(b"x")
     time.sleep(0.3)
     raw.socket.sendall(b"x" * 4096)
-    assert json.loads(raw.lines.readline())["error"]["code"] == "too-long"
-    assert raw.lines.readline() == b""
+    eventually(lambda: host.status()["control"]["refused"] == 1)
+    eventually(lambda: host.status()["control"]["clients"] == 1)
 
 
 def test_who_ends_what_it_sends_is_answered_and_then_closed(raw):
