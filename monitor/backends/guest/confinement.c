@@ -5,10 +5,13 @@
 
 #include <errno.h>
 #include <fcntl.h>
+#include <sched.h>
+#include <signal.h>
 #include <stdint.h>
 #include <stdio.h>
 #include <stdlib.h>
 #include <string.h>
+#include <sys/auxv.h>
 #include <sys/resource.h>
 #include <sys/syscall.h>
 #include <unistd.h>
@@ -16,6 +19,10 @@
 /* Bytes of its own memory that a process may have; the guest's is shared. Scores by which the
  * kernel chooses whom to kill: how far above the lender's, and the most there is. */
 enum { MOST_DATA = 64 << 20, SCORES_ABOVE = 100, MOST_SCORE = 1000, MOST_DIGITS = 16 };
+
+/* Words of the map of users; the process that is the first of its namespace; the user as whom the
+ * kernel shows each that has no place in the map. */
+enum { MOST_MAP = 32, FIRST_PROCESS = 1, UNMAPPED_USER = 65534 };
 
 /* What Landlock has of rights, as its header has in later versions alone (landlock(7)): with each
  * version, as its first one, all rights of files, of TCP, and of whom it reaches outside. */
@@ -55,6 +62,37 @@ static bool take_rights(void)
     return taken;
 }
 
+pid_t confinement_fork(bool is_alone)
+{
+    static const unsigned long shared = CLONE_FILES | SIGCHLD;
+    pid_t process = -1;
+    if (is_alone && geteuid() != UNMAPPED_USER)
+        process = (pid_t)syscall(SYS_clone, shared | CLONE_NEWUSER | CLONE_NEWPID, NULL, NULL, NULL,
+                                 NULL);
+    return process >= 0 ? process : (pid_t)syscall(SYS_clone, shared, NULL, NULL, NULL, NULL);
+}
+
+bool confinement_keeps_user(void)
+{
+    char map[MOST_MAP];
+    unsigned user = (unsigned)getauxval(AT_EUID);
+    int length = snprintf(map, sizeof map, "%u %u 1", user, user);
+    if (getpid() != FIRST_PROCESS)
+        return true;
+    int file = open("/proc/self/uid_map", O_WRONLY | O_CLOEXEC);
+    bool kept = file >= 0 && write(file, map, (size_t)length) == length;
+    if (file >= 0)
+        close(file);
+    return kept;
+}
+
+/* A lender that has more of the processors than others has it for itself. */
+static void yield_processor(void)
+{
+    if (getpriority(PRIO_PROCESS, 0) < 0 && setpriority(PRIO_PROCESS, 0, 0))
+        complain("its process has as much of the processors as its lender: %s", strerror(errno));
+}
+
 /* Is killed before its lender. */
 static void yield_memory(void)
 {
@@ -79,6 +117,9 @@ void confinement_enter(void)
                   {RLIMIT_NOFILE, MOST_OPEN, "its open files"},
                   {RLIMIT_NPROC, 0, "its children"}};
     yield_memory();
+    yield_processor();
+    if (getpid() != FIRST_PROCESS)
+        complain("the kernel gives its process no namespaces of its own");
     for (unsigned i = 0; i < sizeof limits / sizeof limits[0]; i++)
         if (setrlimit(limits[i].resource, &(struct rlimit){limits[i].most, limits[i].most}))
             complain("%s can't be limited: %s", limits[i].what, strerror(errno));

@@ -6,11 +6,13 @@
 #include "sandbox.h"
 
 #include <fcntl.h>
-#include <sched.h>
+#include <linux/capability.h>
+#include <poll.h>
 #include <signal.h>
 #include <stdio.h>
 #include <stdlib.h>
 #include <sys/mman.h>
+#include <sys/pidfd.h>
 #include <sys/prctl.h>
 #include <sys/resource.h>
 #include <sys/socket.h>
@@ -22,13 +24,20 @@
  * memory. MOST_TRIES: processes that end one after the other before they have served a turn. */
 enum { KEPT_FILE = 190, HIGH_FILE = MOST_OPEN - FILES_OF_GUEST, MOST_TRIES = 3, MOST_LINE = 24 };
 
+/* What a keeper needs for its processes to have its user where that is root (user_namespaces(7)). */
+static const uint32_t TO_KEEP_ROOT = CAP_TO_MASK(CAP_SETFCAP);
+
+/* The status of a process that can't keep its user in a namespace of its own. */
+enum { ISNT_ITSELF = 76 };
+
 static const char goes_on_word[] = "--goes-on";
 
 struct keeper {
     const struct options *options;
     char **words;
     struct kept *kept;
-    bool ends; /* a signal has told it to */
+    bool is_alone; /* its next process is to have namespaces of its own */
+    bool ends;     /* a signal has told it to */
     unsigned tries;
     uint32_t turns; /* as the last process began */
 };
@@ -146,10 +155,15 @@ static bool leave_standard_error(void)
     return left;
 }
 
-/* The process that serves the client; it ends with its keeper. */
-static int serve(const struct keeper *keeper, pid_t parent)
+/* The process that serves the client; it ends with its keeper, which is known by this file. */
+static int serve(const struct keeper *keeper, int its)
 {
-    if (prctl(PR_SET_PDEATHSIG, SIGKILL) || getppid() != parent)
+    struct pollfd ended = {its, POLLIN, 0};
+    if (!confinement_keeps_user())
+        return ISNT_ITSELF;
+    if (!keeper->options->open && !privileges_give_up(0))
+        return 1;
+    if (prctl(PR_SET_PDEATHSIG, SIGKILL) || poll(&ended, 1, 0) != 0)
         return 1;
     prctl(PR_SET_NAME, "balloon");
     if (!kept_regain(keeper->kept))
@@ -215,6 +229,10 @@ static void become(const struct keeper *keeper)
 static bool goes_on(struct keeper *keeper, int status)
 {
     struct kept *kept = keeper->kept;
+    if (keeper->is_alone && WIFEXITED(status) && WEXITSTATUS(status) == ISNT_ITSELF) {
+        keeper->is_alone = false;
+        return true;
+    }
     keeper->tries = kept->turns == keeper->turns ? keeper->tries + 1 : 0;
     keeper->turns = kept->turns;
     kept->ended_by = WIFSIGNALED(status) ? (uint32_t)WTERMSIG(status) : 0;
@@ -251,7 +269,8 @@ static bool begin(struct keeper *keeper)
         return false;
     process_allow_files(MOST_OPEN);
     sigemptyset(&ends), sigaddset(&ends, SIGCHLD);
-    if (sigprocmask(SIG_BLOCK, &ends, NULL) || (!keeper->options->open && !privileges_give_up()))
+    if (sigprocmask(SIG_BLOCK, &ends, NULL) ||
+        (!keeper->options->open && !privileges_give_up(TO_KEEP_ROOT)))
         return false;
     if (!keeper->options->goes_on)
         return take_client(keeper);
@@ -264,16 +283,17 @@ static bool begin(struct keeper *keeper)
 
 int keeper_run(const struct options *options, char **words)
 {
-    struct keeper keeper = {.options = options, .words = words};
-    pid_t parent = getpid();
+    struct keeper keeper = {
+        .options = options, .words = words, .is_alone = HAS_SANDBOX && !options->open};
     if (!begin(&keeper))
         return 1;
     prctl(PR_SET_NAME, "balloon_keeper");
     keeper.turns = keeper.kept->turns;
     for (;;) {
-        pid_t process = (pid_t)syscall(SYS_clone, CLONE_FILES | SIGCHLD, NULL, NULL, NULL, NULL);
+        int its = pidfd_open(getpid(), 0);
+        pid_t process = confinement_fork(keeper.is_alone);
         if (process == 0)
-            return serve(&keeper, parent);
+            return serve(&keeper, its);
         int status = process > 0 ? await(&keeper, process) : 1 << 8;
         if (!goes_on(&keeper, status))
             return end_as(status);

@@ -200,13 +200,13 @@ pid_t process_peer(int connection)
     struct ucred its = {.uid = (uid_t)-1};
     socklen_t size = sizeof its;
     getsockopt(connection, SOL_SOCKET, SO_PEERCRED, &its, &size);
-    return its.uid == getauxval(AT_EUID) ? its.pid : 0;
+    return its.uid == getauxval(AT_EUID) ? its.pid : -1;
 }
 
 int process_accept(int listener)
 {
     int connection = accept4(listener, NULL, NULL, SOCK_CLOEXEC | SOCK_NONBLOCK);
-    if (connection < 0 || process_peer(connection) > 0)
+    if (connection < 0 || process_peer(connection) >= 0)
         return connection;
     complain("another user isn't taken for the lender");
     file_close(connection);

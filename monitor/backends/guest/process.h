@@ -34,8 +34,8 @@ int process_reload(void);
 /* Takes one SIGHUP that has come; false where none has. */
 bool process_took_reload(int file);
 
-/* The process at the other end of a connection, by the kernel's word; 0 where it is another
-  * user's. */
+/* The process at the other end of a connection, by the kernel's word; 0 where this one has no
+ * number for it, as it is in a namespace of its own; -1 where it is another user's. */
 pid_t process_peer(int connection);
 
 /* Takes a connection of this process's own user; -1 where there is none, or another user's, which

@@ -98,18 +98,21 @@ static int allow(scmp_filter_ctx filter)
                      : code;
 }
 
-/* Gives up all privileges, also those that the lender may have for the sake of limits, and new
- * ones. */
-bool privileges_give_up(void)
+/* Gives up privileges, also those that the lender may have for the sake of limits, and new ones. */
+bool privileges_give_up(uint32_t but)
 {
     struct __user_cap_header_struct head = {_LINUX_CAPABILITY_VERSION_3, 0};
-    struct __user_cap_data_struct none[_LINUX_CAPABILITY_U32S_3] = {{0, 0, 0}};
-    return !syscall(SYS_capset, &head, none) && !prctl(PR_SET_NO_NEW_PRIVS, 1, 0, 0, 0);
+    struct __user_cap_data_struct its[_LINUX_CAPABILITY_U32S_3];
+    if (syscall(SYS_capget, &head, its))
+        return false;
+    const struct __user_cap_data_struct left[_LINUX_CAPABILITY_U32S_3] = {
+        {but & its->permitted, but & its->permitted, 0}};
+    return !syscall(SYS_capset, &head, left) && !prctl(PR_SET_NO_NEW_PRIVS, 1, 0, 0, 0);
 }
 
 bool sandbox_enter(void)
 {
-    if (!privileges_give_up())
+    if (!privileges_give_up(0))
         return complain("privileges can't be given up: %s", strerror(errno)), false;
     confinement_enter();
     scmp_filter_ctx filter = seccomp_init(SCMP_ACT_KILL_PROCESS);

@@ -2,6 +2,7 @@
 #ifndef SANDBOX_H
 #define SANDBOX_H
 #include <stdbool.h>
+#include <stdint.h>
 
 /* The compiler's checks make system calls of their own: a build with them has no sandbox. */
 #ifdef __SANITIZE_ADDRESS__
@@ -10,8 +11,9 @@ enum { HAS_SANDBOX = 0 };
 enum { HAS_SANDBOX = 1 };
 #endif
 
-/* Gives up all privileges, and new ones; false, with errno, where it can't. */
-bool privileges_give_up(void);
+/* Gives up all privileges but those of this mask of capabilities, and new ones; false, with errno,
+ * where it can't. */
+bool privileges_give_up(uint32_t but);
 
 /* From now on the process has no privileges and gets none, and a system call that it has no use for
  * ends it (seccomp). It opens and names no file, and sends none; and it is confined

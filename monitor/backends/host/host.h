@@ -56,7 +56,7 @@ struct ask {
 /* A guest's place on the host, which it may leave and come back to. */
 struct seat {
     struct host *host;
-    struct speaker speaker; /* for what is said of its clients */
+    struct speaker speaker, teller; /* for what is said of its clients; for what its process tells */
     char name[MOST_NAME], path[MOST_PATH], later_path[MOST_PATH];
     int listener; /* where its client comes */
     struct guest_terms terms;

@@ -180,16 +180,19 @@ static void take_leave(struct seat *seat)
         host_changed(seat->host, BY_GUESTS);
 }
 
-/* Words of a process: those of its client's making have nothing in them that a terminal obeys. */
-static void print_words(struct lending_message *message)
+/* Words of a process, whose lines take none of the lender's own about it: those of its client's
+ * making have nothing in them that a terminal obeys. */
+static void print_words(struct seat *seat, struct lending_message *message)
 {
     for (char *it = message->words; *it; it++)
         if ((unsigned char)*it < ' ' || (unsigned char)*it > '~')
             *it = '?';
+    speaker_begins(&seat->teller);
     if (message->kind == TELL_REFUSED)
         refuse("%s", message->words);
     else
         complain("%s", message->words);
+    speaker_begins(&seat->speaker);
 }
 
 static void take(struct seat *seat, struct lending_message *message, pid_t sender)
@@ -212,7 +215,7 @@ static void take(struct seat *seat, struct lending_message *message, pid_t sende
     if (message->kind == TELL_GONE)
         take_leave(seat);
     else if (message->kind == TELL_REFUSED || message->kind == TELL_REMARK)
-        print_words(message);
+        print_words(seat, message);
     seat->refused |= message->kind == TELL_REFUSED;
 }
 

@@ -87,7 +87,7 @@ static bool name_seat(struct seat *seat, const char *name)
 {
     const char *folder = seat->host->folder;
     strcpy(seat->name, name);
-    seat->speaker.name = seat->name;
+    seat->speaker.name = seat->teller.name = seat->name;
     return snprintf(seat->path, sizeof seat->path, "%s/%s", folder, name) < MOST_PATH &&
            snprintf(seat->later_path, sizeof seat->later_path, "/proc/self/fd/%d/%s",
                     seat->host->channels, name) < MOST_PATH;

@@ -14,15 +14,8 @@ PAGES_PER_KIB = 4
 
 # What a lender and a process say to each other (monitor/backends/host/message.h), which stays from
 # version to version.
-VERSION, ORDER_LOOK, ORDER_TARGET, ORDER_GRANT, ORDER_LEAVE, TELL_REPORT, WAIT_ROOM = (
-    1,
-    1,
-    3,
-    7,
-    8,
-    9,
-    1,
-)
+VERSION, ORDER_LOOK, ORDER_TARGET, ORDER_GRANT, ORDER_LEAVE = 1, 1, 3, 7, 8
+TELL_REPORT, TELL_REFUSED, TELL_REMARK, TELL_GONE, WAIT_ROOM = 9, 10, 11, 12, 1
 COUNTERS, FIGURES, WORDS = 19, 16, 256
 NUMBERS = (
     "pages",
@@ -139,6 +132,10 @@ class Played(threading.Thread):
                 **{"held_kib": held * PAGES_PER_KIB, **self.its},
             )
             self.channel.send(bytes(message))
+
+    def say(self, kind, words=b""):
+        """Says something that is no report."""
+        self.channel.send(bytes(Message(version=VERSION, kind=kind, words=words)))
 
     def run(self):
         """Notes what it is told, and answers each look by a report."""

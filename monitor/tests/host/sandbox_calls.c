@@ -1,4 +1,5 @@
-/* Makes system calls in the sandbox of a guest's process, each in a process of its own. Each line
+/* Makes system calls in the sandbox of a guest's process, each in a process of its own, which has the
+ * namespaces of a guest's process. Each line
  * of the file is a number and six arguments; its answer is a line with the call's name, or
  * its number where it has none, and `passes`, or the name of the call that ended the process, or
  * `nameless`, where that is none of this architecture.
@@ -6,9 +7,11 @@
  * With a second word `confined` the sandbox has no filter, and the answer's second word is
  * `passes`, or the name of the error; with `free` there is no sandbox either. */
 #define _GNU_SOURCE
+#include "../../backends/guest/confinement.h"
 #include "../../backends/guest/sandbox.h"
 
 #include <limits.h>
+#include <sched.h>
 #include <seccomp.h>
 #include <signal.h>
 #include <stdio.h>
@@ -48,13 +51,16 @@ int __wrap_seccomp_load(const scmp_filter_ctx filter)
     return is_unfiltered ? 0 : __real_seccomp_load(filter);
 }
 
+/* The number of the process that begins all others, as it has it. */
+static pid_t parent;
+
 /* An argument; LONG_MIN is the number of the process that makes the call, and one more that of its
  * parent; two more is a path. */
 static long itself(long argument)
 {
     static const char path[] = "/";
     return argument == LONG_MIN       ? getpid()
-           : argument == LONG_MIN + 1 ? getppid()
+           : argument == LONG_MIN + 1 ? parent
            : argument == LONG_MIN + 2 ? (long)path
                                       : argument;
 }
@@ -65,15 +71,31 @@ static void call(long number, const long its[ARGUMENTS])
         errno = 0;
 }
 
-/* Makes a call in the sandbox; whether that has ended the process. One that waits ends by
-  * SIGALRM. */
+static void end(int number)
+{
+    (void)number;
+    _exit(0);
+}
+
+/* Begins a process as that of a guest begins, with a table of files of its own. */
+static pid_t begin(bool is_alone)
+{
+    pid_t child = confinement_fork(is_alone);
+    if (child == 0 && (unshare(CLONE_FILES) || !confinement_keeps_user()))
+        _exit(2);
+    return child;
+}
+
+/* Makes a call in the sandbox; whether that has ended the process. One that waits ends by SIGALRM:
+ * the first process of a namespace has to say so. */
 static bool is_deadly(long number, const long its[ARGUMENTS])
 {
     const struct sigaction action = {.sa_sigaction = note_call, .sa_flags = SA_SIGINFO};
     int status = 0;
-    pid_t child = fork();
+    pid_t child = begin(true);
     if (child == 0) {
         sigaction(SIGSYS, &action, NULL);
+        signal(SIGALRM, end);
         alarm(SECONDS);
         if (!sandbox_enter())
             _exit(2);
@@ -108,7 +130,7 @@ static void answer(long number, const long its[ARGUMENTS])
 static void answer_error(long number, const long its[ARGUMENTS], bool is_confined)
 {
     int status = 0;
-    pid_t child = fork();
+    pid_t child = begin(is_confined);
     if (child == 0) {
         if (is_confined && !sandbox_enter())
             _exit(2);
@@ -125,6 +147,7 @@ int main(int count, char **words)
     long number, its[ARGUMENTS];
     FILE *lines = count > 1 ? fopen(words[1], "re") : NULL;
     is_unfiltered = count > 2;
+    parent = getpid();
     trapped =
         mmap(NULL, sizeof *trapped, PROT_READ | PROT_WRITE, MAP_SHARED | MAP_ANONYMOUS, -1, 0);
     setvbuf(stdout, NULL, _IOLBF, 0);

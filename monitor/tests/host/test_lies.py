@@ -7,13 +7,16 @@ import re
 import signal
 
 import pytest
-from played import WAIT_ROOM, Listens, Played
+from played import TELL_REMARK, WAIT_ROOM, Listens, Played
 from tenants import FREE, eventually
 from test_later_states import seen
 from test_strict import GIVEN, STRICT, lent, used
 from vhost_client import DEFLATE, PAGE
 
 ALL, MOST_PAGES, HUGE = 128, 1 << 24, (1 << 32) - 1
+
+# Words of a process in a second: more than a lender prints, and than it reads at once.
+MANY, LEFT_OUT = 60, "a: further lines of this second are left out"
 
 TOO_MANY = "more pages than a guest may have"
 
@@ -57,6 +60,21 @@ def test_a_lie_ends_the_service_of_its_process_alone(lend, come, lie):
     used(b, DEFLATE, 1)
     lender.become("b", ballooned=40)
     assert lent(lender) == ALL
+    a.channel.close()
+
+
+def test_a_flood_of_words_hides_none_of_the_lenders(lend):
+    lender = lend(1, *STRICT)
+    a = Played(lender, "a", pages=ALL)
+    for number in range(MANY):
+        a.say(TELL_REMARK, b"noise\nb: has taken 1 pages unasked \x1b[2J%d" % number)
+    eventually(lambda: lender.hear() or LEFT_OUT in lender.said(), lender.said)
+    a.report(pages=ALL + 1)
+    words = "refused a: its process reports pages that nobody has granted"
+    eventually(lambda: lender.hear() or words in lender.said(), lender.said)
+    noise = [it for it in lender.said() if "noise" in it]
+    assert noise[0] == "a: noise?b: has taken 1 pages unasked ?[2J0"
+    assert all(it.startswith("a: noise?b: has taken") for it in noise) and len(noise) < MANY
     a.channel.close()
 
 

@@ -9,7 +9,9 @@ import subprocess
 
 import linux_kit
 import pytest
+from taken import call_within
 from tenants import FREE, eventually, process_of, status_of
+from test_strict import GIVEN
 
 # Calls that a process makes as it serves a guest, whatever their arguments, and with arguments that
 # are all 0. Of all numbers that a kernel of these years knows, and of some more, each other one
@@ -29,7 +31,7 @@ NUMBERS = sorted({*range(512)} - {335, 336})
 LIMITS = {"Max data size": 64 << 20, "Max open files": 206, "Max processes": 0}
 
 # A user without privileges.
-NOBODY_USER = 65534
+SOME_USER = 65533
 
 # Calls of another architecture on this processor: x32's have this bit.
 X32 = 1 << 30
@@ -65,15 +67,16 @@ BY_ARGUMENT = (
 from waiting import PATIENCE
 
 # Calls that a process may make outside of the sandbox, and what the kernel says to each where the
-# filter alone is left out: a folder is opened; a file gets a number; another process is signalled;
-# a child is made, by another user than root.
+# filter alone is left out: a folder is opened; a file gets a number; another process, which isn't
+# there for it, is signalled; a child is made, by another user than root.
 DIRECTORY, OPENS, DUPLICATES, FORKS, KILLS = 0o200000, 257, 72, 57, 62
+SENDS, GETS_NUMBER, PUNCHES = 46, 39, 285
 CONFINED = (
     ((OPENS, -100, PATH, DIRECTORY), "EACCES"),
     ((DUPLICATES, 0, fcntl.F_DUPFD, 206), "EINVAL"),
     ((DUPLICATES, 0, fcntl.F_DUPFD, 205), "passes"),
     ((FORKS,), "EAGAIN"),
-    ((KILLS, PARENT, 0), "EPERM"),
+    ((KILLS, PARENT, 0), "ESRCH"),
     ((KILLS, OWN, 0), "passes"),
 )
 
@@ -103,9 +106,9 @@ def outcomes(tmp_path_factory):
 @pytest.mark.skipif(os.geteuid() != 0, reason="needs another user")
 def test_what_is_beside_the_filter(outcomes):
     calls = [it for it, _ in CONFINED]
-    free = outcomes(calls, "free", user=NOBODY_USER)
+    free = outcomes(calls, "free", user=SOME_USER)
     assert {by for _, by in free} == {"passes"}, free
-    found = outcomes(calls, "confined", user=NOBODY_USER)
+    found = outcomes(calls, "confined", user=SOME_USER)
     assert [by for _, by in found] == [it for _, it in CONFINED], found
 
 
@@ -142,6 +145,59 @@ def test_a_guest_s_process_is_shut_in(lend, come):
     process = process_of(lender, "a")
     status = status_of(process)
     assert (status["NoNewPrivs"], status["Seccomp"], int(status["CapPrm"], 16)) == ("1", "2", 0)
+
+
+def namespaces_of(process):
+    """Returns which namespaces a process has, of processes and of users."""
+    return [os.readlink(f"/proc/{process}/ns/{it}") for it in ("pid", "user")]
+
+
+def numbers_of(process):
+    """Returns the numbers of a process: in the namespace of this one, and in those below."""
+    return [int(it) for it in status_of(process)["NSpid"].split()]
+
+
+def test_a_process_is_alone(lend, come):
+    lender = lend(5)
+    come(lender, "a", {FREE: 60}), come(lender, "b", {FREE: 60})
+    processes = [lender.process.pid, *(process_of(lender, it) for it in "ab")]
+    for of_one in zip(*map(namespaces_of, processes)):
+        assert len(set(of_one)) == len(processes), of_one
+    assert [numbers_of(it) for it in processes[1:]] == [[it, 1] for it in processes[1:]]
+    users = [status_of(it)["Uid"] for it in processes]
+    assert users == 3 * users[:1]
+    assert not [it for it in lender.said() if "namespaces" in it]
+
+
+# A machine whose kernel gives nobody another namespace of users: the limit is that of this one.
+NO_NAMESPACES = """#!/bin/sh
+exec unshare --user --map-root-user sh -c 'echo 0 > /proc/sys/user/max_user_namespaces
+exec "$0" "$@"' {} "$@"
+"""
+
+
+def test_a_process_that_gets_no_namespaces_goes_on_without(lend, come, plain, tmp_path):
+    program = tmp_path / "host"
+    program.write_text(NO_NAMESPACES.format(plain))
+    program.chmod(0o755)
+    lender = lend(5, program=str(program))
+    come(lender, "a", {FREE: 60})
+    assert numbers_of(process_of(lender, "a")) == [process_of(lender, "a")]
+    assert status_of(process_of(lender, "a"))["Seccomp"] == "2"
+    lender.hear()
+    said = [it for it in lender.said() if "namespaces" in it]
+    assert said == ["a: the kernel gives its process no namespaces of its own"]
+
+
+@pytest.mark.parametrize("nice, wanted", ((-5, 0), (0, 0), (3, 3)))
+def test_a_lender_has_more_of_the_processors_than_processes(lend, come, nice, wanted):
+    lender = lend(5)
+    try:
+        os.setpriority(os.PRIO_PROCESS, lender.process.pid, nice)
+    except PermissionError:
+        pytest.skip("this user may not raise a process's share")
+    come(lender, "a", {FREE: 60})
+    assert os.getpriority(os.PRIO_PROCESS, process_of(lender, "a")) == wanted
 
 
 def test_a_process_has_the_files_that_it_was_handed_and_no_other(lend, come):
@@ -191,10 +247,42 @@ def test_a_process_is_killed_before_its_lender(lend, come, score, wanted):
         assert int(its.read()) == wanted
 
 
+@pytest.mark.parametrize(
+    "what", ("opens", "forks", "signals its keeper", "signals its lender", "sends a file")
+)
+def test_a_process_that_is_taken_over_does_no_more_than_serve(lend, come, what):
+    lender = lend(5)
+    guest, other = come(lender, "a", {FREE: 60}), come(lender, "b", {FREE: 60})
+    process = process_of(lender, "a")
+    calls = {
+        "opens": (OPENS, -100, 0),
+        "forks": (FORKS,),
+        "signals its keeper": (KILLS, int(status_of(process)["PPid"]), signal.SIGKILL),
+        "signals its lender": (KILLS, lender.process.pid, signal.SIGKILL),
+        "sends a file": (SENDS, 0, 0, 0),
+    }
+    assert call_within(process, *calls[what]) is None
+    lender.become("a", here=0, pages=0)
+    other.give(GIVEN[:5])
+    lender.become("b", here=1, ready=1, ballooned=5)
+    assert guest.client.socket.recv(1) == b""
+
+
+def test_what_a_taken_over_process_may_call_reaches_nobody(lend, come):
+    lender = lend(5)
+    come(lender, "a", {FREE: 60})
+    process, text = process_of(lender, "a"), lender.said()
+    assert call_within(process, GETS_NUMBER) == 1
+    # Its standard error is nobody's: neither a line nor a hole is seen in the lender's.
+    assert call_within(process, PUNCHES, 2, 3, 0, 1 << 20) < 0
+    assert [os.readlink(f"/proc/{process}/fd/{it}") for it in (1, 2)] == 2 * ["/dev/null"]
+    assert lender.said() == text
+
+
 def test_it_is_said_who_has_made_such_a_call(lend, come):
     lender = lend(5)
     come(lender, "a", {FREE: 60}), come(lender, "b", {FREE: 60})
-    os.kill(process_of(lender, "a"), signal.SIGSYS)
+    assert call_within(process_of(lender, "a"), OPENS) is None
     eventually(
         lambda: "a: its process has ended by a system call that isn't allowed" in lender.said(),
         lender.said,
