@@ -24,7 +24,8 @@
  * memory. MOST_TRIES: processes that end one after the other before they have served a turn. */
 enum { KEPT_FILE = 190, HIGH_FILE = MOST_OPEN - FILES_OF_GUEST, MOST_TRIES = 3, MOST_LINE = 24 };
 
-/* What a keeper needs for its processes to have its user where that is root (user_namespaces(7)). */
+/* What a keeper needs for its processes to have its user where that is root (user_namespaces(7)).
+ */
 static const uint32_t TO_KEEP_ROOT = CAP_TO_MASK(CAP_SETFCAP);
 
 /* The status of a process that can't keep its user in a namespace of its own. */

@@ -56,7 +56,8 @@ struct ask {
 /* A guest's place on the host, which it may leave and come back to. */
 struct seat {
     struct host *host;
-    struct speaker speaker, teller; /* for what is said of its clients; for what its process tells */
+    struct speaker speaker; /* for what is said of its clients */
+    struct speaker teller;  /* for what its process tells */
     char name[MOST_NAME], path[MOST_PATH], later_path[MOST_PATH];
     int listener; /* where its client comes */
     struct guest_terms terms;
@@ -183,7 +184,9 @@ struct host {
     int64_t paid_until;  /* the processes that were started are paid for until then, each with its
                             milliseconds */
     struct seat *comes;  /* whose client is taken in this turn; NULL: none */
-    int64_t refills_at;  /* when messages are read again of processes that have sent too many */
+    struct seat *reads_next; /* whose messages this turn had no time for, and all after it; NULL: it
+                                had for all */
+    int64_t refills_at;      /* when messages are read again of processes that have sent too many */
     int64_t decides_at, stepped_at; /* what guests do isn't decided on before the first; when
                                        targets were last let grow */
     bool looked, steps;    /* this turn is the first one after a look; as it began, a guest wasn't

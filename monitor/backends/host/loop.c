@@ -5,6 +5,9 @@
 
 #include <unistd.h>
 
+/* Seconds of a processor for messages in a turn. */
+static const double reading_seconds = 0.001;
+
 /* Milliseconds between two decisions on what guests do; messages of a process that are read in
  * REFILL milliseconds; milliseconds between two steps of targets; milliseconds for each process
  * that is started, and how many are started ahead of that. */
@@ -40,11 +43,22 @@ uint64_t host_held(const struct host *host)
     return held;
 }
 
-/* Has something be done with each guest, and with each that is leaving. */
+/* Each guest, and each that is leaving after them. */
+static struct seat *seat_at(const struct host *host, unsigned number)
+{
+    return number < host->count ? host->seats[number] : host->leaving[number - host->count];
+}
+
+static unsigned count_seats(const struct host *host)
+{
+    return host->count + host->leaving_count;
+}
+
+/* Has something be done with each. */
 static void each_seat(struct host *host, void (*act)(struct seat *seat))
 {
-    for (unsigned i = 0; i < host->count + host->leaving_count; i++)
-        act(i < host->count ? host->seats[i] : host->leaving[i - host->count]);
+    for (unsigned i = 0; i < count_seats(host); i++)
+        act(seat_at(host, i));
 }
 
 /* Counts what the host holds, decides, and asks for new statistics. */
@@ -117,12 +131,18 @@ static int take_end(void *seat, int file)
     return LOOP_GOES_ON;
 }
 
-/* Reads what a guest's process has sent, unless that has ended meanwhile. */
+/* Reads what a guest's process has sent, unless that has ended meanwhile. Once this turn's time for
+ * messages is over, the next turn begins with this guest. */
 static int take_messages(void *context, int file)
 {
     struct seat *seat = context;
-    if (file == seat->channel)
+    struct host *host = seat->host;
+    if (file != seat->channel || host->reads_next)
+        return LOOP_GOES_ON;
+    if (loop_processor_seconds() - host->loop.processor_at < reading_seconds)
         seat->read += seat_read(seat, MESSAGES_A_TURN);
+    else
+        host->reads_next = seat;
     return LOOP_GOES_ON;
 }
 
@@ -165,6 +185,17 @@ static void refill(struct host *host)
     each_seat(host, forget_messages);
 }
 
+/* The number of the guest with which this turn begins to read. */
+static unsigned first_read(struct host *host)
+{
+    const struct seat *next = host->reads_next;
+    host->reads_next = NULL;
+    for (unsigned i = 0; i < count_seats(host); i++)
+        if (seat_at(host, i) == next)
+            return i;
+    return 0;
+}
+
 static void wait_for_seats(void *context, struct loop *loop)
 {
     struct host *host = context;
@@ -172,7 +203,9 @@ static void wait_for_seats(void *context, struct loop *loop)
     if (loop->woke_at > 0)
         measure_turn(loop_seconds() - loop->woke_at, loop_processor_seconds() - loop->processor_at);
     limits_follow(host);
-    each_seat(host, wait_for_seat);
+    unsigned first = first_read(host), count = count_seats(host);
+    for (unsigned i = 0; i < count; i++)
+        wait_for_seat(seat_at(host, (first + i) % count));
     host->looked = false;
 }
 

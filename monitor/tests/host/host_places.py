@@ -43,6 +43,15 @@ def cgroups():
     return SECOND if of_second_version() else None
 
 
+@contextlib.contextmanager
+def ramfs(path):
+    """A file system of memory in which nothing can be discarded."""
+    os.makedirs(path)
+    run("mount", "-t", "ramfs", "kept", path)
+    yield path
+    run("umount", "-l", path)
+
+
 class Mount:
     """A tmpfs of its own."""
 

@@ -1,8 +1,7 @@
-/* Makes system calls in the sandbox of a guest's process, each in a process of its own, which has the
- * namespaces of a guest's process. Each line
- * of the file is a number and six arguments; its answer is a line with the call's name, or
- * its number where it has none, and `passes`, or the name of the call that ended the process, or
- * `nameless`, where that is none of this architecture.
+/* Makes system calls in the sandbox of a guest's process, each in a process of its own, which has
+ * the namespaces of a guest's process. Each line of the file is a number and six arguments; its
+ * answer is a line with the call's name, or its number where it has none, and `passes`, or the name
+ * of the call that ended the process, or `nameless`, where that is none of this architecture.
  *
  * With a second word `confined` the sandbox has no filter, and the answer's second word is
  * `passes`, or the name of the error; with `free` there is no sandbox either. */

@@ -1,5 +1,5 @@
-"""A guest's process that somebody has taken over, where it stands: the next system call that it
-makes is another one (ptrace(2)), which its sandbox judges like each of its own."""
+"""A guest's process that somebody has taken over: the next system call that it makes is another one
+(ptrace(2)), which its sandbox judges like each of its own."""
 
 import ctypes
 import os

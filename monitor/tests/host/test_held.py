@@ -2,11 +2,15 @@
 
 import fcntl
 import os
+import signal
+import struct
 import time
 
-from tenants import FREE, PAGES, eventually
+import pytest
+from host_places import ramfs
+from tenants import FREE, PAGES, eventually, process_of
 from test_strict import GIVEN, STRICT, used
-from vhost_client import DEFLATE, INFLATE, PAGE, Client
+from vhost_client import DEFLATE, INFLATE, PAGE, PAGES_OF_REGION, REGIONS, SET_MEM_TABLE, Client
 
 # Pages of a guest, and of it once it has given 50; the seconds in which a lender has looked at it.
 ALL, LEFT, LOOKED = 128, 78, 1
@@ -36,9 +40,8 @@ class Sealing(Client):
     """A client whose second region may be sealed."""
 
     def hand_over_memory(self):
-        os.close(self.files[1])
-        self.files[1] = os.memfd_create("region", os.MFD_CLOEXEC | os.MFD_ALLOW_SEALING)
-        self.fill(self.files[1])
+        flags = os.MFD_CLOEXEC | os.MFD_ALLOW_SEALING
+        self.replace(1, os.memfd_create("region", flags))
         super().hand_over_memory()
 
 
@@ -60,6 +63,97 @@ def test_what_cannot_be_discarded_stays_lent(lend, come):
     a.give(GIVEN[:10])
     lender.become("a", lent=ALL - 10, ballooned=10)
     assert not [it for it in lender.said() if "unasked" in it]
+
+
+def next_process(lender, lend):
+    """Kills a guest's process; another one goes on."""
+    process = process_of(lender, "a")
+    os.kill(process, signal.SIGKILL)
+    eventually(lambda: process_of(lender, "a") != process)
+    return lender
+
+
+def next_lender(lender, lend):
+    """Kills a lender; another one takes over."""
+    lender.kill()
+    return lend(1, *STRICT, folder=lender.folder)
+
+
+@pytest.fixture
+def no_discards(tmp_path):
+    """A folder whose files' pages can't be discarded."""
+    if os.geteuid() != 0:
+        pytest.skip("a file system is mounted, which takes root")
+    with ramfs(f"{tmp_path}/no-discards") as path:
+        yield path
+
+
+@pytest.mark.parametrize("changes", (next_process, next_lender))
+def test_what_cannot_be_discarded_stays_lent_over_a_change(lend, come, changes, no_discards):
+    lender = lend(1, *STRICT)
+    a = come(lender, "a", {FREE: 100}, "overhead=0", folder=no_discards)
+    lender.set_budget(ALL - 40)
+    lender.become("a", asked=40)
+    a.give(GIVEN[:40])
+    used(a, INFLATE, 1)
+    lender = changes(lender, lend)
+    lender.set_budget(ALL - 40)
+    lender.become("a", ready=1, asked=40, target=40)
+    time.sleep(LOOKED)
+    lender.become("a", lent=ALL, ballooned=0)
+    assert not [it for it in lender.said() if "unasked" in it]
+
+
+# Pages of a file that are in no slot.
+OUTSIDE = 40
+
+
+class Larger(Client):
+    """A client whose second file has more pages than its slot."""
+
+    def fill_outside(self):
+        os.posix_fallocate(self.files[1], PAGES_OF_REGION * PAGE, OUTSIDE * PAGE)
+
+
+class OneFile(Client):
+    """A client whose two slots are parts of one file."""
+
+    def start(self, *how):
+        self.replace(1, os.dup(self.files[0]))
+        super().start(*how)
+
+    def hand_over_memory(self, count=2):
+        size, table = PAGES_OF_REGION * PAGE, struct.pack("<II", count, 0)
+        for number, (guest, user) in enumerate(REGIONS[:count]):
+            table += struct.pack("<QQQQ", guest, size, user, number * size)
+        self.accepted(SET_MEM_TABLE, table, self.files[:count])
+
+
+def named(lender, pages):
+    """Waits until a guest is named for pages that it has taken."""
+    words = f"a: has taken {pages} pages unasked: all its memory counts as lent from now on"
+    eventually(lambda: words in lender.said(), lender.said)
+
+
+def test_what_a_file_holds_outside_of_its_slots_counts(lend, come):
+    lender = lend(1, *STRICT)
+    a = come(lender, "a", {FREE: 100}, "overhead=0", client=Larger)
+    lender.become("a", held_kib=4 * ALL)
+    a.client.fill_outside()
+    lender.become("a", held_kib=4 * (ALL + OUTSIDE))
+    named(lender, OUTSIDE)
+    assert lender.counters()["held_kib"] == 4 * (ALL + OUTSIDE)
+
+
+def test_what_a_removed_slot_holds_counts_as_long_as_its_file_is_known(lend, come):
+    lender = lend(1, *STRICT)
+    a = come(lender, "a", {FREE: 100}, "overhead=0", client=OneFile)
+    lender.become("a", pages=ALL, held_kib=4 * ALL)
+    with a.lock:
+        a.client.hand_over_memory(1)
+    lender.become("a", pages=PAGES_OF_REGION, held_kib=4 * ALL)
+    named(lender, ALL - PAGES_OF_REGION)
+    assert lender.guests()["a"]["lent"] == PAGES_OF_REGION
 
 
 def test_a_request_in_holes_is_not_held(lend, come):

@@ -2,13 +2,15 @@
 field has changed, and the next one continues with that very value. The lender stands still
 meanwhile, so that it says nothing again."""
 
+import contextlib
 import os
 import socket
 import struct
 
 import pytest
+from host_places import ramfs
 from kept import HEAD, Life, layout
-from tenants import AVAILABLE, FREE, eventually, stop
+from tenants import AVAILABLE, FREE, PAGES, eventually, stop
 from test_strict import GIVEN
 from vhost_client import (
     DEFLATE,
@@ -29,6 +31,7 @@ from vhost_client import (
     SIZE,
     STATISTICS,
     WRITE,
+    memory_file,
 )
 
 # The lender asks nobody by itself.
@@ -63,7 +66,6 @@ ELSEWHERE = {
         "test_a_process_whose_program_does_not_go_on_stays",
     ),
     "kept.unnoted": ("test_anew.py", "lost-bytes"),
-    "notes.undiscarded": ("test_held.py", "test_what_cannot_be_discarded_stays_lent"),
     "kept.inbox.message": ("test_anew.py", "lost-files"),
     "outcome": ("test_anew.py", "handles-twice"),
 }
@@ -205,6 +207,14 @@ def pages_are_given(life):
     life.writes(ACTUAL_AT, 30)
     words = [sum(1 << it % 64 for it in GIVEN[:30] if it // 64 == word) for word in range(8)]
     return words, [2, 0, 1, 0, 0], 30, 30, POISON_VALUE
+
+
+@step("notes.undiscarded")
+def pages_cannot_be_discarded(life):
+    life.client.replace(1, memory_file(life.no_discards, "region 1"))
+    life.comes()
+    life.gives([*GIVEN[:10], *range(PAGES, PAGES + 30)], 1)
+    return (30,)
 
 
 @step("figures figure_count notes.heard notes.ballooned_then")
@@ -371,10 +381,15 @@ LOOSE = (
 
 
 @pytest.fixture
-def life(lend, name):
-    its = Life(lend(1, *QUIET), int(name not in LOOSE))
-    yield its
-    its.leave()
+def life(lend, name, tmp_path):
+    with contextlib.ExitStack() as stack:
+        its = Life(lend(1, *QUIET), int(name not in LOOSE))
+        stack.callback(its.leave)
+        if name == "pages_cannot_be_discarded":
+            if os.geteuid() != 0:
+                pytest.skip("a file system is mounted, which takes root")
+            its.no_discards = stack.enter_context(ramfs(f"{tmp_path}/no-discards"))
+        yield its
 
 
 @pytest.mark.parametrize("name", STEPS)

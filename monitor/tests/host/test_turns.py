@@ -2,6 +2,7 @@
 and how many processes it starts."""
 
 import contextlib
+import itertools
 import json
 import select
 import socket
@@ -9,7 +10,9 @@ import time
 
 import pytest
 from host_small import Talker
+from played import TELL_REMARK, TELL_REPORT, VERSION, WAIT_ROOM, Listens, Message
 from tenants import eventually, go_on, process_of, status_of, stop
+from test_strict import STRICT
 from waiting import PATIENCE, patience_from_now
 
 # Guests, clients of the status socket, and the answers that are waited for.
@@ -22,6 +25,9 @@ MOST_PLACE, MOST_PART = 1, 0.01
 # Processes that may be started at once, and in a second; the seconds for which all clients come and
 # go.
 AHEAD, A_SECOND, FLAPPING = 64, 50, 3
+
+# Processes that send without end, and the seconds for which they do.
+FLOODS, FLOODING = 60, 3
 
 
 @pytest.fixture
@@ -157,6 +163,17 @@ def test_one_process_is_started_in_a_turn(lend):
         eventually(lambda: all(clients_of(lender).values()), "somebody's client isn't taken")
 
 
+def test_a_client_is_taken_once_while_turns_follow_at_once(lend):
+    lender = lend(5)
+    lender.add("a")
+    stop(lender.process.pid)
+    eventually(lambda: status_of(lender.process.pid)["State"].startswith("T"))
+    with clients_that_ask(lender, asks(b"status")) as clients, connect(lender, "a"):
+        go_on(lender.process.pid)
+        read_lines(clients, CLIENTS)
+        assert clients_of(lender) == {"a": 1}
+
+
 def test_who_comes_seldom_comes_first(lend):
     lender = lend(64)
     for it in ("a", "b", "c"):
@@ -174,10 +191,48 @@ def test_who_comes_seldom_comes_first(lend):
 def test_comings_of_all_seats_have_a_pace(lend):
     lender = lend(64)
     names, begin = add_all(lender), time.monotonic()
-    while time.monotonic() < begin + FLAPPING:
-        for it in names:
-            with contextlib.suppress(BlockingIOError):
-                connect(lender, it, blocks=False).close()
+    with short_turns(lender):
+        while time.monotonic() < begin + FLAPPING:
+            for it in names:
+                with contextlib.suppress(BlockingIOError):
+                    connect(lender, it, blocks=False).close()
     came = sum(clients_of(lender).values())
     print(f"{came} processes were started")
     assert came <= AHEAD + A_SECOND * (time.monotonic() - begin) + 1
+
+
+def asking():
+    """Reports of a process that asks for room and withdraws that, again and again."""
+    for number in itertools.count(1):
+        yield bytes(
+            Message(
+                version=VERSION, kind=TELL_REPORT, holds=1, waits=WAIT_ROOM, wait=number, wanted=1
+            )
+        )
+        yield bytes(Message(version=VERSION, kind=TELL_REPORT, holds=1, wait=number))
+
+
+def talking():
+    """Words of a process."""
+    return itertools.repeat(bytes(Message(version=VERSION, kind=TELL_REMARK, words=b"noise")))
+
+
+@pytest.mark.parametrize("messages", (asking, talking))
+def test_processes_that_flood_leave_turns_short(lend, messages):
+    lender = lend(64, *STRICT)
+    listens = [Listens(lender.folder, f"flood-{it}") for it in range(FLOODS)]
+    for it in range(FLOODS):
+        lender.demand(f"add flood-{it} strict=1")
+    channels = [it.accept() for it in listens]
+    said = [messages() for _ in channels]
+    for it in channels:
+        it.setblocking(False)
+    with short_turns(lender):
+        end, count = time.monotonic() + FLOODING, 0
+        while time.monotonic() < end:
+            for channel, its in zip(channels, said):
+                with contextlib.suppress(BlockingIOError):
+                    count += channel.send(next(its)) > 0
+    print(f"{count} messages were sent")
+    for it in listens:
+        it.end()

@@ -96,6 +96,12 @@ class Client:
         for _ in range(self.pages_of_region):
             os.write(file, b"\xff" * PAGE)
 
+    def replace(self, region, file):
+        """Has a region be this file, before it is handed over."""
+        os.close(self.files[region])
+        self.files[region] = file
+        self.fill(file)
+
     def connect(self):
         """Comes to the backend, in place of a connection before."""
         if self.socket:
