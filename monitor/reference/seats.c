@@ -203,20 +203,13 @@ static bool waits_before(const VbSeat *one, const VbSeat *other)
     return one->preferred || one->turn == other->turn ? one < other : one->turn < other->turn;
 }
 
-static bool is_first(const VbSeat *seats, size_t count, size_t guest)
-{
-    for (size_t i = 0; i < count; i++)
-        if (i != guest && seats[i].held && waits_before(&seats[i], &seats[guest]))
-            return false;
-    return seats[guest].held;
-}
-
 size_t vb_host_first(const VbSeat *seats, size_t count)
 {
+    size_t first = SIZE_MAX;
     for (size_t i = 0; i < count; i++)
-        if (is_first(seats, count, i))
-            return i;
-    return SIZE_MAX;
+        if (seats[i].held && (first == SIZE_MAX || waits_before(&seats[i], &seats[first])))
+            first = i;
+    return first;
 }
 
 /* ---- grants */
@@ -225,7 +218,7 @@ size_t vb_host_first(const VbSeat *seats, size_t count)
 static bool may_go(const VbSeat *seats, size_t count, size_t guest, uint64_t frames)
 {
     Sum pages = lent_to_all(seats, count) + vb_seat_asked(&seats[guest]);
-    return is_first(seats, count, guest) && pages <= frames;
+    return vb_host_first(seats, count) == guest && pages <= frames;
 }
 
 static bool may_overdraw(const VbHost *host, const VbSeat *seats, size_t count, size_t guest)

@@ -5,8 +5,7 @@ host granted it, within the time between two looks."""
 from collections import deque
 from typing import NamedTuple
 
-from bigvasta.plan.lender import Lender, Terms
-from bigvasta.plan.library import NOTHING
+from bigvasta.plan.seats import Seats
 from bigvasta.sizes import PAGE
 from bigvasta.statuses import Usage
 
@@ -83,24 +82,27 @@ class Guest:
         return max(-left, 0)
 
 
-class Follower(Lender):
-    """A lender whose guests do what was recorded of them."""
+class Follower:
+    """A host whose guests do what was recorded of them. Each is to have all its pages in its
+    balloon, so that each deflate asks for all that it takes, and waits for its turn."""
 
     def __init__(self, library, names, sizes):
-        super().__init__(library, sizes, Terms(0))
         self.numbers, self.guests = {it: number for number, it in enumerate(names)}, {}
+        self.seats = Seats(library, len(sizes), 0)
 
     def come(self, name, look):
         """A guest is there, with what is lent to it."""
         number = self.numbers[name]
-        loan = self.loans[number]
-        loan.pages, loan.lent, loan.ballooned = look.size, look.loan, look.size - look.loan
+        self.seats.take_over(number, look.size, look.size - look.loan)
+        self.seats.want(number, look.size)
+        self.seats.read(number)
         self.guests[name] = Guest(name, number, look)
 
     def see(self, moment):
-        """Notes what has happened until a moment."""
+        """Notes what has happened until a moment, and has its budget hold."""
+        self.seats.budget(moment.frames)
         for name in self.guests.keys() - moment.guests.keys():
-            self.do(self.library.vb_loan_leave, self.guests.pop(name).number)
+            self.seats.arrive(self.guests.pop(name).number, 0)
         for name, look in moment.guests.items():
             if name not in self.guests:
                 self.come(name, look)
@@ -110,7 +112,6 @@ class Follower(Lender):
     def withdraw(self, guest, pages):
         """A guest doesn't ask for its last pages any longer; those that it has got of them it gives
         back."""
-        loan = self.loans[guest.number]
         while pages > 0 and guest.asks:
             part = min(pages, guest.asks[-1])
             guest.asks[-1] -= part
@@ -118,76 +119,67 @@ class Follower(Lender):
             if guest.asks[-1] == 0:
                 guest.asks.pop()
         guest.asked -= pages
-        part = min(pages, loan.asked)
-        loan.asked -= part
-        if loan.asked == 0:
-            loan.turn = loan.line = 0
+        report = self.seats.reports[guest.number]
+        part = min(pages, report.held)
+        report.held -= part
+        self.seats.tell(guest.number)
         guest.owes += pages - part
         guest.total -= pages - part
 
     def give(self, guest):
         """A guest gives what it is to give, as far as it has that already."""
-        loan = self.loans[guest.number]
-        part = min(guest.owes, loan.lent, loan.pages - loan.ballooned)
+        part = min(guest.owes, self.seats.lent(guest.number))
         if part > 0:
-            self.do(self.library.vb_loan_give, guest.number, part)
+            self.seats.give(guest.number, part)
             guest.owes -= part
         return part > 0
 
-    def room(self, frames):
-        """Returns how many frames are left that nobody has or has asked for."""
-        return max(frames - self.owed() - sum(it.asked for it in self.loans), 0)
-
-    def ask(self, guest, waits, most):
+    def ask(self, guest, waits, fits):
         """A guest asks for its next part, once it has got those before: one that the host has
-        granted until now, or one that waits there, too; and for no more pages than these."""
-        loan = self.loans[guest.number]
+        granted until now, or one that waits there, too; and where it has to fit for no more pages
+        than there is room for."""
+        report = self.seats.reports[guest.number]
         if (
-            loan.asked
+            report.held
             or not guest.asks
             or (not waits and guest.asked + guest.asks[0] > guest.look.granted)
         ):
             return False
         # What it gave between its asks may be wanted first.
-        part = min(guest.asks[0], loan.pages - loan.lent, most)
+        part = min(guest.asks[0], report.ballooned, self.seats.room() if fits else guest.look.size)
         if part == 0:
             return False
         guest.asks[0] -= part
         if guest.asks[0] == 0:
             guest.asks.popleft()
         guest.asked += part
-        self.do(self.library.vb_loan_ask, guest.number, part)
+        self.seats.hold(guest.number, part)
         return True
 
     def guest_of(self, number):
-        """Returns the guest that has this loan."""
+        """Returns the guest at this place."""
         return next(it for it in self.guests.values() if it.number == number)
 
-    def take(self, number):
-        """A guest takes what it was granted."""
-        loan = self.loans[number]
-        pages = loan.lent + loan.ballooned - loan.pages
-        self.do(self.library.vb_loan_take, number, pages)
-        self.guest_of(number).total += pages
+    def take_all(self):
+        """Guests take what they were granted; returns whether any does."""
+        granted = self.seats.granted()
+        for number in granted:
+            self.guest_of(number).total += self.seats.take(number)
+        return bool(granted)
 
-    def next_is_granted(self, frames):
-        """Whether the host has granted until now what is next in the line, which there is room
-        for."""
-        loans = type(self.loans).from_buffer_copy(self.loans)
-        answer = self.library.vb_loan_grant(frames, loans, self.count)
-        if answer.code == NOTHING:
-            return False
-        loan, guest = loans[answer.guest], self.guest_of(answer.guest)
-        return guest.total + loan.lent + loan.ballooned - loan.pages <= guest.look.granted
-
-    def grant_before(self, frames):
+    def grant_before(self, before, frames):
         """Grants what the host has granted until now, on the budget of the look before: when it
         fell since then isn't recorded."""
-        granted = False
-        while self.next_is_granted(frames):
-            self.take(self.library.vb_loan_grant(frames, self.loans, self.count).guest)
-            granted = True
-        return granted
+        took = self.take_all()
+        while (first := self.seats.first()) is not None:
+            asked, guest = self.seats.asked(first), self.guest_of(first)
+            wanted = self.seats.owed() + asked
+            if wanted > before or guest.total + asked > guest.look.granted:
+                break
+            self.seats.budget(wanted)
+            self.seats.budget(frames)
+            took |= self.take_all()
+        return took
 
     def rest(self, before, frames):
         """Has all be done that can be on these budgets, of the look before and of now: what the
@@ -199,15 +191,10 @@ class Follower(Lender):
         for waits, fits in ((False, True), (False, False), (True, False)):
             going = True
             while going:
-                going = any([self.give(it) for it in guests])
-                going |= any(
-                    [
-                        self.ask(it, waits, self.room(frames) if fits else it.look.size)
-                        for it in guests
-                    ]
-                )
-                going |= not waits and before > frames and self.grant_before(before)
-                going |= self.grant(frames)
+                going = self.take_all()
+                going |= any([self.give(it) for it in guests])
+                going |= any([self.ask(it, waits, fits) for it in guests])
+                going |= not waits and before > frames and self.grant_before(before, frames)
 
     def note(self, seconds):
         """Notes where each guest is at a look, before this time passes."""
@@ -215,7 +202,7 @@ class Follower(Lender):
             it.granted.append(it.look.granted)
             it.replayed.append(it.total)
             it.waited += seconds if it.look.asked else 0
-            it.replay_waited += seconds if self.loans[it.number].asked or it.asks else 0
+            it.replay_waited += seconds if self.seats.reports[it.number].held or it.asks else 0
 
 
 def check(library, moments):

@@ -1,4 +1,4 @@
-"""The calls of vb.h and vb_lending.h that a replay makes, by ctypes. What they decide is theirs:
+"""The calls of vb.h and vb_host.h that a replay makes, by ctypes. What they decide is theirs:
 nothing of it is here."""
 
 import ctypes
@@ -8,8 +8,12 @@ from bigvasta import __version__
 from bigvasta.statuses import Usage
 
 # Of vb.h: the answers, and the version, whose last number may differ.
-OK, NOTHING, SHORT = 0, 1, 8
+OK, SHORT = 0, 8
 VERSION = int.from_bytes(bytes(map(int, __version__.split("."))), "big")
+
+# Of vb_host.h: the lines, and the kinds of events.
+LINE_DEFLATES, LINE_RESETS, LINE_ARRIVALS = 0, 1, 2
+HEARS, WANTS, ARRIVES, TAKES_OVER, BUDGET = 1, 4, 6, 8, 10
 
 HERE = os.path.dirname(os.path.realpath(__file__))
 
@@ -22,57 +26,76 @@ PLACES = (
     ),
 )
 
+NUMBER, LONG, COUNT, ROOM = ctypes.c_uint32, ctypes.c_uint64, ctypes.c_size_t, ctypes.c_void_p
 
-class Loan(ctypes.Structure):
-    """VbLoan."""
+
+def fields(kind, names):
+    """Returns fields of one kind."""
+    return [(it, kind) for it in names.split()]
+
+
+class Report(ctypes.Structure):
+    """VbReport."""
 
     _fields_ = [
-        ("pages", ctypes.c_uint32),
-        ("ballooned", ctypes.c_uint32),
-        ("lent", ctypes.c_uint32),
-        ("asked", ctypes.c_uint32),
-        ("turn", ctypes.c_uint64),
-        ("spare", ctypes.c_uint32),
-        ("uncounted", ctypes.c_uint16),
-        ("line", ctypes.c_uint16),
+        *fields(NUMBER, "ballooned target read_target held line"),
+        *fields(LONG, "target_number deflates removed"),
+    ]
+
+
+class Seat(ctypes.Structure):
+    """VbSeat."""
+
+    _fields_ = [
+        *fields(NUMBER, "pages ballooned least_target target wanted held line"),
+        *fields(LONG, "target_number deflates granted removed turn"),
+        *fields(NUMBER, "uncounted preferred"),
+    ]
+
+
+class Host(ctypes.Structure):
+    """VbHost."""
+
+    _fields_ = fields(NUMBER, "frames overdraft")
+
+
+class Event(ctypes.Structure):
+    """VbHostEvent."""
+
+    _fields_ = [
+        ("kind", NUMBER),
+        *fields(COUNT, "guest added"),
+        *fields(NUMBER, "pages ballooned frames"),
+        ("report", Report),
     ]
 
 
 class Need(ctypes.Structure):
     """VbNeed."""
 
-    _fields_ = [("pages", ctypes.c_uint32), ("spare", ctypes.c_uint32)]
-
-
-class Grant(ctypes.Structure):
-    """VbGrant."""
-
-    _fields_ = [("code", ctypes.c_uint32), ("guest", ctypes.c_size_t)]
+    _fields_ = fields(NUMBER, "pages spare")
 
 
 class Targets(ctypes.Structure):
     """VbTargets."""
 
-    _fields_ = [("code", ctypes.c_uint32), ("missing", ctypes.c_uint64)]
+    _fields_ = [("code", NUMBER), ("missing", LONG)]
 
 
-NUMBER, LONG, COUNT, ROOM = ctypes.c_uint32, ctypes.c_uint64, ctypes.c_size_t, ctypes.c_void_p
+SEAT = ctypes.POINTER(Seat)
 
 # Each call: what it answers, and what it takes.
 CALLS = {
     "vb_version": (NUMBER,),
     "vb_spare": (NUMBER, NUMBER, NUMBER, NUMBER, NUMBER, NUMBER, NUMBER),
+    "vb_targets": (Targets, ROOM, COUNT, NUMBER, ROOM, COUNT),
     "vb_needs_targets": (NUMBER, ROOM, COUNT, ROOM, COUNT, NUMBER),
-    "vb_loan_arrive": (NUMBER, ROOM, COUNT, COUNT, NUMBER, ctypes.c_uint16),
-    "vb_loan_leave": (NUMBER, ROOM, COUNT, COUNT),
-    "vb_loan_give": (NUMBER, ROOM, COUNT, COUNT, NUMBER),
-    "vb_loan_ask": (NUMBER, ROOM, COUNT, COUNT, NUMBER),
-    "vb_loan_reset": (NUMBER, ROOM, COUNT, COUNT, ctypes.c_uint16),
-    "vb_loan_take": (NUMBER, ROOM, COUNT, COUNT, NUMBER),
-    "vb_loan_figure": (NUMBER, ROOM, COUNT, COUNT, NUMBER),
-    "vb_loan_grant": (Grant, NUMBER, ROOM, COUNT),
-    "vb_loan_owed": (LONG, ROOM, COUNT),
-    "vb_loan_targets": (Targets, NUMBER, ROOM, COUNT, ROOM, COUNT, ROOM, COUNT),
+    "vb_host_step": (NUMBER, ctypes.POINTER(Host), ROOM, COUNT, ctypes.POINTER(Event)),
+    "vb_host_owed": (LONG, ROOM, COUNT),
+    "vb_host_room": (NUMBER, ctypes.POINTER(Host), ROOM, COUNT),
+    "vb_host_first": (COUNT, ROOM, COUNT),
+    "vb_seat_lent": (NUMBER, SEAT),
+    "vb_seat_asked": (NUMBER, SEAT),
 }
 
 

@@ -9,8 +9,7 @@ from typing import NamedTuple
 
 import numpy
 
-from bigvasta.plan.library import OK, Loan
-from bigvasta.statuses import Unclear
+from bigvasta.plan.seats import Seats
 
 # What a host refuses that has refused nothing: more pages than any guest has.
 NOTHING_YET = 1 << 32
@@ -28,8 +27,7 @@ class Promises:
     """What the hosts of a fleet have promised."""
 
     def __init__(self, library, hosts, frames, places):
-        self.library, self.frames, self.places = library, frames, places
-        self.loans = [(Loan * places)() for _ in range(hosts)]
+        self.hosts = [Seats(library, places, frames) for _ in range(hosts)]
         self.vacant = [list(range(places)) for _ in range(hosts)]
         # The smallest guest that a host has refused since one went from it: it needn't be asked for
         # that one or a larger one.
@@ -39,15 +37,11 @@ class Promises:
         """Returns the place that a guest has on a host now; None where it has none."""
         if not self.vacant[host]:
             return None
-        library, loans, place = self.library, self.loans[host], self.vacant[host][-1]
-        if library.vb_loan_arrive(loans, self.places, place, pages, 0) != OK:
-            raise Unclear(
-                f"plan: the library lets no guest of {pages} pages come to a vacant place"
-            )
-        if library.vb_loan_grant(self.frames, loans, self.places).code != OK:
-            library.vb_loan_leave(loans, self.places, place)
+        place = self.vacant[host][-1]
+        self.hosts[host].arrive(place, pages)
+        if self.hosts[host].lent(place) < pages:
+            self.hosts[host].arrive(place, 0)
             return None
-        library.vb_loan_take(loans, self.places, place, pages)
         return self.vacant[host].pop()
 
     def come(self, pages):
@@ -64,7 +58,7 @@ class Promises:
 
     def go(self, host, place):
         """A guest goes from a host."""
-        self.library.vb_loan_leave(self.loans[host], self.places, place)
+        self.hosts[host].arrive(place, 0)
         self.vacant[host].append(place)
         self.refused[host] = NOTHING_YET
 

@@ -64,7 +64,7 @@ ORDER = {
 # What a guest asked for it doesn't want any longer.
 LEAVES_IT = {"a": "90/0/0 90/10/0 90/0/0 90/4/0", "b": "60/0/0 60/0/0 60/0/0 60/0/0"}
 
-# Days of hosts that grant as vb_loan_grant does; of each guest the pages that it was granted, and
+# Days of hosts that grant as vb_host_step does; of each guest the pages that it was granted, and
 # the seconds that it waited.
 SAME = {
     "waits": ([150] * 5, WAITS, {"a": (15, 1), "b": (5, 0)}),

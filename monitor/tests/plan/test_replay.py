@@ -56,6 +56,10 @@ ALONE = day_of(a=((0, 10), 30), b=((0, 100), 20))
 # spare 49 above 14, and so 47: b gives the 3 that are missing, and a gets them at once.
 SLACK = day_of(a=((0, 20), (10, 34), (20, 36), (30, 37), 40), b=((0, 60), 40))
 
+# Of 300 pages on 130 a gives 90 and c 80: 10, 100 and 20 are lent. At 10 c goes, which leaves room
+# for 20 of the 70 that a lacks: those it takes at once, and asks for 50, which b can't spare.
+IN_PARTS = day_of(a=((0, 10), (10, 80), 30), b=((0, 100), 30), c=((0, 20), 10))
+
 # All is lent to a guest that is reset: nothing waits.
 FULL = day_of(a=((0, 50), (10, 0), 20))
 
@@ -101,6 +105,17 @@ WORKED_OUT = {
         100,
     ),
     "a floor that lacks a little": (SLACK, Terms(150, 16), (0.0,), 0.0, 80.0, 0, 0.0, 0, 56),
+    "what there is room for comes first": (
+        IN_PARTS,
+        Terms(130),
+        (0.0, 20.0),
+        20.0,
+        70.0,
+        1,
+        20.0,
+        50,
+        190,
+    ),
     "a reset that has all": (FULL, Terms(100), (), 0.0, 20.0, 0, 0.0, 0, 0),
 }
 
@@ -153,16 +168,19 @@ def random_day(numbers):
 
 
 class Watched(Lender):
-    """A lender whose loans are looked at after each moment."""
+    """A lender whose seats are looked at after each moment."""
 
     def settle(self):
-        """What is lent never passes the budget once it is within it; each loan stays sound."""
-        before = self.owed()
+        """What is lent never passes the budget once it is within it; each guest has what it uses,
+        and what is lent to it."""
+        before = self.seats.owed()
         super().settle()
-        assert self.owed() <= max(self.terms.frames, before)
-        for it in self.loans:
-            assert it.lent + it.ballooned >= it.pages >= it.lent + it.asked
-        waits = [it.asked != 0 for it in self.loans]
+        assert self.seats.owed() <= max(self.terms.frames, before)
+        for number, (seat, report) in enumerate(zip(self.seats.seats, self.seats.reports)):
+            has = seat.pages - report.ballooned
+            assert self.seats.lent(number) == has
+            assert report.held or not self.runs[number] or report.ballooned <= self.unused[number]
+        waits = [it.held != 0 for it in self.seats.reports]
         assert waits == [it is not None for it in self.since]
         # Who can be served is served: the guests that can spare give all that lacks.
         assert self.missing > 0 or not any(waits)
