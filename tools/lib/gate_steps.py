@@ -9,7 +9,7 @@ import time
 from typing import NamedTuple
 
 from debian_packages import install, missing
-from suites import SUITES, packages_of
+from suites import DAEMONS, SUITES, packages_of
 
 ROOT = os.path.realpath(os.path.join(os.path.dirname(__file__), "../.."))
 LOGS = os.path.join(ROOT, "out", "tests")
@@ -18,7 +18,7 @@ LOGS = os.path.join(ROOT, "out", "tests")
 LIMIT, LINES = 7200, 40
 
 SHIMS = "make gcc g++ clang libc6-dev python3 rustc cargo librust-vm-memory-dev"
-LINT = "make gcc clang-tidy cppcheck libc6-dev libjansson-dev libinih-dev libsystemd-dev libseccomp-dev"
+LINT = "clang-tidy cppcheck"
 # The days and the notices of the quick part.
 FEWER = ("DAYS=100000", "NOTICES=100000")
 
@@ -77,7 +77,7 @@ ALL = (
     *CHECKS,
     monitor("monitor over reference", *OVER_REFERENCE, "bench"),
     monitor("monitor", "test"),
-    Step("lint", ("make", "-s", "-C", "monitor", "lint"), tuple(LINT.split())),
+    Step("lint", ("make", "-s", "-C", "monitor", "lint"), (*LINT.split(), *DAEMONS.split())),
     *(suite(it) for it in SUITES if it not in ELSEWHERE),
 )
 

@@ -18,11 +18,12 @@ PACKAGES = (
     ),
     (
         ("README.md", r"`make -C monitor daemons` \|[^|]*\(`([^`]*)`\)"),
+        ("README.md", r"(?m)^    sudo apt-get install (make .*)$"),
         ("monitor/Makefile", r"in out/library/plain \(`apt-get install ([^`]*)`\)"),
         ("tools/lib/suites.py", r'(?m)^DAEMONS = "(.*)"$'),
     ),
     (
-        ("README.md", r"`make -C monitor lint` \|[^|]*\(`([^`]*)`\)"),
+        ("README.md", r"`make -C monitor lint` \|[^|]*\(`([^`]*)`"),
         ("tools/lib/gate_steps.py", r'(?m)^LINT = "(.*)"$'),
     ),
     (

@@ -223,8 +223,7 @@ def test_a_line_of_the_most_bytes_and_one_more(host, raw):
 
 
 def test_a_line_that_is_too_long_by_its_second_part(host, raw):
-    """Its answer may be lost, as bytes are left that nobody reads."""
-    raw.socket.sendall(b"x")
+    raw.socket.sendall(b"x")  # its answer may be lost, as bytes are left that nobody reads
     time.sleep(0.3)
     raw.socket.sendall(b"x" * 4096)
     eventually(lambda: host.status()["control"]["refused"] == 1)

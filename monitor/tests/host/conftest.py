@@ -119,3 +119,9 @@ def folder():
     yield path
     os.umask(mask)
     shutil.rmtree(path)
+
+
+@pytest.fixture(scope="session")
+def cutting():
+    """The program of a guest's process that is cut off in one place (cut_lent.c)."""
+    return linux_kit.built("cut/vhost_user_balloon")

@@ -8,7 +8,6 @@ import signal
 import struct
 import threading
 
-import linux_kit
 import pytest
 from tenants import FREE, PAGES, PAGES_OF_ALL, eventually, process_of, stop
 from vhost_client import (
@@ -39,12 +38,6 @@ MOST_USED = 16 * 64
 KILLS = 100
 KILL_WITHIN = 0.01
 GIVEN = [*range(PAGES_OF_ALL + 28, PAGES_OF_ALL + 64), *range(PAGES, PAGES + 64)]
-
-
-@pytest.fixture(scope="session")
-def cutting():
-    """The program of a guest's process that is cut off in one place (cut_lent.c)."""
-    return linux_kit.built("cut/vhost_user_balloon")
 
 
 def is_told(client, number):

@@ -3,7 +3,7 @@
 import socket
 
 from tenants import eventually
-from test_anew import WIDE, cutting
+from test_anew import WIDE
 from vhost_client import GET_FEATURES, Client
 
 # Places where a process is cut off: the message is read and answered before the last of them.

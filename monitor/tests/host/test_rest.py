@@ -5,8 +5,8 @@ import time
 import pytest
 from tenants import FREE, PAGES, go_on, process_of, stop
 
-# Seconds of a period, those in which a guest that does nothing has come to rest; in how many periods
-# one that rests is asked once, those for which it is looked at, and how often.
+# Seconds of a period, those in which a guest that does nothing has come to rest; in how many
+# periods one that rests is asked once, those for which it is looked at, and how often.
 PERIOD, RESTED, ASKED_ONCE_IN, LOOKS, TRIES = 0.05, 1.5, 5, 80, 5
 
 
