@@ -72,6 +72,7 @@ typedef struct {
     uint64_t turn;          /* its turn among those that wait; 0 where it doesn't */
     uint32_t uncounted;     /* its balloon counts no longer; 0 where it counts */
     uint32_t preferred;     /* it comes before all others of its line; 0 where it doesn't */
+    uint32_t deferred;      /* it lets others pass, in VB_LINE_ARRIVALS; 0 where it doesn't */
 } VbSeat;
 
 typedef struct {
@@ -120,10 +121,14 @@ enum {
     /* guest: of all guests just this one comes before all others of its line from now on, whenever
      * it waits; none does where there is no such place. */
     VB_PREFERS = 11,
+    /* guest: it lets others pass. Where it waits, in VB_LINE_RESETS or VB_LINE_ARRIVALS, it waits
+     * in VB_LINE_ARRIVALS from now on with the next turn, as long as this wait lasts. Nothing is
+     * lent by that. No effect where it doesn't wait, or in VB_LINE_DEFLATES. */
+    VB_DEFERS = 12,
 };
 
 typedef struct {
-    uint32_t kind;       /* VB_HEARS .. VB_PREFERS */
+    uint32_t kind;       /* VB_HEARS .. VB_DEFERS */
     size_t guest, added; /* places */
     uint32_t pages, ballooned;
     uint32_t frames;
@@ -134,13 +139,14 @@ VB_ASSERT(sizeof(VbReport) == 48 && offsetof(VbReport, target) == 4);
 VB_ASSERT(offsetof(VbReport, read_target) == 8 && offsetof(VbReport, held) == 12);
 VB_ASSERT(offsetof(VbReport, line) == 16 && offsetof(VbReport, target_number) == 24);
 VB_ASSERT(offsetof(VbReport, deflates) == 32 && offsetof(VbReport, removed) == 40);
-VB_ASSERT(sizeof(VbSeat) == 80 && offsetof(VbSeat, ballooned) == 4);
+VB_ASSERT(sizeof(VbSeat) == 88 && offsetof(VbSeat, ballooned) == 4);
 VB_ASSERT(offsetof(VbSeat, least_target) == 8 && offsetof(VbSeat, target) == 12);
 VB_ASSERT(offsetof(VbSeat, wanted) == 16 && offsetof(VbSeat, held) == 20);
 VB_ASSERT(offsetof(VbSeat, line) == 24 && offsetof(VbSeat, target_number) == 32);
 VB_ASSERT(offsetof(VbSeat, deflates) == 40 && offsetof(VbSeat, granted) == 48);
 VB_ASSERT(offsetof(VbSeat, removed) == 56 && offsetof(VbSeat, turn) == 64);
 VB_ASSERT(offsetof(VbSeat, uncounted) == 72 && offsetof(VbSeat, preferred) == 76);
+VB_ASSERT(offsetof(VbSeat, deferred) == 80);
 VB_ASSERT(sizeof(VbHost) == 8 && offsetof(VbHost, overdraft) == 4 && sizeof(VbHostEvent) == 88);
 VB_ASSERT(offsetof(VbHostEvent, guest) == 8 && offsetof(VbHostEvent, added) == 16);
 VB_ASSERT(offsetof(VbHostEvent, pages) == 24 && offsetof(VbHostEvent, ballooned) == 28);

@@ -42,6 +42,7 @@ static VbSeat granted(VbSeat seat)
     seat.granted = seat.deflates;
     seat.held = 0;
     seat.turn = 0;
+    seat.deferred = 0;
     return seat;
 }
 
@@ -90,6 +91,22 @@ static VbSeat counted(VbSeat seat, const VbReport *report)
 static VbSeat queued(VbSeat seat, uint64_t turn)
 {
     seat.turn = seat.held ? turn : 0;
+    seat.deferred = 0;
+    return seat;
+}
+
+/* In which line it waits; one that lets others pass in the last one. */
+static uint64_t waiting_line(const VbSeat *seat)
+{
+    return seat->deferred ? VB_LINE_ARRIVALS : least(seat->line, VB_LINE_ARRIVALS);
+}
+
+static VbSeat deferred(VbSeat seat, uint64_t turn)
+{
+    if (!seat.held || waiting_line(&seat) == VB_LINE_DEFLATES)
+        return seat;
+    seat.turn = turn;
+    seat.deferred = 1;
     return seat;
 }
 
@@ -195,7 +212,7 @@ static uint64_t next_turn(const VbSeat *seats, size_t count)
  * turns of those that aren't, then places. */
 static bool waits_before(const VbSeat *one, const VbSeat *other)
 {
-    uint64_t line = least(one->line, VB_LINE_ARRIVALS), next = least(other->line, VB_LINE_ARRIVALS);
+    uint64_t line = waiting_line(one), next = waiting_line(other);
     if (line != next)
         return line < next;
     if (!one->preferred != !other->preferred)
@@ -298,6 +315,8 @@ static VbSeat seat_then(const VbHost *host, const VbSeat *seats, size_t count,
         seat.ballooned = seat.least_target = 0;
         seat.uncounted = 1;
         return seat;
+    case VB_DEFERS:
+        return deferred(seat, next_turn(seats, count));
     default:
         return seat;
     }
@@ -305,7 +324,7 @@ static VbSeat seat_then(const VbHost *host, const VbSeat *seats, size_t count,
 
 uint32_t vb_host_step(VbHost *host, VbSeat *seats, size_t count, const VbHostEvent *event)
 {
-    if (event->kind < VB_HEARS || event->kind > VB_PREFERS)
+    if (event->kind < VB_HEARS || event->kind > VB_DEFERS)
         return VB_BAD_ARGUMENT;
     if (event->kind == VB_BUDGET)
         host->frames = event->frames;

@@ -18,7 +18,7 @@ bool same_seat(const VbSeat *one, const VbSeat *other)
            one->target_number == other->target_number && one->deflates == other->deflates &&
            one->granted == other->granted && one->removed == other->removed &&
            one->turn == other->turn && one->uncounted == other->uncounted &&
-           one->preferred == other->preferred;
+           one->preferred == other->preferred && one->deferred == other->deferred;
 }
 
 void print_seat(size_t place, const VbSeat *seat)
@@ -30,12 +30,14 @@ void print_seat(size_t place, const VbSeat *seat)
             (unsigned long long)seat->target_number, (unsigned long long)seat->deflates,
             (unsigned long long)seat->granted, (unsigned long long)seat->removed,
             (unsigned long long)seat->turn);
-    fprintf(stderr, " uncounted %u, preferred %u\n", seat->uncounted, seat->preferred);
+    fprintf(stderr, " uncounted %u, preferred %u, deferred %u\n", seat->uncounted, seat->preferred,
+            seat->deferred);
 }
 
 int main(int count, char **words)
 {
     check_rows();
+    check_passing();
     check_lines();
     check_orders();
     check_targets();

@@ -49,7 +49,7 @@ class Seat(ctypes.Structure):
     _fields_ = [
         *fields(NUMBER, "pages ballooned least_target target wanted held line"),
         *fields(LONG, "target_number deflates granted removed turn"),
-        *fields(NUMBER, "uncounted preferred"),
+        *fields(NUMBER, "uncounted preferred deferred"),
     ]
 
 

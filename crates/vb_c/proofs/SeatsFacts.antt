@@ -1,7 +1,7 @@
 -- What the calls of a host's lender answer in C, worked out: each kind, each field, and all that is left.
 use Rattle.std.proofs.Common.{◌≡◌, ◌∙◌, ◌⊎◌, inl, inr, refl, ap, subst, arith, ℕ, zero, suc, ◌+◌, ◌<◌, ◌≤◌, true, false, List, [], ◌∷◌, map, Option, Some, None}
 use Rattle.vb_host.specs.declared.event.Event.{Event}
-use Rattle.vb_host.specs.declared.event.Event.TheVariants.{Hears, Grants, Overdraws, Wants, Targets, Arrives, Joins, TakesOver, Uncounts, Budget, Prefers}
+use Rattle.vb_host.specs.declared.event.Event.TheVariants.{Hears, Grants, Overdraws, Wants, Targets, Arrives, Joins, TakesOver, Uncounts, Budget, Prefers, Defers}
 use Rattle.vb_host.specs.declared.report.Report.{Report}
 use Rattle.vb_host.specs.declared.seat.Seat.{Seat}
 use Rattle.vb_host.specs.Lending.{Lending, held_at, test_at, room, rank_at}
@@ -52,8 +52,8 @@ events : map event_of (event 0 ∷ event 1 ∷ event 2 ∷ event 3 ∷ event 4 �
     ≡ none ∷ some (Hears 0 report) ∷ some (Grants 0) ∷ some (Overdraws 0) ∷ some (Wants 0 60) ∷ some (Targets 0) ∷ []
 events = refl
 
-more_events : map event_of (event 6 ∷ event 7 ∷ event 8 ∷ event 9 ∷ event 10 ∷ event 11 ∷ event 12 ∷ event 256 ∷ [])
-    ≡ some (Arrives 0 60 20) ∷ some (Joins 0 2) ∷ some (TakesOver 0 60 report) ∷ some (Uncounts 0) ∷ some (Budget 90) ∷ some (Prefers 0) ∷ none ∷ none ∷ []
+more_events : map event_of (event 6 ∷ event 7 ∷ event 8 ∷ event 9 ∷ event 10 ∷ event 11 ∷ event 12 ∷ event 13 ∷ event 256 ∷ [])
+    ≡ some (Arrives 0 60 20) ∷ some (Joins 0 2) ∷ some (TakesOver 0 60 report) ∷ some (Uncounts 0) ∷ some (Budget 90) ∷ some (Prefers 0) ∷ some (Defers 0) ∷ none ∷ none ∷ []
 more_events = refl
 
 lends : lending_of host (newcomer 8 ∷ []) ≡ record { frames = 50; overdraft = 7; seats = newcomer 8 ∷ [] }

@@ -5,7 +5,7 @@ use Rattle.vb_core.specs.declared.device.Denial.TheVariants.{BadArgument}
 use Rattle.vb_host.specs.declared.event.Event.{Event}
 use Rattle.vb_host.specs.declared.event.Event.TheVariants.{Hears, Grants, Overdraws, Wants, Targets}
 use Rattle.vb_host.specs.declared.event.Event.TheVariants.{Arrives, Joins, TakesOver, Uncounts}
-use Rattle.vb_host.specs.declared.event.Event.TheVariants.{Budget, Prefers}
+use Rattle.vb_host.specs.declared.event.Event.TheVariants.{Budget, Prefers, Defers}
 use Rattle.vb_host.specs.declared.seat.Seat.{Seat}
 use Rattle.vb_host.specs.Lending.{Lending, held_at}
 use Rattle.vb_host.specs.Line.{IsFirst, IsStep}
@@ -27,6 +27,7 @@ event_of e =
     else if e.kind == 9 then Some (Uncounts e.guest)
     else if e.kind == 10 then Some (Budget e.frames)
     else if e.kind == 11 then Some (Prefers e.guest)
+    else if e.kind == 12 then Some (Defers e.guest)
     else None
 
 abbrev pub lending_of : VbHost → List Seat → Lending

@@ -42,6 +42,9 @@ const BUDGET: u32 = 10;
 /// Of all guests just one is preferred.
 const PREFERS: u32 = 11;
 
+/// A guest that waits lets others pass.
+const DEFERS: u32 = 12;
+
 /// How many frames a host has to lend, and how many beyond them.
 #[repr(C)]
 #[derive(Clone, Copy, Debug)]
@@ -94,6 +97,7 @@ impl VbHostEvent {
                 frames: self.frames,
             },
             PREFERS => Event::Prefers { guest },
+            DEFERS => Event::Defers { guest },
             _ => return None,
         })
     }

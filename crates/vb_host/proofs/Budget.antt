@@ -6,14 +6,14 @@ use Rattle.std.specs.List.{AllByRecursion, list_all}
 use Rattle.vb_host.specs.declared.seat.Seat.{Seat}
 use Rattle.vb_host.specs.Lending.{owed, room, each_at, value_at, test_at, held_at, is_first, may_grant, may_overdraw, next_turn}
 use Rattle.vb_host.specs.Promises.{used, all_used, NeverLowers, strictly}
-use Rattle.vb_host.specs.Seats.{lent, asked, waits, covers, granting, is_done, preferring, retargeted}
+use Rattle.vb_host.specs.Seats.{lent, asked, waits, covers, deferring, granting, is_done, may_defer, preferring, retargeted}
 use Rattle.vb_host.specs.System.{Guest, Host, seats, lending, arriving, taken_up, forgotten, opened, goes, through, hearing, report_at, view, viewed}
 use Rattle.vb_host.specs.System.{changed, by_lender, limiting, lands, confirms, fails, joined, may_join, joining, Step, Does, Reports, Obeys, Hears}
 use Rattle.vb_host.specs.System.{Grants, Overdraws, Wants, Sends, Limits, Lands, Confirms, Fails, Uncounts, Arrives, Joins, TakesOver, Forgets}
-use Rattle.vb_host.specs.System.{Budget, Prefers, Targets, Deviates}
+use Rattle.vb_host.specs.System.{Budget, Prefers, Defers, Targets, Deviates}
 use Rattle.vb_host.proofs.Grants.{covered_waits}
 use Rattle.vb_host.proofs.Guests.{deed_true, report_true, obey_true, hear_true, grant_true, target_true, send_true, limit_true, uncount_true}
-use Rattle.vb_host.proofs.Guests.{forget_true, arriving_true, taken_true, taken_lends, joined_true, joined_lends, join_facts, prefer_true, want_true}
+use Rattle.vb_host.proofs.Guests.{forget_true, arriving_true, taken_true, taken_lends, joined_true, joined_lends, join_facts, defer_true, prefer_true, want_true}
 use Rattle.vb_host.proofs.LentBy.{asks_lend, changed_lends, covered_lends, hearing_lends, targets_lend}
 use Rattle.vb_host.proofs.Lists.{all_at, all_where, all_map, its_lent, lent_all, lends_at, lent_map, lent_where, lent_seen, seen_at, test_implies}
 use Rattle.vb_host.proofs.Lists.{waits_at, join_lends, all_get, strictly_by}
@@ -122,6 +122,7 @@ step_true h (Hears n k) a = all_at IsTrusty n _ h.guests (λ g t e. hear_true (n
 step_true h (Grants n) a = either_guests (may_grant (lending h) n) h _ (λ e. all_where IsTrusty waits n lets h.guests (λ g w t s. grant_true g w (t s)) (may_waits h n e) a) a
 step_true h (Overdraws n) a = either_guests (may_overdraw (lending h) n) h _ (λ e. all_where IsTrusty waits n lets h.guests (λ g w t s. grant_true g w (t s)) (first_waits h n (draws_first h n e)) a) a
 step_true h (Prefers n) a = all_at IsTrusty n (by_lender (preferring 1)) (map (by_lender (preferring 0)) h.guests) (λ g t e. prefer_true 1 g (t e)) (prefers_true h a)
+step_true h (Defers n) a = all_at IsTrusty n _ h.guests (λ g t e. defer_true (next_turn (seats h.guests)) g (t e)) a
 step_true h (Wants n pages) a = all_at IsTrusty n _ h.guests (λ g t e. want_true pages g (t e)) a
 step_true h (Targets n) a = all_at IsTrusty n _ h.guests (λ g t e. target_true (room (lending h)) g (t e)) a
 step_true h (Sends n) a = all_at IsTrusty n _ h.guests (λ g t e. send_true g (t e)) a
@@ -150,6 +151,13 @@ hears_no_more turn i g t = omega (arith, strictly_by g.strict _ (lent g.seat) 0 
 pub wants_no_more : (pages : ℕ) (g : Guest) → IsTrusty g → its_lent (by_lender (λ s. record s { wanted = pages }) g) ≤ its_lent g
 wants_no_more pages g t = omega (arith, strictly_by g.strict _ (lent g.seat) 0 (λ _. changed_lends g.known (λ s. record s { wanted = pages }) g.seat 0 (omega arith)))
 
+pub defers_no_more : (turn : ℕ) (g : Guest) → IsTrusty g → its_lent (by_lender (deferring turn) g) ≤ its_lent g
+defers_no_more turn g t = omega (
+  arith,
+  strictly_by g.strict _ (lent g.seat) 0 (λ _. changed_lends g.known (deferring turn) g.seat 0
+      (either (λ (x : Seat). lent x ≤ lent g.seat + 0) (may_defer g.seat) _ _ (λ _. omega arith) (λ _. omega arith))),
+)
+
 prefers_no_more : (preferred : ℕ) (g : Guest) → its_lent (by_lender (preferring preferred) g) ≤ its_lent g
 prefers_no_more preferred g = omega (arith, strictly_by g.strict _ (lent g.seat) 0 (λ _. changed_lends g.known (preferring preferred) g.seat 0 (omega arith)))
 
@@ -173,6 +181,7 @@ step_within h (Hears n k) r i = lends_no_more h n _ (hears_no_more (next_turn (s
 step_within h (Grants n) r i = either_owed (may_grant (lending h) n) h _ (λ e. grant_owes h n e i) i.within
 step_within h (Overdraws n) r i = either_owed (may_overdraw (lending h) n) h _ (λ e. overdraws_owe h n e) i.within
 step_within h (Prefers n) r i = omega (arith, i.within, prefers_lend h n i.each)
+step_within h (Defers n) r i = lends_no_more h n _ (defers_no_more (next_turn (seats h.guests))) i
 step_within h (Wants n pages) r i = lends_no_more h n _ (wants_no_more pages) i
 step_within h (Targets n) r i = omega (arith, i.within, target_owes (most h) h n (room (lending h)) (omega arith) refl i.each)
 step_within h (Sends n) r i = lends_no_more h n _ (λ g _. omega arith) i
@@ -223,6 +232,7 @@ run_safe h (Hears n k ∷ steps) r i = run_safe (goes h (Hears n k)) steps r (st
 run_safe h (Grants n ∷ steps) r i = run_safe (goes h (Grants n)) steps (grants_lower h n steps r) (step_safe h (Grants n) tt i)
 run_safe h (Overdraws n ∷ steps) r i = run_safe (goes h (Overdraws n)) steps (overdraws_lower h n steps r) (step_safe h (Overdraws n) tt i)
 run_safe h (Prefers n ∷ steps) r i = run_safe (goes h (Prefers n)) steps r (step_safe h (Prefers n) tt i)
+run_safe h (Defers n ∷ steps) r i = run_safe (goes h (Defers n)) steps r (step_safe h (Defers n) tt i)
 run_safe h (Wants n pages ∷ steps) r i = run_safe (goes h (Wants n pages)) steps r (step_safe h (Wants n pages) tt i)
 run_safe h (Targets n ∷ steps) r i = run_safe (goes h (Targets n)) steps r (step_safe h (Targets n) tt i)
 run_safe h (Sends n ∷ steps) r i = run_safe (goes h (Sends n)) steps r (step_safe h (Sends n) tt i)
@@ -258,6 +268,7 @@ draft_stays h (Hears n k) = refl
 draft_stays h (Grants n) = either (λ (x : Host). x.overdraft ≡ h.overdraft) (may_grant (lending h) n) _ _ (λ _. refl) (λ _. refl)
 draft_stays h (Overdraws n) = either (λ (x : Host). x.overdraft ≡ h.overdraft) (may_overdraw (lending h) n) _ _ (λ _. refl) (λ _. refl)
 draft_stays h (Prefers n) = refl
+draft_stays h (Defers n) = refl
 draft_stays h (Wants n pages) = refl
 draft_stays h (Targets n) = refl
 draft_stays h (Sends n) = refl

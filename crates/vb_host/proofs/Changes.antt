@@ -3,7 +3,7 @@ use Rattle.std.proofs.Common.{◌≡◌, ℕ, ◌+◌, ◌-◌, ◌<◌, ◌≤�
 use Rattle.std.proofs.lemmas.Bool.Decides.{nat_tests}
 use Rattle.vb_host.specs.declared.report.Report.{Report}
 use Rattle.vb_host.specs.declared.seat.Seat.{Seat}
-use Rattle.vb_host.specs.Seats.{believed, counting, covers, granting, heard, is_stale, noting, preferring, raised, served, targeted, uncounting}
+use Rattle.vb_host.specs.Seats.{believed, counting, covers, deferring, granting, heard, is_stale, may_defer, noting, preferring, raised, served, targeted, uncounting}
 use Rattle.vb_host.specs.System.{Grant, Order, Process, Target}
 use Rattle.vb_host.proofs.Sound.{IsKnown, IsPast, IsPastTarget, IsSent, and_left, and_right, believes, either, eq_false, eq_true, lt_false, lt_true, or_either}
 use Rattle.vb_host.proofs.Sound.{queues}
@@ -94,9 +94,9 @@ counts_known p s r l x k h u = let n = h.memory in either (λ (t : Seat). IsKnow
     notes_known p s r.ballooned r.held r k x n.removed (n.later m) (λ f. absurd (omega (arith, n.deflates, m, f))) (λ _. m) n.deflates (λ _ f. n.held f) u)
 
 -- targets and what was granted stay
-turn_sent : (p : Process) (s : Seat) (turn : ℕ) (o : Order) → IsSent p s o → IsSent p (record s { turn = turn }) o
-turn_sent p s turn (Target number target) h = h
-turn_sent p s turn (Grant n) h = h
+turn_sent : (p : Process) (s : Seat) (turn deferred : ℕ) (o : Order) → IsSent p s o → IsSent p (record s { turn = turn; deferred = deferred }) o
+turn_sent p s turn deferred (Target number target) h = h
+turn_sent p s turn deferred (Grant n) h = h
 
 notes_sent : (p : Process) (s : Seat) (ballooned held : ℕ) (r : Report) (o : Order) → IsSent p s o → IsSent p (noting ballooned held r s) o
 notes_sent p s ballooned held r (Target number target) h = h
@@ -168,8 +168,11 @@ raises_follow p s r h k = either (λ (x : Seat). Follows p s x) ((r.target_numbe
     record { known = raises_known p s r e f h k; sent = λ o. raises_sent p s r o e h.number; past = λ q i. i })
     (λ _. follows_same p s k)
 
-pub turn_follows : (p : Process) (s : Seat) (turn : ℕ) → IsKnown p s → Follows p s (record s { turn = turn })
-turn_follows p s turn k = record { known = record { memory = k.memory; targets = k.targets; empty = k.empty }; sent = λ o h. turn_sent p s turn o h; past = λ q h. h }
+pub turn_follows : (p : Process) (s : Seat) (turn deferred : ℕ) → IsKnown p s → Follows p s (record s { turn = turn; deferred = deferred })
+turn_follows p s turn deferred k = record { known = record { memory = k.memory; targets = k.targets; empty = k.empty }; sent = λ o h. turn_sent p s turn deferred o h; past = λ q h. h }
+
+pub defers_follow : (p : Process) (s : Seat) (turn : ℕ) → IsKnown p s → Follows p s (deferring turn s)
+defers_follow p s turn k = either (λ (x : Seat). Follows p s x) (may_defer s) _ _ (λ _. turn_follows p s turn 1 k) (λ _. follows_same p s k)
 
 -- a report that isn't stale
 pub is_fresh : (r : Report) (s : Seat) → s.granted ≤ r.deflates → s.removed ≤ r.removed → is_stale r s ≡ true → ⊥
@@ -189,7 +192,7 @@ hears_follow p s turn r k h = either (λ (x : Seat). Follows p s x) (is_stale r 
     let d = serves_follow p (counting q s) c.known in
     let e = raises_follow p (served (counting q s)) r h.targets d.known in
     let f = queues (λ (x : Seat). Follows p (raised r (served (counting q s))) x) turn s (raised r (served (counting q s)))
-    (follows_same p (raised r (served (counting q s))) e.known) (λ t. turn_follows p (raised r (served (counting q s))) t e.known) in
+    (follows_same p (raised r (served (counting q s))) e.known) (λ t. turn_follows p (raised r (served (counting q s))) t 0 e.known) in
     follows_then p s (counting q s) _ c (follows_then p (counting q s) (served (counting q s)) _ d (follows_then p (served (counting q s)) (raised r (served (counting q s))) _ e f)))
 
 -- ---- a target

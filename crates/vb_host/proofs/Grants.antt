@@ -193,14 +193,14 @@ turns_rise xs n = elim (last_or (last_turn xs) (nat_lt (last_turn xs) 1844674407
   | inr end ↦ inr end
 ]
 
-ranks_within : (xs : List Seat) (n : ℕ) → rank_at xs n ≤ 18446744073709551617 * line_at xs n + (turn_at xs n + 1)
+pub ranks_within : (xs : List Seat) (n : ℕ) → rank_at xs n ≤ 18446744073709551617 * line_at xs n + (turn_at xs n + 1)
 ranks_within [] n = omega arith
 ranks_within (x ∷ xs) zero = within_by (line_rank x) (place_in_line x) x.turn (place_within x) where
   within_by : (a p t : ℕ) → p ≤ t + 1 → 18446744073709551617 * a + p ≤ 18446744073709551617 * a + (t + 1)
   within_by a p t l = omega (arith, l)
 ranks_within (x ∷ xs) (suc n) = ranks_within xs n
 
-queued_place : (turn : ℕ) (s : Seat) → s.preferred ≡ 0 → waits s ≡ true → place_in_line (queued turn s) ≡ turn + 1
+pub queued_place : (turn : ℕ) (s : Seat) → s.preferred ≡ 0 → waits s ≡ true → place_in_line (queued turn s) ≡ turn + 1
 queued_place turn s e w = turn_place (queued turn s) e ∙ ap (λ (k : ℕ). k + 1) (taken (waits s) turn w) where
   taken : (b : Bool) (turn : ℕ) → b ≡ true → (if b then turn else 0) ≡ turn
   taken true turn e = refl
@@ -209,10 +209,10 @@ queued_place turn s e w = turn_place (queued turn s) e ∙ ap (λ (k : ℕ). k +
 after_by : (a b r t turn p : ℕ) → r ≤ 18446744073709551617 * a + (t + 1) → a ≡ b → t < turn → p ≡ turn + 1 → r < 18446744073709551617 * b + p
 after_by a b r t turn p l e h f = omega (arith, l, e, h, f)
 
-pub comes_last : (xs : List Seat) (n : ℕ) (s : Seat) → s.preferred ≡ 0 → waits s ≡ true → line_at xs n ≡ line_rank s
+pub comes_last : (xs : List Seat) (n : ℕ) (s : Seat) → s.preferred ≡ 0 → waits s ≡ true → line_at xs n ≡ line_rank (queued (next_turn xs) s)
     → (rank_at xs n < rank (queued (next_turn xs) s)) ⊎ (next_turn xs ≡ 18446744073709551615)
 comes_last xs n s e w h = elim (turns_rise xs n) [
-  | inl less ↦ inl (after_by (line_at xs n) (line_rank s) (rank_at xs n) (turn_at xs n) (next_turn xs) (place_in_line (queued (next_turn xs) s)) (ranks_within xs n) h less (queued_place (next_turn xs) s e w))
+  | inl less ↦ inl (after_by (line_at xs n) (line_rank (queued (next_turn xs) s)) (rank_at xs n) (turn_at xs n) (next_turn xs) (place_in_line (queued (next_turn xs) s)) (ranks_within xs n) h less (queued_place (next_turn xs) s e w))
   | inr end ↦ inr end
 ]
 

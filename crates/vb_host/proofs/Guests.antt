@@ -4,11 +4,11 @@ use Rattle.std.proofs.lemmas.Bool.Decides.{nat_tests}
 use Rattle.std.specs.List.{AllByRecursion}
 use Rattle.vb_host.specs.declared.report.Report.{Report}
 use Rattle.vb_host.specs.declared.seat.Seat.{Seat}
-use Rattle.vb_host.specs.Seats.{reclaimed, lent, possible_target, preferring, taking_over, waits, granting, taken_over, uncounting, retargeted}
+use Rattle.vb_host.specs.Seats.{deferring, reclaimed, lent, possible_target, preferring, taking_over, waits, granting, taken_over, uncounting, retargeted}
 use Rattle.vb_host.specs.System.{Process, snapshot, Order, Target, Grant, Deed, does, Guest, arriving, taken_up, forgotten, obeying, order_at}
 use Rattle.vb_host.specs.System.{hearing, report_at, view, viewed, changed, by_lender, sending, Limit, joined, may_join}
 use Rattle.vb_host.proofs.Changes.{Follows, follows_same, grants_follow, hears_follow, sends_grant, sends_target, targets_follow, uncounts_follow}
-use Rattle.vb_host.proofs.Changes.{prefers_follow, turn_follows, wants_follow}
+use Rattle.vb_host.proofs.Changes.{defers_follow, prefers_follow, turn_follows, wants_follow}
 use Rattle.vb_host.proofs.Processes.{Moves, does_moves, obeys_moves, reports_now, moves_same}
 use Rattle.vb_host.proofs.Sound.{IsKnown, IsPast, IsSent, IsSound, all_of, either, lt_false, and_left, and_right, eq_true, lt_true}
 
@@ -68,7 +68,7 @@ takes_over_held p s k = either (λ (n : ℕ). IsKnown p (taking_over n p.pages (
 
 pub taken_true : (turn : ℕ) (g : Guest) → IsSound g → IsSound (taken_up turn g)
 taken_true turn g h =
-    let k = (turn_follows g.process (taken_over g.process.pages (snapshot g.process)) _ (takes_over_held g.process g.seat h.known)).known in
+    let k = (turn_follows g.process (taken_over g.process.pages (snapshot g.process)) _ 0 (takes_over_held g.process g.seat h.known)).known in
     record { known = k; orders = tt; reports = (reports_now (taken_up turn g).seat g.process k, tt) }
 
 -- and it is lent no more
@@ -138,6 +138,9 @@ want_true pages g h = lender_true (λ s. record s { wanted = pages }) g (λ _. w
 
 pub prefer_true : (preferred : ℕ) (g : Guest) → IsSound g → IsSound (by_lender (preferring preferred) g)
 prefer_true preferred g h = lender_true (preferring preferred) g (λ _. prefers_follow g.process g.seat preferred h.known) h
+
+pub defer_true : (turn : ℕ) (g : Guest) → IsSound g → IsSound (by_lender (deferring turn) g)
+defer_true turn g h = lender_true (deferring turn) g (λ _. defers_follow g.process g.seat turn h.known) h
 
 pub uncount_true : (g : Guest) → IsSound g → IsSound (by_lender uncounting g)
 uncount_true g h = lender_true uncounting g (λ _. uncounts_follow g.process g.seat h.known) h

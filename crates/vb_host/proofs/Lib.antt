@@ -15,6 +15,8 @@ pub mod Targeting
 pub mod Passing
 pub mod Uncounted
 pub mod Preferring
+pub mod Deferring
+pub mod Ordered
 pub mod Settling
 pub mod Possible
 pub mod Outcome
@@ -26,3 +28,4 @@ mod SeatFacts
 mod SystemFacts
 mod RunFacts
 mod RoundFacts
+mod PatienceFacts

@@ -9,7 +9,7 @@ use Rattle.vb_host.specs.Seats.{lent, preferring}
 use Rattle.vb_host.specs.System.{Process, Order, Target, Grant, obeys, Deed, Gives, Holds, Drops, Reads, does, obeying, order_at, Guest, Host, Limit}
 use Rattle.vb_host.specs.System.{seats, lending, arriving, taken_up, forgotten, opened, goes, through, sending, limiting, writes, lands, confirms}
 use Rattle.vb_host.specs.System.{fails, joined, may_join, joining, Step, Does, Reports, Obeys, Hears, Grants, Overdraws, Wants, Sends, Limits, Lands}
-use Rattle.vb_host.specs.System.{Confirms, Fails, Uncounts, Arrives, Joins, TakesOver, Forgets, Budget, Shrinks, may_shrink, Prefers, Targets, Deviates, by_lender}
+use Rattle.vb_host.specs.System.{Confirms, Fails, Uncounts, Arrives, Joins, TakesOver, Forgets, Budget, Shrinks, may_shrink, Prefers, Defers, Targets, Deviates, by_lender}
 use Rattle.vb_host.proofs.Budget.{prefers_true, step_true, opened_safe}
 use Rattle.vb_host.proofs.Lists.{all_map, all_get, all_at}
 use Rattle.vb_host.proofs.Processes.{IsLeft, shrink_facts}
@@ -254,6 +254,7 @@ step_limited h (Grants n) t a = either_limited (may_grant (lending h) n) h _ (at
 step_limited h (Overdraws n) t a = either_limited (may_overdraw (lending h) n) h _ (at_limited n _ h.guests (λ g e. e) (λ g _ i. seat_limited g _ i) t a) a
 step_limited h (Prefers n) t a = at_limited n _ (map (by_lender (preferring 0)) h.guests) (λ g e. e) (λ g _ i. seat_limited g _ i) (prefers_true h t)
     (all_map IsBounded (by_lender (preferring 0)) h.guests (λ g i e. seat_limited g _ (i e)) a)
+step_limited h (Defers n) t a = at_limited n _ h.guests (λ g e. e) (λ g _ i. seat_limited g _ i) t a
 step_limited h (Wants n pages) t a = at_limited n _ h.guests (λ g e. e) (λ g _ i. seat_limited g _ i) t a
 step_limited h (Targets n) t a = at_limited n _ h.guests (λ g e. e) (λ g _ i. seat_limited g _ i) t a
 step_limited h (Sends n) t a = at_limited n _ h.guests (λ g e. e) send_limited t a

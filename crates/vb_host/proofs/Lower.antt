@@ -7,9 +7,9 @@ use Rattle.vb_host.specs.Promises.{all_used, all_lent, IsOrdinary, PaysBack}
 use Rattle.vb_host.specs.Seats.{covers}
 use Rattle.vb_host.specs.System.{Guest, Host, seats, lending, arriving, taken_up, forgotten, opened, goes, through, Step, Does, Reports, Obeys, Hears}
 use Rattle.vb_host.specs.System.{Grants, Overdraws, Wants, Sends, Limits, Lands, Confirms, Fails, Uncounts, Arrives, Joins, TakesOver, Forgets}
-use Rattle.vb_host.specs.System.{Budget, Prefers, Targets, Deviates}
+use Rattle.vb_host.specs.System.{Budget, Prefers, Defers, Targets, Deviates}
 use Rattle.vb_host.proofs.Budget.{most, lets, viewed_covers, turn_owes, draws_first, overdraw_room, hears_no_more, step_true, opened_safe, run_true}
-use Rattle.vb_host.proofs.Budget.{uses_lent, joins_lend, joins_same, target_owes, prefers_lend, wants_no_more, takes_no_more}
+use Rattle.vb_host.proofs.Budget.{uses_lent, joins_lend, joins_same, target_owes, prefers_lend, defers_no_more, wants_no_more, takes_no_more}
 use Rattle.vb_host.proofs.Lists.{lent_all, lends_at, lent_map, lent_where, its_lent}
 use Rattle.vb_host.proofs.Sound.{and_left, and_right, or_either, IsTrusty}
 
@@ -44,6 +44,7 @@ step_lends limit h (Grants n) l r a = either_lent (max limit (lent_all h.guests)
 step_lends limit h (Overdraws n) l r a = either_lent (max limit (lent_all h.guests)) (may_overdraw (lending h) n) h _
     (λ e. omega (arith, r, turn_owes h n (most h) (draws_first h n e) (overdraw_room h n e))) (omega arith)
 step_lends limit h (Prefers n) l r a = omega (arith, prefers_lend h n a)
+step_lends limit h (Defers n) l r a = at_most limit h n _ (defers_no_more (next_turn (seats h.guests))) a
 step_lends limit h (Wants n pages) l r a = at_most limit h n _ (wants_no_more pages) a
 step_lends limit h (Targets n) l r a = target_owes limit h n (room (lending h)) l refl a
 step_lends limit h (Sends n) l r a = at_most limit h n _ (λ g _. omega arith) a
@@ -72,6 +73,7 @@ budget_stays limit h (Hears n k) r = (refl, refl)
 budget_stays limit h (Grants n) r = same_of (may_grant (lending h) n) h _ (refl, refl)
 budget_stays limit h (Overdraws n) r = same_of (may_overdraw (lending h) n) h _ (refl, refl)
 budget_stays limit h (Prefers n) r = (refl, refl)
+budget_stays limit h (Defers n) r = (refl, refl)
 budget_stays limit h (Wants n pages) r = (refl, refl)
 budget_stays limit h (Targets n) r = (refl, refl)
 budget_stays limit h (Sends n) r = (refl, refl)
@@ -97,6 +99,7 @@ ordinary_limits h (Obeys n k) o = tt
 ordinary_limits h (Hears n k) o = tt
 ordinary_limits h (Grants n) o = tt
 ordinary_limits h (Prefers n) o = tt
+ordinary_limits h (Defers n) o = tt
 ordinary_limits h (Wants n pages) o = tt
 ordinary_limits h (Targets n) o = tt
 ordinary_limits h (Sends n) o = tt
@@ -120,6 +123,7 @@ paying_limits h (Obeys n k) o = tt
 paying_limits h (Hears n k) o = tt
 paying_limits h (Grants n) o = tt
 paying_limits h (Prefers n) o = tt
+paying_limits h (Defers n) o = tt
 paying_limits h (Wants n pages) o = tt
 paying_limits h (Targets n) o = tt
 paying_limits h (Sends n) o = tt

@@ -2,13 +2,13 @@
 use Rattle.std.proofs.Common.{◌≡◌, ◌≢◌, ℕ, zero, suc, ◌-◌, ◌<◌, ◌≤◌, inl, inr, Bool, true, false, ◌==◌, List, [], ◌∷◌, ◌&&◌, nat_lt, map, sum_by, if◌then◌else◌, min, refl, subst, sym, ap, ◌∙◌, arith}
 use Rattle.std.proofs.lemmas.List.Sums.{sum_by-cons}
 use Rattle.vb_host.specs.declared.event.Event.{Event}
-use Rattle.vb_host.specs.declared.event.Event.TheVariants.{Hears, Grants, Overdraws, Wants, Targets, Arrives, Joins, TakesOver, Uncounts, Budget, Prefers}
+use Rattle.vb_host.specs.declared.event.Event.TheVariants.{Hears, Grants, Overdraws, Wants, Targets, Arrives, Joins, TakesOver, Uncounts, Budget, Prefers, Defers}
 use Rattle.vb_host.specs.declared.seat.Seat.{Seat}
 use Rattle.vb_host.specs.Lending.{Lending, all_targeted, each_at, happens, held_at, may_grant, may_join_at, next_turn, pages_at, room, test_at}
 use Rattle.vb_host.specs.Lending.{lent_at, value_at, waited}
 use Rattle.vb_host.specs.Line.{ByGrants, Granted, GrantsNone, IsFirst, IsStep, Stays}
-use Rattle.vb_host.specs.Seats.{asked, covers, granting, grown, heard, lent, newcomer, possible_target, queued, rank, reclaimed, retargeted}
-use Rattle.vb_host.specs.Seats.{preferring, room_after, taken_over, uncounting, waits, starting}
+use Rattle.vb_host.specs.Seats.{asked, covers, granting, grown, heard, lent, may_defer, newcomer, possible_target, queued, rank, reclaimed, retargeted}
+use Rattle.vb_host.specs.Seats.{deferring, preferring, room_after, taken_over, uncounting, waits, starting}
 use Rattle.vb_host.specs.Turns.{IsAfter, IsNoLoan}
 use Rattle.vb_host.proofs.Changes.{covers_waits}
 use Rattle.vb_host.proofs.Grants.{in_turn, next_may}
@@ -187,6 +187,8 @@ events_lend l (Joins n m) j h = either (λ (xs : List Seat). lent_at xs j ≤ le
 events_lend l (TakesOver n pages r) j h = omega (arith, value_elsewhere lent n (λ _. queued (next_turn l.seats) (taken_over pages r)) l.seats j h)
 events_lend l (Uncounts n) j h = omega (arith, value_elsewhere lent n uncounting l.seats j h)
 events_lend l (Budget frames) j h = omega arith
+events_lend l (Defers n) j h = value_less lent n (deferring (next_turn l.seats)) l.seats j
+    (λ s. either (λ (x : Seat). lent x ≤ lent s) (may_defer s) _ _ (λ _. omega arith) (λ _. omega arith))
 events_lend l (Prefers n) j h = omega (arith, value_same lent n (preferring 1) (map (preferring 0) l.seats) j (λ _. refl), value_map lent (preferring 0) l.seats j (λ _. refl))
 
 -- ---- a step leaves nothing to grant

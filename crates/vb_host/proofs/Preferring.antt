@@ -1,7 +1,7 @@
 -- Of all guests one is preferred, and while it waits, none that comes after it in its line is lent more.
 use Rattle.std.proofs.Common.{◌≡◌, ℕ, zero, suc, ◌+◌, ◌*◌, ◌<◌, ◌≤◌, inl, Bool, true, false, ◌==◌, ◌&&◌, if◌then◌else◌, List, [], ◌∷◌, length, map, refl, subst, sym, ap, ◌∙◌, arith}
 use Rattle.vb_host.specs.declared.event.Event.{Event}
-use Rattle.vb_host.specs.declared.event.Event.TheVariants.{Hears, Grants, Overdraws, Wants, Targets, Arrives, Joins, TakesOver, Uncounts, Budget, Prefers}
+use Rattle.vb_host.specs.declared.event.Event.TheVariants.{Hears, Grants, Overdraws, Wants, Targets, Arrives, Joins, TakesOver, Uncounts, Budget, Prefers, Defers}
 use Rattle.vb_host.specs.declared.report.Report.{Report}
 use Rattle.vb_host.specs.declared.seat.Seat.{Seat}
 use Rattle.vb_host.specs.Lending.{Lending, each_at, happens, held_at, lent_at, line_at, may_grant, may_join_at, may_overdraw, next_turn, pages_at}
@@ -9,7 +9,7 @@ use Rattle.vb_host.specs.Lending.{preferred_at, rank_at, room}
 use Rattle.vb_host.specs.Line.{IsFirst, IsStep}
 use Rattle.vb_host.specs.Promises.{IsStillThere}
 use Rattle.vb_host.specs.Seats.{believed, counting, covers, granting, grown, heard, is_stale, lent, line_rank, newcomer, place_in_line, preferring, queued}
-use Rattle.vb_host.specs.Seats.{raised, retargeted, served, starting, taken_over, uncounting}
+use Rattle.vb_host.specs.Seats.{deferring, may_defer, raised, retargeted, served, starting, taken_over, uncounting}
 use Rattle.vb_host.specs.Turns.{IsAfter, IsBefore, IsNoPreference}
 use Rattle.vb_host.proofs.Grants.{draw_waits, grant_not}
 use Rattle.vb_host.proofs.LentBy.{retargets}
@@ -71,16 +71,16 @@ becomes_preferred l n h = by_place n l.seats h where
 
 -- ---- it stays so
 
-counts_preferred : (r : Report) (s : Seat) → (counting r s).preferred ≡ s.preferred
+pub counts_preferred : (r : Report) (s : Seat) → (counting r s).preferred ≡ s.preferred
 counts_preferred r s = either (λ (x : Seat). x.preferred ≡ s.preferred) (r.deflates == s.granted) _ _ (λ _. refl) (λ _. refl)
 
-serves_preferred : (s : Seat) → (served s).preferred ≡ s.preferred
+pub serves_preferred : (s : Seat) → (served s).preferred ≡ s.preferred
 serves_preferred s = either (λ (x : Seat). x.preferred ≡ s.preferred) (covers s) _ _ (λ _. refl) (λ _. refl)
 
-raises_preferred : (r : Report) (s : Seat) → (raised r s).preferred ≡ s.preferred
+pub raises_preferred : (r : Report) (s : Seat) → (raised r s).preferred ≡ s.preferred
 raises_preferred r s = either (λ (x : Seat). x.preferred ≡ s.preferred) ((r.target_number == s.target_number) && (r.read_target == s.target)) _ _ (λ _. refl) (λ _. refl)
 
-hears_preferred : (turn : ℕ) (r : Report) (s : Seat) → (heard turn r s).preferred ≡ s.preferred
+pub hears_preferred : (turn : ℕ) (r : Report) (s : Seat) → (heard turn r s).preferred ≡ s.preferred
 hears_preferred turn r s = either (λ (x : Seat). x.preferred ≡ s.preferred) (is_stale r s) _ _ (λ _. refl)
     (λ _. let q = believed s r in let e = raises_preferred r (served (counting q s)) ∙ (serves_preferred (counting q s) ∙ counts_preferred q s) in
     queues (λ (x : Seat). x.preferred ≡ s.preferred) turn s (raised r (served (counting q s))) e (λ _. e))
@@ -103,6 +103,8 @@ stays_preferred l (TakesOver n pages r) i p h = value_elsewhere its_preferred n 
 stays_preferred l (Uncounts n) i p h = value_same its_preferred n uncounting l.seats i (λ _. refl)
 stays_preferred l (Budget frames) i p h = refl
 stays_preferred l (Prefers n) i p h = absurd p
+stays_preferred l (Defers n) i p h = value_same its_preferred n (deferring (next_turn l.seats)) l.seats i
+    (λ s. either (λ (x : Seat). x.preferred ≡ s.preferred) (may_defer s) _ _ (λ _. refl) (λ _. refl))
 
 -- ---- it comes first in its line
 

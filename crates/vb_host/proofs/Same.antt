@@ -6,7 +6,7 @@ use Rattle.vb_host.specs.declared.report.Report.{Report}
 use Rattle.vb_host.specs.declared.seat.Seat.{Seat}
 use Rattle.vb_host.specs.Lending.{value_at, pages_at, each_at, may_grant, may_overdraw, next_turn, preferring_at, room}
 use Rattle.vb_host.specs.Promises.{IsTheLender, IsKnownAt}
-use Rattle.vb_host.specs.Seats.{reclaimed, grown, granting, heard, newcomer, preferring, taken_over, uncounting, queued, retargeted, starting}
+use Rattle.vb_host.specs.Seats.{deferring, reclaimed, grown, granting, heard, newcomer, preferring, taken_over, uncounting, queued, retargeted, starting}
 use Rattle.vb_host.specs.System.{Guest, Host, seats, lending, view, viewed, changed, by_lender, arriving, taken_up, snapshot, hearing, report_at}
 use Rattle.vb_host.specs.System.{joined, may_join, joining}
 use Rattle.vb_host.proofs.Lists.{some_is}
@@ -110,6 +110,7 @@ is_the_lender h n m = record {
   grants = λ k. either_lends (may_grant (lending h) n) h _ _ refl refl (lender_at h n granting k);
   overdraws = λ k. either_lends (may_overdraw (lending h) n) h _ _ refl refl (lender_at h n granting k);
   prefers = λ k. with_seats h _ _ (prefers_seats h n k);
+  defers = λ k. with_seats h _ _ (lender_at h n (deferring (next_turn (seats h.guests))) k);
   wants = λ k pages. with_seats h _ _ (lender_at h n (λ s. record s { wanted = pages }) k);
   targets = λ k. with_seats h _ _ (lender_at h n (retargeted (room (lending h))) k);
   uncounts = λ k. with_seats h _ _ (lender_at h n uncounting k);

@@ -29,6 +29,7 @@ seat ballooned least told number = record {
   turn = 0;
   uncounted = 0;
   preferred = 0;
+  deferred = 0;
 }
 
 -- what its process reports: its balloon, the target that was read and the number of the last one, and a deflate

@@ -104,7 +104,7 @@ either P true t s h k = h refl
 either P false t s h k = k refl
 
 -- what a turn leaves as it is
-pub queues : (P : Seat → Type 0) (turn : ℕ) (old s : Seat) → P s → ((t : ℕ) → P (record s { turn = t })) → P (queuing turn old s)
+pub queues : (P : Seat → Type 0) (turn : ℕ) (old s : Seat) → P s → ((t : ℕ) → P (record s { turn = t; deferred = 0 })) → P (queuing turn old s)
 queues P turn old s h k = either P (keeps_turn old s) _ _ (λ _. h) (λ _. k (if waits s then turn else 0))
 
 -- what a report shows

@@ -2,14 +2,14 @@
 use Rattle.std.proofs.Common.{◌≡◌, ◌≢◌, ℕ, zero, suc, ◌<◌, Bool, true, false, ◌&&◌, ◌==◌, nat_lt, if◌then◌else◌, List, [], ◌∷◌, length, map, refl, subst, sym, ap, arith}
 use Rattle.std.proofs.lemmas.Bool.Decides.{nat_tests}
 use Rattle.vb_host.specs.declared.event.Event.{Event}
-use Rattle.vb_host.specs.declared.event.Event.TheVariants.{Hears, Grants, Overdraws, Wants, Targets, Arrives, Joins, TakesOver, Uncounts, Budget, Prefers}
+use Rattle.vb_host.specs.declared.event.Event.TheVariants.{Hears, Grants, Overdraws, Wants, Targets, Arrives, Joins, TakesOver, Uncounts, Budget, Prefers, Defers}
 use Rattle.vb_host.specs.declared.report.Report.{Report}
 use Rattle.vb_host.specs.declared.seat.Seat.{Seat}
 use Rattle.vb_host.specs.Lending.{Lending, all_targeted, each_at, happens, held_at, may_grant, may_join_at, may_overdraw, next_turn, pages_at, room}
 use Rattle.vb_host.specs.Lending.{lent_at, test_at}
 use Rattle.vb_host.specs.Line.{ByGrants, Granted, IsStep, Stays}
 use Rattle.vb_host.specs.Promises.{IsStillThere, counts_nothing}
-use Rattle.vb_host.specs.Seats.{believed, counting, covers, granting, grown, heard, is_stale, is_uncounted, newcomer, preferring, queued}
+use Rattle.vb_host.specs.Seats.{believed, counting, covers, deferring, granting, grown, heard, is_stale, may_defer, is_uncounted, newcomer, preferring, queued}
 use Rattle.vb_host.specs.Seats.{raised, retargeted, room_after, served, starting, taken_over, uncounting, waits}
 use Rattle.vb_host.proofs.LentBy.{retargets}
 use Rattle.vb_host.proofs.Passing.{step_settles}
@@ -101,6 +101,8 @@ stays_uncounted l (Joins i m) n h e = either_kept (may_join_at l.seats i m) n l.
 stays_uncounted l (TakesOver i pages r) n h e = kept_elsewhere counts_nothing i n (λ _. queued (next_turn l.seats) (taken_over pages r)) l.seats h e
 stays_uncounted l (Uncounts i) n h e = kept_at counts_nothing i n uncounting l.seats (λ s f. refl) e
 stays_uncounted l (Budget frames) n h e = e
+stays_uncounted l (Defers i) n h e = kept_at counts_nothing i n (deferring (next_turn l.seats)) l.seats
+    (λ s f. either (λ (x : Seat). counts_nothing x ≡ true) (may_defer s) _ _ (λ _. f) (λ _. f)) e
 stays_uncounted l (Prefers i) n h e = kept_at counts_nothing i n (preferring 1) (map (preferring 0) l.seats) (λ s f. f) (kept_map (preferring 0) n l.seats (λ s f. f) e) where
   kept_map : (f : Seat → Seat) (n : ℕ) (xs : List Seat) → ((s : Seat) → counts_nothing s ≡ true → counts_nothing (f s) ≡ true) → test_at counts_nothing xs n ≡ true
       → test_at counts_nothing (map f xs) n ≡ true

@@ -6,11 +6,11 @@ use Rattle.std.specs.List.{list_all}
 use Rattle.vb_host.specs.declared.event.Event.{Event}
 use Rattle.vb_host.specs.declared.event.Event.TheVariants.{Hears, Grants, Overdraws, Wants, Targets}
 use Rattle.vb_host.specs.declared.event.Event.TheVariants.{Arrives, Joins, TakesOver, Uncounts}
-use Rattle.vb_host.specs.declared.event.Event.TheVariants.{Budget, Prefers}
+use Rattle.vb_host.specs.declared.event.Event.TheVariants.{Budget, Prefers, Defers}
 use Rattle.vb_host.specs.declared.seat.Seat.{Seat}
 use Rattle.vb_host.specs.Seats.{reclaimed, grown, lent, asked, waits, covers, granting, heard}
 use Rattle.vb_host.specs.Seats.{is_done, newcomer, taken_over, uncounting, queued, rank, retargeted}
-use Rattle.vb_host.specs.Seats.{room_after, starting, line_rank, preferring}
+use Rattle.vb_host.specs.Seats.{room_after, starting, line_rank, preferring, deferring}
 
 -- How many frames a host has to lend; how many beyond them, where the guests can't go on otherwise;
 -- and what its lender knows of each guest.
@@ -143,6 +143,7 @@ happens l (TakesOver n pages r) =
 happens l (Uncounts n) = record l { seats = each_at n uncounting l.seats }
 happens l (Budget frames) = record l { frames = frames }
 happens l (Prefers n) = record l { seats = preferring_at n l.seats }
+happens l (Defers n) = record l { seats = each_at n (deferring (next_turn l.seats)) l.seats }
 
 -- ---- all targets, in the order of the places, with the room that those before leave
 

@@ -15,6 +15,7 @@ use Rattle.vb_host.specs.declared.event.Event.TheVariants.{Joins as EventJoins}
 use Rattle.vb_host.specs.declared.event.Event.TheVariants.{Uncounts as EventUncounts}
 use Rattle.vb_host.specs.declared.event.Event.TheVariants.{Budget as EventBudget}
 use Rattle.vb_host.specs.declared.event.Event.TheVariants.{Prefers as EventPrefers}
+use Rattle.vb_host.specs.declared.event.Event.TheVariants.{Defers as EventDefers}
 use Rattle.vb_host.specs.declared.report.Report.{Report}
 use Rattle.vb_host.specs.declared.seat.Seat.{Seat}
 use Rattle.vb_host.specs.Lending.{pages_at, test_at, Lending, owed, lent_at}
@@ -26,6 +27,7 @@ use Rattle.vb_host.specs.Seats.{is_uncounted}
 use Rattle.vb_host.specs.System.{Process, Guest, Host, Step, Hears, Grants, Overdraws, Wants}
 use Rattle.vb_host.specs.System.{Uncounts, Arrives, Joins, TakesOver, seats, Budget, snapshot}
 use Rattle.vb_host.specs.System.{through, opened, lending, goes, report_at, Targets, Prefers}
+use Rattle.vb_host.specs.System.{Defers}
 
 -- ---- 1. the budget
 
@@ -293,6 +295,8 @@ pub record IsTheLender (h : Host) (n m : ℕ) : Type 0 where
       → lending (goes h (Overdraws n)) ≡ happens (lending h) (EventOverdraws n)
   pub prefers : IsKnownAt h n
       → lending (goes h (Prefers n)) ≡ happens (lending h) (EventPrefers n)
+  pub defers : IsKnownAt h n
+      → lending (goes h (Defers n)) ≡ happens (lending h) (EventDefers n)
   pub wants : IsKnownAt h n → (pages : ℕ)
       → lending (goes h (Wants n pages)) ≡ happens (lending h) (EventWants n pages)
   pub targets : IsKnownAt h n

@@ -31,8 +31,16 @@ line_number Arrivals = 2
 abbrev pub line_of : ℕ → WaitingLine
 line_of number = if number == 0 then Deflates else if number == 1 then Resets else Arrivals
 
+-- it lets others pass, as long as this wait lasts
+abbrev pub is_deferred : Seat → Bool
+is_deferred s = nat_lt 0 s.deferred
+
+-- The line in which it waits: the last one while it lets others pass.
+abbrev pub waiting_line : Seat → WaitingLine
+waiting_line s = if is_deferred s then Arrivals else line_of s.line
+
 abbrev pub line_rank : Seat → ℕ
-line_rank s = line_number (line_of s.line)
+line_rank s = line_number (waiting_line s)
 
 -- it comes before all others of its line
 abbrev pub is_preferred : Seat → Bool
@@ -60,7 +68,13 @@ waits s = nat_lt 0 s.held
 -- It is granted: its pages count as if they had left the balloon.
 abbrev pub granting : Seat → Seat
 granting s =
-    record s { ballooned = s.ballooned - s.held; granted = s.deflates; held = 0; turn = 0 }
+    record s {
+      ballooned = s.ballooned - s.held;
+      granted = s.deflates;
+      held = 0;
+      turn = 0;
+      deferred = 0;
+    }
 
 -- what a grant would lend beyond what is lent
 abbrev pub asked : Seat → ℕ
@@ -112,9 +126,9 @@ raised r s =
     else s
 
 -- It waits from now on, with this turn. A turn is for one deflate in one line: while that waits,
--- the guest keeps its turn.
+-- the guest keeps its turn, and lets others pass if it did.
 abbrev pub queued : ℕ → Seat → Seat
-queued turn s = record s { turn = if waits s then turn else 0 }
+queued turn s = record s { turn = if waits s then turn else 0; deferred = 0 }
 
 abbrev pub keeps_turn : Seat → Seat → Bool
 keeps_turn old s =
@@ -132,6 +146,16 @@ is_stale r s = nat_lt r.deflates s.granted || nat_lt r.removed s.removed
 abbrev pub heard : ℕ → Report → Seat → Seat
 heard turn r s =
     if is_stale r s then s else queuing turn s (raised r (served (counting (believed s r) s)))
+
+-- ---- a guest that lets others pass
+
+-- A guest that waits in a deflate gives no pages, so it lets nobody pass.
+abbrev pub may_defer : Seat → Bool
+may_defer s = waits s && nat_lt 0 (line_rank s)
+
+-- It waits in the last line from now on, with this turn.
+abbrev pub deferring : ℕ → Seat → Seat
+deferring turn s = if may_defer s then record s { turn = turn; deferred = 1 } else s
 
 -- ---- a target
 
@@ -196,6 +220,7 @@ newcomer pages =
       turn = 0;
       uncounted = 0;
       preferred = 0;
+      deferred = 0;
     }
 
 -- a guest that arrives with this many pages in its balloon, which stay there
@@ -222,6 +247,7 @@ taking_over granted pages r =
       turn = 0;
       uncounted = 0;
       preferred = 0;
+      deferred = 0;
     }
 
 abbrev pub taken_over : ℕ → Report → Seat

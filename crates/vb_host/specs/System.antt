@@ -6,7 +6,7 @@ use Rattle.vb_host.specs.declared.report.Report.{Report}
 use Rattle.vb_host.specs.declared.seat.Seat.{Seat}
 use Rattle.vb_host.specs.Lending.{Lending, each_at, may_grant, may_overdraw, next_turn, room}
 use Rattle.vb_host.specs.Seats.{reclaimed, lent, granting, heard, newcomer, taken_over, uncounting}
-use Rattle.vb_host.specs.Seats.{queued, preferring, retargeted, starting}
+use Rattle.vb_host.specs.Seats.{queued, preferring, deferring, retargeted, starting}
 
 -- ---- a guest and its process
 
@@ -264,11 +264,11 @@ lending h = record { frames = h.frames; overdraft = h.overdraft; seats = seats h
 -- What may happen next. To guest n: it does a deed; it isn't strict, and its process becomes any
 -- other and has sent any reports, now and at any time; its process reports; the i-th order that was
 -- ever sent to it arrives; the lender receives its i-th report, grants its deflate by turn or from
--- the overdraft, prefers it to all others, wants pages in its balloon, sets its target, sends its
--- last target and grant, asks for a write of its limit, which takes force, is confirmed or fails,
--- or counts its balloon no longer; a guest arrives in its place; the memory of guest m joins it;
--- its process connects to a later lender. To the host: a lender starts that knows nothing, and the
--- budget is set.
+-- the overdraft, prefers it to all others, has it let others pass, wants pages in its balloon, sets
+-- its target, sends its last target and grant, asks for a write of its limit, which takes force, is
+-- confirmed or fails, or counts its balloon no longer; a guest arrives in its place; the memory of
+-- guest m joins it; its process connects to a later lender. To the host: a lender starts that knows
+-- nothing, and the budget is set.
 pub data Step : Type 0 where
   Does : ℕ → Deed → Step
   Deviates : ℕ → Process → List Report → Step
@@ -278,6 +278,7 @@ pub data Step : Type 0 where
   Grants : ℕ → Step
   Overdraws : ℕ → Step
   Prefers : ℕ → Step
+  Defers : ℕ → Step
   Wants : ℕ → ℕ → Step
   Targets : ℕ → Step
   Sends : ℕ → Step
@@ -314,6 +315,7 @@ goes h (Grants n) = if may_grant (lending h) n then at n (by_lender granting) h 
 goes h (Overdraws n) = if may_overdraw (lending h) n then at n (by_lender granting) h else h
 goes h (Prefers n) =
     at n (by_lender (preferring 1)) (record h { guests = map (by_lender (preferring 0)) h.guests })
+goes h (Defers n) = at n (by_lender (deferring (next_turn (seats h.guests)))) h
 goes h (Wants n pages) = at n (by_lender (λ s. record s { wanted = pages })) h
 goes h (Targets n) = at n (by_lender (retargeted (room (lending h)))) h
 goes h (Sends n) = at n (λ g. record g { orders = sending g.known g.limit g.seat g.orders }) h

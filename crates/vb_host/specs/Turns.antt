@@ -26,7 +26,7 @@ TurnsRise =
 abbrev pub ComesLast : Type 0
 ComesLast =
     (seats : List Seat) (n : ℕ) (s : Seat) → s.preferred ≡ 0 → waits s ≡ true
-    → line_at seats n ≡ line_rank s
+    → line_at seats n ≡ line_rank (queued (next_turn seats) s)
     → (rank_at seats n < rank (queued (next_turn seats) s))
     ⊎ (next_turn seats ≡ 18446744073709551615)
 

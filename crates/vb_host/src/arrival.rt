@@ -25,6 +25,7 @@ impl Seat {
             turn: 0,
             uncounted: 0,
             preferred: 0,
+            deferred: 0,
         }
     }
 
@@ -61,6 +62,7 @@ impl Seat {
             turn: 0,
             uncounted: 0,
             preferred: 0,
+            deferred: 0,
         }
     }
 

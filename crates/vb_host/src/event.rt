@@ -63,4 +63,9 @@ pub enum Event {
     Prefers {
         guest: usize,
     },
+    /// A guest that waits in a reset or to come lets others pass: as long as this wait lasts, it is
+    /// in the last line, after all that wait there now.
+    Defers {
+        guest: usize,
+    },
 }

@@ -9,6 +9,8 @@ ghost use Rattle.vb_host.specs.Promises.{ReportsTell};
 ghost use Rattle.vb_host.specs.Turns.{GrantsInTurn, TurnsRise, ComesLast, LinesOrder, NoneIsPassed};
 ghost use Rattle.vb_host.specs.Turns.{EventsLendNothing, JustOne, IsPreferred, StaysPreferred};
 ghost use Rattle.vb_host.specs.Turns.{OneProceeds, OneProceedsBySteps};
+ghost use Rattle.vb_host.specs.Patience.{DefersNone, DefersToTheLastLine, AllPass, OthersStay};
+ghost use Rattle.vb_host.specs.Patience.{NonePasses, StaysDeferred, EndsWithItsWait};
 ghost use Rattle.vb_host.specs.Promises.{Uncounted, StaysUncounted, UncountedHasAll};
 ghost use Rattle.vb_host.specs.Rounds.{RoundsSettle, TwoRoundsSuffice};
 ghost use Rattle.vb_host.specs.System.{Host};
@@ -82,6 +84,19 @@ pub fn one_proceeds()
     ensures stays { StaysPreferred }
     ensures grants { OneProceeds }
     ensures steps { OneProceedsBySteps }
+{}
+
+/// A guest that waits in a reset or to come lets others pass: all that wait come before it then,
+/// and after that none passes it while it waits on, but for one that comes to an earlier line. It
+/// lends nothing, and changes no other guest.
+pub fn one_lets_others_pass()
+    ensures none { DefersNone }
+    ensures line { DefersToTheLastLine }
+    ensures all { AllPass }
+    ensures others { OthersStay }
+    ensures order { NonePasses }
+    ensures stays { StaysDeferred }
+    ensures ends { EndsWithItsWait }
 {}
 
 /// Once a guest's balloon counts no longer, that stays so until another guest is at its place:

@@ -1,19 +1,18 @@
 //! What happens to a lender, and its one step.
 
-ghost use Rattle.std.specs.Prelude.{◌≡◌, ℕ, ◌+◌, ◌<◌, ◌^◌, length, map, nat_lt, false};
+ghost use Rattle.std.specs.Prelude.{◌≡◌, ℕ, ◌<◌, length, false};
 ghost use Rattle.vb_host.specs.Lending.{Lending, each_at, next_turn, may_grant, may_overdraw, room};
-ghost use Rattle.vb_host.specs.Lending.{happens, may_join_at, joined_at, pages_at, value_at};
-ghost use Rattle.vb_host.specs.Lending.{all_targeted, preferring_at, test_at};
+ghost use Rattle.vb_host.specs.Lending.{happens, value_at, all_targeted, test_at};
 ghost use Rattle.vb_host.specs.Line.{IsNext, IsStep, ByGrants, GrantsNone};
 ghost use Rattle.vb_host.specs.Seats.{covers, granting, heard, retargeted, room_after, uncounting};
-ghost use Rattle.vb_host.specs.Seats.{grown, preferring};
-ghost use Rattle.vb_host.specs.Seats.{reclaimed};
 ghost use Rattle.vb_host.specs.declared.event.Event.TheVariants.{Grants, Overdraws, Targets};
 
 use crate::line::{
     first_covered, first_in_line, has_room, is_done_all, is_first, next_turn, overdraft_has_room,
     room,
 };
+use crate::memory::{join, seat_at};
+use crate::turns::{defer, prefer};
 use crate::{Event, Report, Seat};
 
 /// The guest that is granted next.
@@ -158,16 +157,6 @@ fn target_all(frames: u32, seats: &mut [Seat])
     }
 }
 
-/// A place has this seat from now on.
-#[tactic(auto, using(crate::proofs::Places::at_places))]
-fn seat_at(seats: &mut [Seat], guest: usize, seat: Seat)
-    ensures { seats.new ≡ each_at guest (λ _. seat) seats.old }
-{
-    if guest < seats.len() {
-        seats[guest] = seat;
-    }
-}
-
 /// A guest's balloon counts no longer.
 #[tactic(auto, using(crate::proofs::Places::at_places))]
 fn uncount(seats: &mut [Seat], guest: usize)
@@ -175,99 +164,6 @@ fn uncount(seats: &mut [Seat], guest: usize)
 {
     if guest < seats.len() {
         seats[guest].uncount();
-    }
-}
-
-/// No guest is preferred.
-fn prefer_none(seats: &mut [Seat])
-    ensures { seats.new ≡ map (preferring 0) seats.old }
-{
-    for guest in 0..seats.len() {
-        set_preferred(seats, guest, 0);
-    }
-}
-
-/// A guest is preferred from now on, or it isn't.
-#[tactic(auto, using(crate::proofs::Places::at_places))]
-fn set_preferred(seats: &mut [Seat], guest: usize, preferred: u32)
-    ensures { seats.new ≡ each_at guest (preferring preferred) seats.old }
-{
-    if guest < seats.len() {
-        seats[guest].prefer(preferred);
-    }
-}
-
-/// Of all guests just this one is preferred from now on.
-fn prefer(seats: &mut [Seat], guest: usize)
-    ensures { seats.new ≡ preferring_at guest seats.old }
-{
-    prefer_none(seats);
-    set_preferred(seats, guest, 1);
-}
-
-/// The pages of a guest.
-fn pages_of(seats: &[Seat], guest: usize) -> u32
-    requires { guest < length seats.now }
-    ensures { result ≡ pages_at seats.now guest }
-{
-    seats[guest].pages
-}
-
-/// The pages of a guest's balloon that it may not deflate.
-fn reclaimed_of(seats: &[Seat], guest: usize) -> u32
-    requires { guest < length seats.now }
-    ensures { result ≡ value_at reclaimed seats.now guest }
-{
-    seats[guest].reclaimed()
-}
-
-/// Whether two guests have fewer than 2^32 pages together.
-fn are_few(seats: &[Seat], guest: usize, added: usize) -> bool
-    requires place { guest < length seats.now }
-    requires from { added < length seats.now }
-    ensures { result ≡ nat_lt (pages_at seats.now guest + pages_at seats.now added) 4294967296 }
-{
-    let one = u64::from(pages_of(seats, guest));
-    let other = u64::from(pages_of(seats, added));
-    one + other < 4294967296
-}
-
-/// Whether the memory at a place may join a guest.
-fn may_join(seats: &[Seat], guest: usize, added: usize) -> bool
-    ensures { result ≡ may_join_at seats.now guest added }
-{
-    if guest >= seats.len() {
-        return false;
-    }
-    if added >= seats.len() {
-        return false;
-    }
-    if guest == added {
-        return false;
-    }
-    if reclaimed_of(seats, added) > 0 {
-        return false;
-    }
-    are_few(seats, guest, added)
-}
-
-/// This many pages join a guest.
-fn grow(seats: &mut [Seat], guest: usize, pages: u32)
-    requires place { guest < length seats.old }
-    requires few { pages_at seats.old guest + pages < 2 ^ 32 }
-    ensures { seats.new ≡ each_at guest (grown pages) seats.old }
-{
-    seats[guest].grow(pages);
-}
-
-/// The memory at a place joins a guest, where it may.
-fn join(seats: &mut [Seat], guest: usize, added: usize)
-    ensures { seats.new ≡ joined_at guest added seats.old }
-{
-    if may_join(seats, guest, added) {
-        let pages = pages_of(seats, added);
-        grow(seats, guest, pages);
-        seat_at(seats, added, Seat::newcomer(0));
     }
 }
 
@@ -301,6 +197,7 @@ pub fn happen(frames: &mut u32, overdraft: u32, seats: &mut [Seat], event: &Even
         Event::Uncounts { guest } => uncount(seats, guest),
         Event::Budget { frames: more } => *frames = more,
         Event::Prefers { guest } => prefer(seats, guest),
+        Event::Defers { guest } => defer(seats, guest),
     }
 }
 

@@ -1,14 +1,13 @@
 //! What a lender knows of one guest, and what each event makes of it.
 
 ghost use Rattle.std.specs.Prelude.{◌≡◌, ◌+◌, ◌-◌, ◌<◌, ◌^◌};
-ghost use Rattle.vb_host.specs.Seats.{lent, asked, waits, covers, granting, noting, counting};
-ghost use Rattle.vb_host.specs.Seats.{served, raised, queuing, is_stale, heard, possible_target};
+ghost use Rattle.vb_host.specs.Seats.{lent, asked, waits, covers, granting, possible_target};
 ghost use Rattle.vb_host.specs.Seats.{targeted, retargeted, uncounting};
-ghost use Rattle.vb_host.specs.Seats.{believed, is_done, is_uncounted, is_preferred, place_in_line};
-ghost use Rattle.vb_host.specs.Seats.{preferring};
+ghost use Rattle.vb_host.specs.Seats.{is_done, is_uncounted, is_preferred, place_in_line};
+ghost use Rattle.vb_host.specs.Seats.{preferring, waiting_line, line_rank, may_defer, deferring};
 ghost use Rattle.vb_host.specs.Seats.{due_target, due_grant, reclaimed, grown, rank, queued};
 ghost use Rattle.vb_host.specs.Seats.{room_after};
-ghost use Rattle.vb_host.specs.Seats.{keeps_turn, needs_grant};
+ghost use Rattle.vb_host.specs.Seats.{needs_grant};
 
 use crate::{Report, WaitingLine};
 
@@ -48,6 +47,8 @@ pub struct Seat {
     pub uncounted: u32,
     /// Whether it comes before all others of its line: 0 where it doesn't.
     pub preferred: u32,
+    /// Whether it lets others pass, and waits in the last line: 0 where it doesn't.
+    pub deferred: u32,
 }
 
 impl Seat {
@@ -80,6 +81,7 @@ impl Seat {
         self.granted = self.deflates;
         self.held = 0;
         self.turn = 0;
+        self.deferred = 0;
     }
 
     /// What is lent to it once its deflate is granted.
@@ -123,70 +125,6 @@ impl Seat {
         self.waits() || self.is_uncounted() || self.target <= self.ballooned
     }
 
-    /// The pages of this many of which none was taken away since its last report.
-    fn without_removed(&self, pages: u32, removed: u64) -> u32
-        ensures { result ≡ pages - (removed - self.now.removed) }
-    {
-        let taken = removed.saturating_sub(self.removed);
-        let all = u64::from(pages);
-        if taken < all { (all - taken) as u32 } else { 0 }
-    }
-
-    /// Notes what its process reports of its memory, its balloon, and a deflate.
-    fn note(&mut self, ballooned: u32, held: u32, report: &Report)
-        ensures { self.new ≡ noting ballooned held report.now self.old }
-    {
-        let pages = self.without_removed(self.pages, report.removed);
-        let counted = self.without_removed(self.ballooned, report.removed);
-        self.pages = pages;
-        self.ballooned = counted.max(ballooned);
-        self.held = held;
-        self.line = report.line;
-        self.deflates = report.deflates;
-        self.removed = report.removed;
-    }
-
-    /// What a report shows: an empty balloon, where that counts no longer.
-    fn believe(&self, report: &Report) -> Report
-        ensures { result ≡ believed self.now report.now }
-    {
-        let mut believed = *report;
-        if self.is_uncounted() {
-            believed.ballooned = 0;
-        }
-        believed
-    }
-
-    /// Counts the pages in its balloon, without those of a deflate that was granted.
-    fn count(&mut self, report: &Report)
-        ensures { self.new ≡ counting report.now self.old }
-    {
-        if report.deflates == self.granted {
-            let ballooned = report.ballooned.saturating_sub(report.held);
-            self.note(ballooned, 0, report);
-        } else {
-            self.note(report.ballooned, report.held, report);
-        }
-    }
-
-    /// Grants its deflate, if that lends nothing more.
-    fn serve(&mut self)
-        ensures { self.new ≡ served self.old }
-    {
-        if self.covers() {
-            self.grant();
-        }
-    }
-
-    /// Raises the least target to the last one, once its driver has read that.
-    fn raise(&mut self, report: &Report)
-        ensures { self.new ≡ raised report.now self.old }
-    {
-        if report.target_number == self.target_number && report.read_target == self.target {
-            self.least_target = self.least_target.max(self.target);
-        }
-    }
-
     /// Whether it comes before all others of its line.
     pub fn is_preferred(&self) -> bool
         ensures { result ≡ is_preferred self.now }
@@ -206,12 +144,29 @@ impl Seat {
         }
     }
 
+    /// The line in which it waits.
+    fn waiting_line(&self) -> WaitingLine
+        ensures { result ≡ waiting_line self.now }
+    {
+        if self.deferred > 0 {
+            WaitingLine::Arrivals
+        } else {
+            WaitingLine::of(self.line)
+        }
+    }
+
+    /// How many lines come before its own.
+    fn line_rank(&self) -> u32
+        ensures { result ≡ line_rank self.now }
+    {
+        self.waiting_line().number()
+    }
+
     /// Its rank among those that wait.
     pub(crate) fn rank(&self) -> u128
         ensures { result ≡ rank self.now }
     {
-        let line = WaitingLine::of(self.line).number();
-        PLACES * u128::from(line) + self.place_in_line()
+        PLACES * u128::from(self.line_rank()) + self.place_in_line()
     }
 
     /// It is preferred from now on, or it isn't.
@@ -226,36 +181,23 @@ impl Seat {
         ensures { self.new ≡ queued turn self.old }
     {
         self.turn = if self.waits() { turn } else { 0 };
+        self.deferred = 0;
     }
 
-    /// Whether the deflate that waited before still waits, in the same line.
-    fn keeps_turn(&self, old: &Seat) -> bool
-        ensures { result ≡ keeps_turn old.now self.now }
+    /// Whether it waits in a line where it may let others pass.
+    fn may_defer(&self) -> bool
+        ensures { result ≡ may_defer self.now }
     {
-        old.waits() && self.waits() && old.deflates == self.deflates && old.line == self.line
+        self.waits() && self.line_rank() > 0
     }
 
-    /// Whether a report was made before the last grant, or before memory was taken away that is
-    /// known of.
-    fn is_stale(&self, report: &Report) -> bool
-        ensures { result ≡ is_stale report.now self.now }
+    /// It lets others pass, if it may: it waits in the last line from now on, with this turn.
+    pub(crate) fn defer(&mut self, turn: u64)
+        ensures { self.new ≡ deferring turn self.old }
     {
-        report.deflates < self.granted || report.removed < self.removed
-    }
-
-    /// Its process has reported; a guest that waits from now on has this turn.
-    pub(crate) fn hear(&mut self, report: &Report, turn: u64)
-        ensures { self.new ≡ heard turn report.now self.old }
-    {
-        if self.is_stale(report) {
-            return;
-        }
-        let old = *self;
-        self.count(&old.believe(report));
-        self.serve();
-        self.raise(report);
-        if !self.keeps_turn(&old) {
-            self.queue(turn);
+        if self.may_defer() {
+            self.turn = turn;
+            self.deferred = 1;
         }
     }
 

@@ -49,6 +49,9 @@ pub enum Event {
     Budget { frames: u32 },
     /// Of all guests just this one comes before all others of its line from now on.
     Prefers { guest: usize },
+    /// A guest that waits in a reset or to come lets others pass: as long as this wait lasts, it is
+    /// in the last line, after all that wait there now.
+    Defers { guest: usize },
 }
 
 impl Event {
@@ -70,6 +73,7 @@ impl Event {
             Event::Uncounts { guest } => Event::at(UNCOUNTS, guest),
             Event::Budget { frames } => HostEvent { frames, ..Event::at(BUDGET, 0) },
             Event::Prefers { guest } => Event::at(PREFERS, guest),
+            Event::Defers { guest } => Event::at(DEFERS, guest),
         }
     }
 }

@@ -108,6 +108,45 @@ fn memory_that_was_let_in_joins_a_guest() {
     assert_eq!(lender.owed(), 68);
 }
 
+/// The second wants its 60 pages again after a reset, and a third of 30 waits to come.
+fn short() -> Lender {
+    let mut lender = Lender::new(100, 0);
+    for (guest, pages) in [(0, 40), (1, 60), (2, 30)] {
+        assert_eq!(lender.add_place(), guest);
+        lender.step(Event::Arrives { guest, pages, ballooned: 0 });
+    }
+    lender.step(Event::Hears { guest: 0, report: coming(40, 0) });
+    let waits = Report { held: 60, line: Line::Resets as u32, ..coming(60, 0) };
+    lender.step(Event::Budget { frames: 90 });
+    lender.step(Event::Hears { guest: 1, report: waits });
+    lender.step(Event::Hears { guest: 2, report: coming(30, 0) });
+    lender
+}
+
+#[test]
+fn one_that_waits_lets_others_pass() {
+    let mut lender = short();
+    assert_eq!((lender.first(), lender.owed()), (Some(1), 40));
+    lender.step(Event::Defers { guest: 0 });
+    assert_eq!((lender.first(), lender.seats()[0].deferred), (Some(1), 0), "it doesn't wait");
+    lender.step(Event::Defers { guest: 1 });
+    assert_eq!((lender.first(), lender.owed()), (Some(1), 70), "the third has passed it");
+    assert_eq!((lender.seats()[1].deferred, lender.seats()[1].turn), (1, 3));
+    lender.step(Event::Budget { frames: 130 });
+    assert_eq!((lender.seats()[1].deferred, lender.owed()), (0, 130), "its wait is over");
+}
+
+#[test]
+fn one_that_is_preferred_comes_first_in_its_line() {
+    let mut lender = short();
+    let resets = Report { line: Line::Resets as u32, deflates: 2, ..coming(30, 0) };
+    lender.step(Event::Hears { guest: 2, report: resets });
+    assert_eq!((lender.first(), lender.owed()), (Some(1), 40), "its turn is the later one");
+    lender.step(Event::Prefers { guest: 2 });
+    assert_eq!((lender.first(), lender.owed()), (Some(1), 70));
+    assert_eq!(lender.seats()[2].preferred, 1);
+}
+
 #[test]
 fn a_later_lender_goes_by_the_first_report() {
     let mut lender = Lender::new(33, 0);

@@ -20,17 +20,23 @@ static const struct {
     struct {
         uint32_t held, line;
         uint64_t turn;
+        uint32_t deferred;
     } seats[3];
     size_t first;
 } lines[] = {
-    {"nobody waits", {{0, 0, 1}, {0, 0, 1}, {0, 0, 1}}, SIZE_MAX},
-    {"one waits", {{0, 0, 0}, {0, 0, 0}, {1, 2, 9}}, 2},
-    {"a lower turn", {{1, 0, 3}, {1, 0, 2}, {1, 0, 4}}, 1},
-    {"the lower place of one turn", {{0, 0, 2}, {1, 0, 2}, {1, 0, 2}}, 1},
-    {"deflates before resets", {{1, 1, 1}, {1, 0, 9}, {1, 1, 2}}, 1},
-    {"resets before arrivals", {{1, 2, 1}, {1, 2, 2}, {1, 1, 9}}, 2},
-    {"any other line is that of arrivals", {{1, UINT32_MAX, 2}, {1, 2, 3}, {1, 3, 1}}, 2},
-    {"the last turn of a line", {{1, 1, 0}, {1, 0, UINT64_MAX}, {1, 1, 0}}, 1},
+    {"nobody waits", {{0, 0, 1, 0}, {0, 0, 1, 0}, {0, 0, 1, 0}}, SIZE_MAX},
+    {"one waits", {{0, 0, 0, 0}, {0, 0, 0, 0}, {1, 2, 9, 0}}, 2},
+    {"a lower turn", {{1, 0, 3, 0}, {1, 0, 2, 0}, {1, 0, 4, 0}}, 1},
+    {"the lower place of one turn", {{0, 0, 2, 0}, {1, 0, 2, 0}, {1, 0, 2, 0}}, 1},
+    {"deflates before resets", {{1, 1, 1, 0}, {1, 0, 9, 0}, {1, 1, 2, 0}}, 1},
+    {"resets before arrivals", {{1, 2, 1, 0}, {1, 2, 2, 0}, {1, 1, 9, 0}}, 2},
+    {"any other line is that of arrivals", {{1, UINT32_MAX, 2, 0}, {1, 2, 3, 0}, {1, 3, 1, 0}}, 2},
+    {"the last turn of a line", {{1, 1, 0, 0}, {1, 0, UINT64_MAX, 0}, {1, 1, 0, 0}}, 1},
+    {"one that lets others pass waits in the last line",
+     {{1, 1, 1, 1}, {1, 2, 3, 0}, {1, 2, 2, 0}},
+     0},
+    {"and after all others by its turn", {{1, 1, 4, 1}, {1, 2, 3, 0}, {0, 0, 0, 0}}, 1},
+    {"and after those of the lines before", {{1, 0, 1, 7}, {0, 0, 0, 0}, {1, 1, 9, 0}}, 2},
 };
 
 void check_lines(void)
@@ -42,6 +48,7 @@ void check_lines(void)
             seats[place].held = lines[i].seats[place].held;
             seats[place].line = lines[i].seats[place].line;
             seats[place].turn = lines[i].seats[place].turn;
+            seats[place].deferred = lines[i].seats[place].deferred;
         }
         expect(vb_host_first(seats, 3) == lines[i].first, lines[i].what);
     }
@@ -164,7 +171,7 @@ static void unsettle(VbSeat *seats)
 
 static void check_refusals(void)
 {
-    static const uint32_t kinds[] = {0, VB_PREFERS + 1, 256 + VB_WANTS, UINT32_MAX};
+    static const uint32_t kinds[] = {0, VB_DEFERS + 1, 256 + VB_WANTS, UINT32_MAX};
     VbSeat seats[2], before[2];
     unsettle(seats);
     unsettle(before);

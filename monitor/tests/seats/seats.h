@@ -8,8 +8,10 @@
 bool same_seat(const VbSeat *one, const VbSeat *other);
 void print_seat(size_t place, const VbSeat *seat);
 
-/* rows.c: the events of a host with two guests. orders.c: seats of any numbers. */
+/* rows.c: the events of a host with two guests. passing.c: of three of which one comes first, or
+ * lets others pass. orders.c: seats of any numbers. */
 void check_rows(void);
+void check_passing(void);
 void check_lines(void);
 void check_orders(void);
 void check_targets(void);

@@ -20,7 +20,7 @@ struct day {
 };
 
 /* How many events of a kind had an effect. */
-static unsigned long long effects[VB_PREFERS + 1];
+static unsigned long long effects[VB_DEFERS + 1];
 
 static void fail(const struct day *day, const char *what)
 {
@@ -75,6 +75,7 @@ static VbSeat odd_seat(void)
     seat.turn = odd_count();
     seat.uncounted = chance(4) ? 0 : odd_number();
     seat.preferred = chance(4) ? 0 : odd_number();
+    seat.deferred = chance(4) ? 0 : odd_number();
     return seat;
 }
 
@@ -84,8 +85,9 @@ static uint32_t any_kind(void)
                                      VB_HEARS,     VB_HEARS, VB_GRANTS,     VB_OVERDRAWS,
                                      VB_OVERDRAWS, VB_WANTS, VB_WANTS,      VB_TARGETS,
                                      VB_ARRIVES,   VB_JOINS, VB_TAKES_OVER, VB_BUDGET};
-    if (chance(32) == 0)
-        return chance(2) ? VB_UNCOUNTS : VB_PREFERS;
+    static const uint32_t rare[] = {VB_UNCOUNTS, VB_PREFERS, VB_DEFERS};
+    if (chance(24) == 0)
+        return rare[chance(sizeof rare / sizeof *rare)];
     return often[chance(sizeof often / sizeof *often)];
 }
 
@@ -121,7 +123,8 @@ static VbHostEvent any_event(struct day *day)
     VbHostEvent event = {.kind = any_kind(), .frames = 20 + chance(200)};
     size_t first = vb_host_first(day->seats, day->count);
     event.guest = chance(40) ? chance((uint32_t)day->count) : day->count + chance(2);
-    if (event.kind == VB_OVERDRAWS && first < day->count && chance(4))
+    bool is_of_first = event.kind == VB_OVERDRAWS || event.kind == VB_DEFERS;
+    if (is_of_first && first < day->count && chance(4))
         event.guest = first;
     event.added = chance((uint32_t)day->count + 1);
     if (event.guest < day->count)
@@ -264,11 +267,11 @@ void check_steps(unsigned long long steps)
         play(&day);
     }
     printf("seats: %llu random events, with an effect:", steps);
-    for (uint32_t kind = VB_HEARS; kind <= VB_PREFERS; kind++)
+    for (uint32_t kind = VB_HEARS; kind <= VB_DEFERS; kind++)
         printf(" %llu", effects[kind]);
     puts("");
     /* Grants and targets are what each step makes by itself. */
-    for (uint32_t kind = VB_HEARS; kind <= VB_PREFERS; kind++)
+    for (uint32_t kind = VB_HEARS; kind <= VB_DEFERS; kind++)
         if (kind != VB_GRANTS && kind != VB_TARGETS && effects[kind] < steps / RARE)
             fail(&day, "an event is too rare");
 }

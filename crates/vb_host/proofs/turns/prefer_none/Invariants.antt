@@ -1,7 +1,7 @@
 use Rattle.std.proofs.Common.{◌≡◌, length, map}
 use Rattle.vb_host.specs.Seats.{preferring}
 use Rattle.vb_host.proofs.Preferring.{none_from}
-use Rattle.vb_host.proofs.lending.prefer_none.Given as goal
+use Rattle.vb_host.proofs.turns.prefer_none.Given as goal
 
 -- what is left to do makes it so of all
 abbrev pub invariant-loop-guest : goal.invariant-loop-guest

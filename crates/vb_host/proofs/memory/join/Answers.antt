@@ -3,7 +3,7 @@ use Rattle.vb_host.specs.declared.seat.Seat.{Seat}
 use Rattle.vb_host.specs.Seats.{newcomer, grown}
 use Rattle.vb_host.specs.Lending.{each_at}
 use Rattle.vb_host.proofs.Grants.{can_join, join_done, join_not}
-use Rattle.vb_host.proofs.lending.join.Goals as goal
+use Rattle.vb_host.proofs.memory.join.Goals as goal
 
 put_at : (m : ℕ) (x y : Seat) (xs ys : List Seat) → x ≡ y → xs ≡ ys → each_at m (λ _. x) xs ≡ each_at m (λ _. y) ys
 put_at m x y xs ys e f = ap (λ (s : Seat). each_at m (λ _. s) xs) e ∙ ap (λ (zs : List Seat). each_at m (λ _. y) zs) f

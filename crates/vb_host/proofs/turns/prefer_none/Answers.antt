@@ -1,6 +1,6 @@
 use Rattle.std.proofs.Common.{refl, sym, ◌∙◌, arith}
 use Rattle.vb_host.proofs.Preferring.{none_is_left, one_less}
-use Rattle.vb_host.proofs.lending.prefer_none.Goals as goal
+use Rattle.vb_host.proofs.turns.prefer_none.Goals as goal
 
 pub loop-guest-init : goal.loop-guest-init
 loop-guest-init c = (refl, refl)

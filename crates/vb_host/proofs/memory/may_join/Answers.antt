@@ -1,6 +1,6 @@
 use Rattle.std.proofs.Common.{◌∙◌, arith}
 use Rattle.vb_host.proofs.Grants.{join_beyond, join_from_beyond, join_itself, join_few}
-use Rattle.vb_host.proofs.lending.may_join.Goals as goal
+use Rattle.vb_host.proofs.memory.may_join.Goals as goal
 
 pub returns-then-guest-seats : goal.returns-then-guest-seats
 returns-then-guest-seats c = join_beyond c.args.seats.now c.args.guest c.args.added c.if-guest-seats.true
