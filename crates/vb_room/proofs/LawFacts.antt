@@ -10,14 +10,14 @@ use Rattle.vb_model.specs.HostEvents.{WorldStep}
 use Rattle.vb_model.specs.Run.{History, Run, states}
 use Rattle.vb_model.specs.Safe.{IsHonest}
 use Rattle.vb_model.specs.World.{World, guest_at}
-use Rattle.vb_lender.specs.declared.event.Event.TheVariants.{Takes}
-use Rattle.vb_lender.specs.declared.loan.Loan.{Loan}
-use Rattle.vb_lender.specs.Lending.{AreSound, Lending, happens, owed}
-use Rattle.vb_room.proofs.BesideFacts.{first_moves, first_guest, first_states, plugged}
+use Rattle.vb_host.specs.declared.event.Event.TheVariants.{Targets}
+use Rattle.vb_host.specs.declared.seat.Seat.{Seat}
+use Rattle.vb_host.specs.Lending.{Lending, happens, owed}
+use Rattle.vb_room.proofs.BesideFacts.{first_moves, first_guest, first_states, none, plugged}
 use Rattle.vb_room.specs.Beside.{AskingFirstSuffices}
 use Rattle.vb_room.specs.Counts.{CallsCountSo}
 use Rattle.vb_room.specs.Room.{BalloonsAreBare, NoneLacksAFrame, all_may_hold}
-use Rattle.vb_room.specs.Tie.{EventsLeaveLoans, HaveLoans, LoanEventsLeaveLoans, LoansSuffice, LowersNone, counted}
+use Rattle.vb_room.specs.Tie.{EventsLeaveSeats, HaveSeats, LowersNone, SeatEventsLeaveSeats, SeatsSuffice, counted, reclaimed_at}
 
 -- page 20 of guest 1 in state 7
 bare : BalloonsAreBare → (h : History) → Run 9 (true ∷ []) h → (g : Guest) → IsHonest h 1 7 g → tells_host g ≡ true
@@ -34,21 +34,23 @@ none_lacks law h r w v g at here fits = (
   λ rogue. law 9 (true ∷ []) h r 1 7 w v (Scribble 20 0 (1 ∷ [])) g at here fits (inr rogue),
 )
 
-suffice : LoansSuffice → (h : History) → Run 9 (true ∷ []) h → (w v : World) (g : Guest) → slice_get (states h) 7 ≡ Some w
-    → guest_at w.guests 1 ≡ Some g → (loans : List Loan) → AreSound loans → HaveLoans loans w → owed loans ≤ w.frames
+-- a write of guest 1 in state 7, which has no limit, and a scribble of a guest of which nothing is
+-- reclaimed
+suffice : SeatsSuffice → (h : History) → Run 9 (true ∷ []) h → (w v : World) → slice_get (states h) 7 ≡ Some w
+    → (seats : List Seat) → HaveSeats none seats w → owed seats ≤ w.frames
     → (¬ WorldStep w (OnGuest 1 (Write 20 0 (1 ∷ []))) (Refused NoFrame) v)
-    × (g.rogue ≡ true → ¬ WorldStep w (OnGuest 1 (Scribble 20 0 (1 ∷ []))) (Refused NoFrame) v)
-suffice law h r w v g at here loans sound have fits = (
-  law 9 (true ∷ []) h r 1 7 w v (Write 20 0 (1 ∷ [])) g at here loans sound have fits (inl refl),
-  λ rogue. law 9 (true ∷ []) h r 1 7 w v (Scribble 20 0 (1 ∷ [])) g at here loans sound have fits (inr rogue),
+    × (reclaimed_at seats 1 ≡ 0 → ¬ WorldStep w (OnGuest 1 (Scribble 20 0 (1 ∷ []))) (Refused NoFrame) v)
+suffice law h r w v at seats have fits = (
+  law 9 (true ∷ []) h r none seats 1 7 w v (Write 20 0 (1 ∷ [])) at have fits (inl (refl, refl)),
+  λ bare. law 9 (true ∷ []) h r none seats 1 7 w v (Scribble 20 0 (1 ∷ [])) at have fits (inr bare),
 )
 
-events_leave : EventsLeaveLoans → (w v : World) (loans : List Loan) → WorldStep w CountFrames (Frames 0 9) v → LowersNone w v
-    → HaveLoans loans w → HaveLoans loans v
-events_leave law w v loans = law w CountFrames (Frames 0 9) v loans
+events_leave : EventsLeaveSeats → (w v : World) (seats : List Seat) → WorldStep w CountFrames (Frames 0 9) v → LowersNone w v
+    → HaveSeats none seats w → HaveSeats none seats v
+events_leave law w v seats = law none w CountFrames (Frames 0 9) v seats
 
-lender_leaves : LoanEventsLeaveLoans → (l : Lending) (w : World) → HaveLoans l.loans w → HaveLoans (happens l (Takes 1 2)).loans w
-lender_leaves law l w = law l (Takes 1 2) w tt
+lender_leaves : SeatEventsLeaveSeats → (l : Lending) (w : World) → HaveSeats none l.seats w → HaveSeats none (happens l (Targets 1)).seats w
+lender_leaves law l w = law none l (Targets 1) w tt
 
 -- a call that finishes nothing leaves the count, both ways
 counts : CallsCountSo → (h : History) → Run 9 (true ∷ []) h → (w v : World) (g new : Guest) → slice_get (states h) 7 ≡ Some w
@@ -58,11 +60,11 @@ counts law h r w v g new at step here there =
     let c = law 9 (true ∷ []) h r 1 7 w v Work Done g new at step here there in omega (arith, c.least, c.most)
 
 -- the run of the first guest: its end, and no other call lacks a frame there
-covered : AskingFirstSuffices → (v : World) → (owed plugged.lending.loans ≤ 100)
+covered : AskingFirstSuffices → (v : World) → (owed plugged.lending.seats ≤ 100)
     × (¬ WorldStep plugged.world (OnGuest 0 (Write 20 0 (1 ∷ []))) (Refused NoFrame) v)
     × (¬ WorldStep plugged.world (OnGuest 0 (Scribble 20 0 (1 ∷ []))) (Refused NoFrame) v)
-covered law v = let c = law 100 80 1 (true ∷ []) first_moves first_states (omega arith) first_guest 4 plugged refl in (
+covered law v = let c = law none 100 80 9 1 (true ∷ []) first_moves first_states (omega arith) first_guest 4 plugged refl in (
   c.within,
-  c.none_lacks 0 (Write 20 0 (1 ∷ [])) v (inl refl),
+  c.none_lacks 0 (Write 20 0 (1 ∷ [])) v (inl (refl, refl)),
   c.none_lacks 0 (Scribble 20 0 (1 ∷ [])) v (inr refl),
 )

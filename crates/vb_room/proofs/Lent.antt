@@ -1,180 +1,167 @@
 -- What a host and its lender keep, where the host asks first.
-use Rattle.std.proofs.Common.{Bool, List, [], ap, arith, false, inl, inr, refl, subst, suc, sym, true, zero, ℕ, ◌+◌, ◌-◌, ◌∙◌, ◌∷◌, ◌<◌, ◌≤◌, ◌≡◌, ◌≢◌, if◌then◌else◌}
+use Rattle.std.proofs.Common.{Bool, List, [], ap, arith, false, inl, inr, refl, suc, sym, subst, true, zero, ℕ, ◌∙◌, ◌∷◌, ◌<◌, ◌≤◌, ◌≡◌, ◌≢◌, replicate}
 use Rattle.std.proofs.lemmas.Bool.{cases_eq}
-use Rattle.std.specs.Prelude.{None, Some, slice_get}
+use Rattle.std.specs.Prelude.{None, Option, Some, count_by, is_some, slice_get}
 use Rattle.vb_model.proofs.Changes.{Change, New, Restarted, Retargeted, Stepped, Untouched, changes}
 use Rattle.vb_model.proofs.Fates.{configurations_kept}
-use Rattle.vb_model.specs.Guest.{Config, Guest}
+use Rattle.vb_model.specs.Guest.{Config, Guest, backed_count}
 use Rattle.vb_model.specs.HostEvents.{WorldStep}
 use Rattle.vb_model.specs.World.{World, guest_at}
 use Rattle.vb_model.specs.declared.calls.Event.{Event}
 use Rattle.vb_model.specs.declared.calls.Event.TheVariants.{Plug}
 use Rattle.vb_model.specs.declared.replies.Reply.{Reply}
-use Rattle.vb_lender.specs.declared.event.Event.{Event as LoanEvent}
-use Rattle.vb_lender.specs.declared.event.Event.TheVariants.{Arrives, Asks, Budget, Figures, Gives, Grants, Leaves, Recounts, Resets, Takes, Uncounts}
-use Rattle.vb_lender.specs.declared.event.Event.TheVariants.{Grows, Keeps, Shrinks, Withdraws}
-use Rattle.vb_lender.specs.declared.loan.Loan.{Loan}
-use Rattle.vb_lender.specs.Loans.{arrived, gave, grown, may_give, may_keep, retained, shrunk, vacant}
-use Rattle.vb_lender.specs.Lending.{Lending, each_at, happens, has_turn, next_turn, owed, value_at, IsOrdinary}
-use Rattle.vb_lender.proofs.Sums.{frames_stay, lends_no_more}
+use Rattle.vb_virtio.proofs.Tables.{count_by-cons}
+use Rattle.vb_host.specs.declared.event.Event.{Event as SeatEvent}
+use Rattle.vb_host.specs.declared.event.Event.TheVariants.{Hears, Grants, Overdraws, Wants, Targets, Arrives, Joins, TakesOver, Uncounts, Budget, Prefers}
+use Rattle.vb_host.specs.declared.seat.Seat.{Seat}
+use Rattle.vb_host.specs.Lending.{each_at, happens, may_join_at, next_turn, pages_at, value_at}
+use Rattle.vb_host.specs.Seats.{grown, heard, lent, newcomer, queued, reclaimed, starting, taken_over}
 use Rattle.vb_room.proofs.Bare.{AllBare}
 use Rattle.vb_room.proofs.Called.{step_so}
+use Rattle.vb_room.proofs.Owed.{IsWithin, lends_within}
 use Rattle.vb_room.proofs.Roomy.{comes}
-use Rattle.vb_room.proofs.Stay.{loan_events_leave_loans}
-use Rattle.vb_room.specs.Beside.{EventIsAsked, LoanIsAsked, ballooned_at, pages_at, Both}
-use Rattle.vb_room.specs.Tie.{HaveLoans, IsLoanOf, counted}
-
--- ---- numbers at a place of a list of loans
-
-pub value_of : (f : Loan → ℕ) (loans : List Loan) (n : ℕ) (s : Loan) → slice_get loans n ≡ Some s → value_at f loans n ≡ f s
-value_of f [] n s e = absurd cc
-value_of f (x ∷ xs) zero s e = ap f (let same : x ≡ s = cc in same)
-value_of f (x ∷ xs) (suc n) s e = value_of f xs n s e
-
-pub loan_there : (f : Loan → ℕ) (loans : List Loan) (n : ℕ) → 0 < value_at f loans n → (s : Loan) × (slice_get loans n ≡ Some s)
-loan_there f [] n l = absurd (omega (arith, l))
-loan_there f (x ∷ xs) zero l = (x, refl)
-loan_there f (x ∷ xs) (suc n) l = loan_there f xs n l
+use Rattle.vb_room.proofs.Seats.{value_of}
+use Rattle.vb_room.proofs.Stay.{have_if, seat_events_leave_seats}
+use Rattle.vb_room.specs.Beside.{Both, EventIsAsked, IsTrue, LoanIsAsked}
+use Rattle.vb_room.specs.Tie.{HaveSeats, IsSeatOf, counted, reclaimed_at}
 
 -- ---- events of the lender
 
-elsewhere : (n m : ℕ) (f : Loan → Loan) (xs : List Loan) → m ≢ n → slice_get (each_at n f xs) m ≡ slice_get xs m
+elsewhere : (n m : ℕ) (f : Seat → Seat) (xs : List Seat) → m ≢ n → slice_get (each_at n f xs) m ≡ slice_get xs m
 elsewhere n m f [] d = refl
 elsewhere zero zero f (x ∷ xs) d = absurd (d refl)
 elsewhere zero (suc m) f (x ∷ xs) d = refl
 elsewhere (suc n) zero f (x ∷ xs) d = refl
 elsewhere (suc n) (suc m) f (x ∷ xs) d = elsewhere n m f xs (λ e. d (ap suc e))
 
-here_changed : (n : ℕ) (f : Loan → Loan) (xs : List Loan) (s : Loan) → slice_get xs n ≡ Some s → slice_get (each_at n f xs) n ≡ Some (f s)
+here_changed : (n : ℕ) (f : Seat → Seat) (xs : List Seat) (s : Seat) → slice_get xs n ≡ Some s → slice_get (each_at n f xs) n ≡ Some (f s)
 here_changed n f [] s e = absurd cc
-here_changed zero f (x ∷ xs) s e = ap (λ (y : Loan). Some (f y)) (let same : x ≡ s = cc in same)
+here_changed zero f (x ∷ xs) s e = ap (λ (y : Seat). Some (f y)) (let same : x ≡ s = cc in same)
 here_changed (suc n) f (x ∷ xs) s e = here_changed n f xs s e
 
 -- a place without a guest may change in any way
-no_guest_there : (n : ℕ) (f : Loan → Loan) (xs : List Loan) (w : World) → guest_at w.guests n ≡ None → HaveLoans xs w → HaveLoans (each_at n f xs) w
-no_guest_there n f xs w none have m g at = elim (cases_eq m n) [
+no_guest_there : (limited : ℕ → Bool) (n : ℕ) (f : Seat → Seat) (xs : List Seat) (w : World) → guest_at w.guests n ≡ None
+    → HaveSeats limited xs w → HaveSeats limited (each_at n f xs) w
+no_guest_there limited n f xs w none have m g at = elim (cases_eq m n) [
   | inl same ↦ absurd (let e : None ≡ Some g = sym none ∙ (ap (guest_at w.guests) (sym same) ∙ at) in cc)
   | inr other ↦ let x = have m g at in (x.0, elsewhere n m f xs other ∙ x.1, x.2)
 ]
 
-have_if : (b : Bool) (xs ys : List Loan) (w : World) → HaveLoans ys w → HaveLoans xs w → HaveLoans (if b then ys else xs) w
-have_if true xs ys w a c = a
-have_if false xs ys w a c = c
+-- what is so of the guest at a place is so of its seat
+told_seat : (limited : ℕ → Bool) (n : ℕ) (f : Seat → Seat) (xs : List Seat) (w : World) → IsTrue (limited n) n w (each_at n f xs)
+    → (s : Seat) (g : Guest) → slice_get xs n ≡ Some s → guest_at w.guests n ≡ Some g → IsSeatOf (limited n) (f s) g
+told_seat limited n f xs w t s g here there =
+    let now = here_changed n f xs s here in record {
+      pages = sym (value_of (λ x. x.pages) (each_at n f xs) n (f s) now) ∙ t.pages g there;
+      reclaimed = λ e. omega (arith, value_of reclaimed (each_at n f xs) n (f s) now, t.reclaimed e g there);
+      held = λ e. omega (arith, value_of lent (each_at n f xs) n (f s) now, t.held e g there);
+    }
 
-gave_loan : (k : ℕ) (s : Loan) (g : Guest) → IsLoanOf s g → s.ballooned + k ≤ counted g → IsLoanOf (gave k s) g
-gave_loan k s g is fits = by (may_give k s) where
-  by : (b : Bool) → IsLoanOf (if b then record s { ballooned = s.ballooned + k; lent = s.lent - k } else s) g
-  by true = record { pages = is.pages; ballooned = fits }
-  by false = is
-
-retained_loan : (k : ℕ) (s : Loan) (g : Guest) → IsLoanOf s g → s.ballooned + k ≤ counted g → IsLoanOf (retained k s) g
-retained_loan k s g is fits = by (may_keep k s) where
-  by : (b : Bool) → IsLoanOf (if b then record s { ballooned = s.ballooned + k } else s) g
-  by true = record { pages = is.pages; ballooned = fits }
-  by false = is
-
--- pages join a balloon that the device holds to be ballooned
-joins : (n k : ℕ) (f : Loan → Loan) (xs : List Loan) (w : World) → ((s : Loan) (g : Guest) → IsLoanOf s g → s.ballooned + k ≤ counted g → IsLoanOf (f s) g)
-    → ((g : Guest) → guest_at w.guests n ≡ Some g → ballooned_at xs n + k ≤ counted g) → HaveLoans xs w → HaveLoans (each_at n f xs) w
-joins n k f xs w keeps fits have m g at = elim (cases_eq m n) [
+told : (limited : ℕ → Bool) (n : ℕ) (f : Seat → Seat) (xs : List Seat) (w : World) → IsTrue (limited n) n w (each_at n f xs)
+    → HaveSeats limited xs w → HaveSeats limited (each_at n f xs) w
+told limited n f xs w t have m g at = elim (cases_eq m n) [
   | inl same ↦
       let x = have m g at in
       let here = ap (slice_get xs) (sym same) ∙ x.1 in
-      let own = fits g (ap (guest_at w.guests) (sym same) ∙ at) in
-      let value = value_of (λ s. s.ballooned) xs n x.0 here in
-      (f x.0, ap (slice_get (each_at n f xs)) same ∙ here_changed n f xs x.0 here, keeps x.0 g x.2 (omega (arith, own, value)))
+      let own = told_seat limited n f xs w t x.0 g here (ap (guest_at w.guests) (sym same) ∙ at) in
+      (f x.0, ap (slice_get (each_at n f xs)) same ∙ here_changed n f xs x.0 here, subst (λ (k : ℕ). IsSeatOf (limited k) (f x.0) g) (sym same) own)
   | inr other ↦ let x = have m g at in (x.0, elsewhere n m f xs other ∙ x.1, x.2)
 ]
 
-pub lends_have : (b : Both) (e : LoanEvent) → LoanIsAsked e b → HaveLoans b.lending.loans b.world → HaveLoans (happens b.lending e).loans b.world
-lends_have b (Arrives n k line) asked have = have_if (has_turn b.lending.loans) b.lending.loans _ b.world
-    (no_guest_there n (arrived k line (next_turn b.lending.loans)) b.lending.loans b.world asked have) have
-lends_have b (Leaves n) asked have = no_guest_there n (λ _. vacant) b.lending.loans b.world asked have
-lends_have b (Gives n k) asked have = joins n k (gave k) b.lending.loans b.world (gave_loan k) asked have
-lends_have b (Asks n k) asked have = loan_events_leave_loans b.lending (Asks n k) b.world tt have
-lends_have b (Resets n line) asked have = loan_events_leave_loans b.lending (Resets n line) b.world tt have
-lends_have b (Grants n) asked have = loan_events_leave_loans b.lending (Grants n) b.world tt have
-lends_have b (Takes n k) asked have = loan_events_leave_loans b.lending (Takes n k) b.world tt have
-lends_have b (Uncounts n) asked have = loan_events_leave_loans b.lending (Uncounts n) b.world tt have
-lends_have b (Recounts n) asked have = loan_events_leave_loans b.lending (Recounts n) b.world tt have
-lends_have b (Figures n k) asked have = loan_events_leave_loans b.lending (Figures n k) b.world tt have
-lends_have b (Keeps n k) asked have = joins n k (retained k) b.lending.loans b.world (retained_loan k) asked have
-lends_have b (Withdraws n k) asked have = loan_events_leave_loans b.lending (Withdraws n k) b.world tt have
-lends_have b (Shrinks n k ballooned) asked have = no_guest_there n (shrunk k ballooned) b.lending.loans b.world asked have
-lends_have b (Grows n k line) asked have = have_if (has_turn b.lending.loans) b.lending.loans _ b.world
-    (no_guest_there n (grown k line (next_turn b.lending.loans)) b.lending.loans b.world asked have) have
-lends_have b (Budget frames) asked have = loan_events_leave_loans b.lending (Budget frames) b.world tt have
+pub lends_have : (limited : ℕ → Bool) (b : Both) (e : SeatEvent) → LoanIsAsked limited e b → HaveSeats limited b.lending.seats b.world
+    → HaveSeats limited (happens b.lending e).seats b.world
+lends_have limited b (Hears n r) asked have = told limited n (heard (next_turn b.lending.seats) r) b.lending.seats b.world asked have
+lends_have limited b (Grants n) asked have = seat_events_leave_seats limited b.lending (Grants n) b.world tt have
+lends_have limited b (Overdraws n) asked have = seat_events_leave_seats limited b.lending (Overdraws n) b.world tt have
+lends_have limited b (Wants n pages) asked have = seat_events_leave_seats limited b.lending (Wants n pages) b.world tt have
+lends_have limited b (Targets n) asked have = seat_events_leave_seats limited b.lending (Targets n) b.world tt have
+lends_have limited b (Arrives n pages ballooned) asked have = no_guest_there limited n (λ _. starting pages ballooned) b.lending.seats b.world asked have
+lends_have limited b (Joins n m) asked have = have_if limited (may_join_at b.lending.seats n m) b.lending.seats _ b.world
+    (no_guest_there limited m (λ _. newcomer 0) _ b.world asked.1
+    (no_guest_there limited n (grown (pages_at b.lending.seats m)) b.lending.seats b.world asked.0 have)) have
+lends_have limited b (TakesOver n pages r) asked have =
+    told limited n (λ _. queued (next_turn b.lending.seats) (taken_over pages r)) b.lending.seats b.world asked.0 have
+lends_have limited b (Uncounts n) asked have = seat_events_leave_seats limited b.lending (Uncounts n) b.world tt have
+lends_have limited b (Budget frames) asked have = seat_events_leave_seats limited b.lending (Budget frames) b.world tt have
+lends_have limited b (Prefers n) asked have = seat_events_leave_seats limited b.lending (Prefers n) b.world tt have
 
--- what is lent, the budget and the frames there are
-pub record IsWithin (l : Lending) (frames : ℕ) : Type 0 where
-  pub owed : owed l.loans ≤ l.frames
-  pub budget : l.frames ≤ frames
-
-ordinary_within : (l : Lending) (e : LoanEvent) (frames : ℕ) → IsOrdinary e → IsWithin l frames → IsWithin (happens l e) frames
-ordinary_within l e frames o h = record {
-  owed = omega (arith, lends_no_more l e o, frames_stay l e o, h.owed);
-  budget = omega (arith, frames_stay l e o, h.budget);
-}
-
-pub lends_within : (b : Both) (e : LoanEvent) → LoanIsAsked e b → IsWithin b.lending b.world.frames → IsWithin (happens b.lending e) b.world.frames
-lends_within b (Arrives n k line) asked h = ordinary_within b.lending (Arrives n k line) b.world.frames tt h
-lends_within b (Leaves n) asked h = ordinary_within b.lending (Leaves n) b.world.frames tt h
-lends_within b (Gives n k) asked h = ordinary_within b.lending (Gives n k) b.world.frames tt h
-lends_within b (Asks n k) asked h = ordinary_within b.lending (Asks n k) b.world.frames tt h
-lends_within b (Resets n line) asked h = ordinary_within b.lending (Resets n line) b.world.frames tt h
-lends_within b (Grants n) asked h = ordinary_within b.lending (Grants n) b.world.frames tt h
-lends_within b (Takes n k) asked h = ordinary_within b.lending (Takes n k) b.world.frames tt h
-lends_within b (Uncounts n) asked h = record { owed = asked; budget = h.budget }
-lends_within b (Recounts n) asked h = ordinary_within b.lending (Recounts n) b.world.frames tt h
-lends_within b (Figures n k) asked h = ordinary_within b.lending (Figures n k) b.world.frames tt h
-lends_within b (Keeps n k) asked h = ordinary_within b.lending (Keeps n k) b.world.frames tt h
-lends_within b (Withdraws n k) asked h = ordinary_within b.lending (Withdraws n k) b.world.frames tt h
-lends_within b (Shrinks n k ballooned) asked h = ordinary_within b.lending (Shrinks n k ballooned) b.world.frames tt h
-lends_within b (Grows n k line) asked h = ordinary_within b.lending (Grows n k line) b.world.frames tt h
-lends_within b (Budget frames) asked h = record { owed = asked.0; budget = asked.1 }
+pub stays_within : (limited : ℕ → Bool) (b : Both) (e : SeatEvent) → LoanIsAsked limited e b → IsWithin b.lending b.world.frames
+    → IsWithin (happens b.lending e) b.world.frames
+stays_within limited b (Hears n r) asked h = lends_within b.lending (Hears n r) b.world.frames h tt
+stays_within limited b (Grants n) asked h = lends_within b.lending (Grants n) b.world.frames h tt
+stays_within limited b (Overdraws n) asked h = lends_within b.lending (Overdraws n) b.world.frames h tt
+stays_within limited b (Wants n pages) asked h = lends_within b.lending (Wants n pages) b.world.frames h tt
+stays_within limited b (Targets n) asked h = lends_within b.lending (Targets n) b.world.frames h tt
+stays_within limited b (Arrives n pages ballooned) asked h = lends_within b.lending (Arrives n pages ballooned) b.world.frames h tt
+stays_within limited b (Joins n m) asked h = lends_within b.lending (Joins n m) b.world.frames h tt
+stays_within limited b (TakesOver n pages r) asked h = record { owed = asked.1; budget = h.budget }
+stays_within limited b (Uncounts n) asked h = record { owed = asked; budget = h.budget }
+stays_within limited b (Budget frames) asked h = record { owed = h.owed; budget = asked }
+stays_within limited b (Prefers n) asked h = lends_within b.lending (Prefers n) b.world.frames h tt
 
 -- ---- events of the host
 
--- the loan of a guest, whose pages stay, and of which as much counts
-loan_stays : (loans : List Loan) (n : ℕ) (old new : Guest) → (s : Loan) × (slice_get loans n ≡ Some s) × IsLoanOf s old
-    → new.config.pages ≡ old.config.pages → (ballooned_at loans n ≤ counted old → ballooned_at loans n ≤ counted new)
-    → (s : Loan) × (slice_get loans n ≡ Some s) × IsLoanOf s new
-loan_stays loans n old new x pages more =
-    let value = value_of (λ s. s.ballooned) loans n x.0 x.1 in
-    let least = more (omega (arith, value, x.2.ballooned)) in
-    (x.0, x.1, record { pages = x.2.pages ∙ sym pages; ballooned = omega (arith, value, least) })
-
-new_loan : (loans : List Loan) (n pages : ℕ) (g : Guest) → g.config.pages ≡ pages → 0 < pages
-    → pages_at loans n ≡ pages → ballooned_at loans n ≡ 0 → (s : Loan) × (slice_get loans n ≡ Some s) × IsLoanOf s g
-new_loan loans n pages g own some has none =
-    let x = loan_there (λ s. s.pages) loans n (omega (arith, some, has)) in (
+-- the seat of a guest, whose pages stay
+seat_stays : (limited : ℕ → Bool) (seats : List Seat) (n : ℕ) (old new : Guest) → (s : Seat) × (slice_get seats n ≡ Some s) × IsSeatOf (limited n) s old
+    → new.config.pages ≡ old.config.pages → (limited n ≡ false → reclaimed_at seats n ≤ counted old → reclaimed_at seats n ≤ counted new)
+    → (limited n ≡ true → backed_count old ≤ value_at lent seats n → backed_count new ≤ value_at lent seats n)
+    → (s : Seat) × (slice_get seats n ≡ Some s) × IsSeatOf (limited n) s new
+seat_stays limited seats n old new x pages more fewer =
+    let back = value_of reclaimed seats n x.0 x.1 in
+    let own = value_of lent seats n x.0 x.1 in (
       x.0,
       x.1,
       record {
-        pages = omega (arith, value_of (λ s. s.pages) loans n x.0 x.1, has, own);
-        ballooned = omega (arith, value_of (λ s. s.ballooned) loans n x.0 x.1, none);
+        pages = x.2.pages ∙ sym pages;
+        reclaimed = λ e. omega (arith, back, more e (omega (arith, back, x.2.reclaimed e)));
+        held = λ e. omega (arith, own, fewer e (omega (arith, own, x.2.held e)));
       },
     )
 
-pub plays_have : (w : World) (event : Event) (reply : Reply) (v : World) (loans : List Loan) → AllBare w → WorldStep w event reply v
-    → EventIsAsked event reply w loans → HaveLoans loans w → HaveLoans loans v
-plays_have w event reply v loans bare step asked have n g there = by (changes w event reply v n g step there) where
-  by : Change w event reply n g → (s : Loan) × (slice_get loans n ≡ Some s) × IsLoanOf s g
+seat_there : (f : Seat → ℕ) (seats : List Seat) (n : ℕ) → 0 < value_at f seats n → (s : Seat) × (slice_get seats n ≡ Some s)
+seat_there f [] n l = absurd (omega (arith, l))
+seat_there f (x ∷ xs) zero l = (x, refl)
+seat_there f (x ∷ xs) (suc n) l = seat_there f xs n l
+
+none_backed : (n : ℕ) → count_by (λ (frame : Option ℕ). is_some frame) (replicate n None) ≡ 0
+none_backed zero = refl
+none_backed (suc n) = omega (arith, count_by-cons (λ (frame : Option ℕ). is_some frame) None (replicate n None), none_backed n)
+
+new_seat : (limited : ℕ → Bool) (seats : List Seat) (n pages : ℕ) (g : Guest) → g.config.pages ≡ pages → 0 < pages → backed_count g ≡ 0
+    → pages_at seats n ≡ pages → (limited n ≡ false → reclaimed_at seats n ≡ 0)
+    → (s : Seat) × (slice_get seats n ≡ Some s) × IsSeatOf (limited n) s g
+new_seat limited seats n pages g own some bare has none =
+    let x = seat_there (λ s. s.pages) seats n (omega (arith, some, has)) in (
+      x.0,
+      x.1,
+      record {
+        pages = omega (arith, value_of (λ s. s.pages) seats n x.0 x.1, has, own);
+        reclaimed = λ e. omega (arith, value_of reclaimed seats n x.0 x.1, none e);
+        held = λ e. omega (arith, bare);
+      },
+    )
+
+pub plays_have : (limited : ℕ → Bool) (w : World) (event : Event) (reply : Reply) (v : World) (seats : List Seat) → AllBare w → WorldStep w event reply v
+    → EventIsAsked limited event reply w v seats → HaveSeats limited seats w → HaveSeats limited seats v
+plays_have limited w event reply v seats bare step asked have n g there = by (changes w event reply v n g step there) where
+  by : Change w event reply n g → (s : Seat) × (slice_get seats n ≡ Some s) × IsSeatOf (limited n) s g
   by (Untouched at) = have n g at
-  by (Retargeted old target at e) = loan_stays loans n old g (have n old at) (ap (λ (x : Guest). x.config.pages) e)
-      (λ l. omega (arith, l, ap counted e))
+  by (Retargeted old target at e) = seat_stays limited seats n old g (have n old at) (ap (λ (x : Guest). x.config.pages) e)
+      (λ f l. omega (arith, l, ap counted e)) (λ f l. omega (arith, l, ap backed_count e))
   by (Stepped old call claims on at gives s) =
-      let own = subst (λ (x : Event). EventIsAsked x reply w loans) on asked in
+      let own = subst (λ (x : Event). EventIsAsked limited x reply w v seats) on asked in
       let made = subst (λ (x : Event). WorldStep w x reply v) on step in
       let so = step_so w n call reply v old g bare made at there in
       let config = configurations_kept w event reply v n old g (record { step = step; before = at; after = there }) in
-      loan_stays loans n old g (have n old at) (ap (λ (c : Config). c.pages) config) (λ l. omega (arith, own old at, so.least))
+      seat_stays limited seats n old g (have n old at) (ap (λ (c : Config). c.pages) config)
+      (λ f l. omega (arith, own.asked f old at, so.least)) (λ f l. own.held f g there)
   by (Restarted old on at e) =
-      let own = subst (λ (x : Event). EventIsAsked x reply w loans) on asked in
+      let own = subst (λ (x : Event). EventIsAsked limited x reply w v seats) on asked in
       let config = configurations_kept w event reply v n old g (record { step = step; before = at; after = there }) in
-      loan_stays loans n old g (have n old at) (ap (λ (c : Config). c.pages) config) (λ l. omega (arith, own))
+      seat_stays limited seats n old g (have n old at) (ap (λ (c : Config). c.pages) config)
+      (λ f l. omega (arith, own.asked f)) (λ f l. own.held f g there)
   by (New config none e) =
       let c = comes event w reply v n g step none there in
-      let a = subst (λ (x : Event). EventIsAsked x reply w loans) c.event_is asked in
-      let own = subst (λ (x : Reply). EventIsAsked (Plug c.size) x w loans) c.reply_is a in
-      new_loan loans n c.size.pages g c.pages c.some own.0 own.1
+      let a = subst (λ (x : Event). EventIsAsked limited x reply w v seats) c.event_is asked in
+      let own = subst (λ (x : Reply). EventIsAsked limited (Plug c.size) x w v seats) c.reply_is a in
+      new_seat limited seats n c.size.pages g c.pages c.some (ap backed_count e ∙ none_backed config.pages) own.0 own.1

@@ -1,18 +1,18 @@
--- What keeps the loans those of the guests.
-use Rattle.std.proofs.Common.{◌≡◌, ℕ, zero, suc, ◌≤◌, Bool, true, false, cond, List, [], ◌∷◌, refl, ap, sym, subst, ◌∙◌, arith}
+-- What keeps the seats those of the guests.
+use Rattle.std.proofs.Common.{◌≡◌, ℕ, zero, suc, ◌≤◌, Bool, true, false, if◌then◌else◌, List, [], ◌∷◌, map, refl, ap, sym, subst, ◌∙◌, arith}
 use Rattle.std.specs.Prelude.{Some, slice_get}
 use Rattle.vb_model.proofs.Fates.{configurations_kept}
-use Rattle.vb_model.specs.Guest.{Config}
+use Rattle.vb_model.specs.Guest.{Config, Guest}
 use Rattle.vb_model.specs.World.{World}
-use Rattle.vb_lender.specs.declared.loan.Loan.{Loan}
-use Rattle.vb_lender.specs.declared.event.Event.TheVariants.{Arrives, Leaves, Gives, Asks, Resets, Grants, Takes, Uncounts, Recounts, Figures, Budget}
-use Rattle.vb_lender.specs.declared.event.Event.TheVariants.{Keeps, Withdraws, Shrinks, Grows}
-use Rattle.vb_lender.specs.Loans.{asking, figured, granted, may_ask, may_reset, may_take, may_uncount, recounted, resetting, took, uncounted, withdrawn}
-use Rattle.vb_lender.specs.Lending.{each_at, has_turn, may_grant, next_turn}
-use Rattle.vb_room.specs.Tie.{EventsLeaveLoans, HaveLoans, LoanEventsLeaveLoans}
+use Rattle.vb_host.proofs.LentBy.{retargets}
+use Rattle.vb_host.specs.declared.seat.Seat.{Seat}
+use Rattle.vb_host.specs.declared.event.Event.TheVariants.{Hears, Grants, Overdraws, Wants, Targets, Arrives, Joins, TakesOver, Uncounts, Budget, Prefers}
+use Rattle.vb_host.specs.Lending.{each_at, may_grant, may_overdraw, room}
+use Rattle.vb_host.specs.Seats.{granting, preferring, reclaimed, retargeted, uncounting}
+use Rattle.vb_room.specs.Tie.{EventsLeaveSeats, HaveSeats, IsSeatOf, SeatEventsLeaveSeats}
 
-pub events_leave_loans : EventsLeaveLoans
-events_leave_loans w event reply v loans step lowers have n g at =
+pub events_leave_seats : EventsLeaveSeats
+events_leave_seats limited w event reply v seats step lowers have n g at =
     let old = lowers n g at in
     let x = have n old.0 old.1 in
     let config = configurations_kept w event reply v n old.0 g (record { step = step; before = old.1; after = at }) in (
@@ -20,57 +20,79 @@ events_leave_loans w event reply v loans step lowers have n g at =
       x.1,
       record {
         pages = x.2.pages ∙ ap (λ (c : Config). c.pages) (sym config);
-        ballooned = omega (arith, x.2.ballooned, old.2);
+        reclaimed = λ e. omega (arith, x.2.reclaimed e, old.2);
+        held = λ e. omega (arith, x.2.held e, old.3);
       },
     )
 
--- it has as many pages, and no more of them ballooned
-pub record Less (s t : Loan) : Type 0 where
+-- it has as many pages, and no more of them are reclaimed
+pub record Less (s t : Seat) : Type 0 where
   pub pages : t.pages ≡ s.pages
-  pub ballooned : t.ballooned ≤ s.ballooned
+  pub reclaimed : reclaimed t ≤ reclaimed s
 
-less_same : (s : Loan) → Less s s
-less_same s = record { pages = refl; ballooned = omega arith }
+less_same : (s : Seat) → Less s s
+less_same s = record { pages = refl; reclaimed = omega arith }
 
-less_either : (b : Bool) (s t : Loan) → Less s t → Less s (cond b t s)
-less_either true s t h = h
-less_either false s t h = less_same s
+less_seat : (limited : Bool) (s t : Seat) (g : Guest) → Less s t → IsSeatOf limited s g → IsSeatOf limited t g
+less_seat limited s t g l h = record {
+  pages = l.pages ∙ h.pages;
+  reclaimed = λ e. omega (arith, l.reclaimed, h.reclaimed e);
+  held = λ e. omega (arith, l.pages, l.reclaimed, h.held e);
+}
 
--- what is at a number, after a change at one
-after : (n : ℕ) (f : Loan → Loan) (xs : List Loan) (m : ℕ) (s : Loan) → ((x : Loan) → Less x (f x)) → slice_get xs m ≡ Some s
-    → (t : Loan) × (slice_get (each_at n f xs) m ≡ Some t) × Less s t
+-- what is at a number, after a change at one, and of all
+after : (n : ℕ) (f : Seat → Seat) (xs : List Seat) (m : ℕ) (s : Seat) → ((x : Seat) → Less x (f x)) → slice_get xs m ≡ Some s
+    → (t : Seat) × (slice_get (each_at n f xs) m ≡ Some t) × Less s t
 after n f [] m s h e = absurd cc
-after zero f (x ∷ xs) zero s h e = (f x, refl, let same : x ≡ s = cc in subst (λ (y : Loan). Less y (f x)) same (h x))
+after zero f (x ∷ xs) zero s h e = (f x, refl, let same : x ≡ s = cc in subst (λ (y : Seat). Less y (f x)) same (h x))
 after zero f (x ∷ xs) (suc m) s h e = (s, e, less_same s)
 after (suc n) f (x ∷ xs) zero s h e = (s, e, less_same s)
 after (suc n) f (x ∷ xs) (suc m) s h e = after n f xs m s h e
 
-have_at : (n : ℕ) (f : Loan → Loan) (xs : List Loan) (w : World) → ((x : Loan) → Less x (f x)) → HaveLoans xs w → HaveLoans (each_at n f xs) w
-have_at n f xs w h have m g at =
+after_all : (f : Seat → Seat) (xs : List Seat) (m : ℕ) (s : Seat) → ((x : Seat) → Less x (f x)) → slice_get xs m ≡ Some s
+    → (t : Seat) × (slice_get (map f xs) m ≡ Some t) × Less s t
+after_all f [] m s h e = absurd cc
+after_all f (x ∷ xs) zero s h e = (f x, refl, let same : x ≡ s = cc in subst (λ (y : Seat). Less y (f x)) same (h x))
+after_all f (x ∷ xs) (suc m) s h e = after_all f xs m s h e
+
+have_at : (limited : ℕ → Bool) (n : ℕ) (f : Seat → Seat) (xs : List Seat) (w : World) → ((x : Seat) → Less x (f x)) → HaveSeats limited xs w
+    → HaveSeats limited (each_at n f xs) w
+have_at limited n f xs w h have m g at =
     let x = have m g at in
     let y = after n f xs m x.0 h x.1 in
-    (y.0, y.1, record { pages = y.2.pages ∙ x.2.pages; ballooned = omega (arith, y.2.ballooned, x.2.ballooned) })
+    (y.0, y.1, less_seat (limited m) x.0 y.0 g y.2 x.2)
 
-have_if : (b : Bool) (xs ys : List Loan) (w : World) → HaveLoans ys w → HaveLoans xs w → HaveLoans (cond b ys xs) w
-have_if true xs ys w a c = a
-have_if false xs ys w a c = c
+have_all : (limited : ℕ → Bool) (f : Seat → Seat) (xs : List Seat) (w : World) → ((x : Seat) → Less x (f x)) → HaveSeats limited xs w
+    → HaveSeats limited (map f xs) w
+have_all limited f xs w h have m g at =
+    let x = have m g at in
+    let y = after_all f xs m x.0 h x.1 in
+    (y.0, y.1, less_seat (limited m) x.0 y.0 g y.2 x.2)
 
-pub loan_events_leave_loans : LoanEventsLeaveLoans
-loan_events_leave_loans l (Arrives n k line) w o h = absurd o
-loan_events_leave_loans l (Leaves n) w o h = absurd o
-loan_events_leave_loans l (Gives n k) w o h = absurd o
-loan_events_leave_loans l (Asks n k) w o h = have_if (has_turn l.loans) l.loans _ w
-    (have_at n (asking k (next_turn l.loans)) l.loans w (λ s. less_either (may_ask k s) s _ (record { pages = refl; ballooned = omega arith })) h) h
-loan_events_leave_loans l (Resets n line) w o h = have_if (has_turn l.loans) l.loans _ w
-    (have_at n (resetting line (next_turn l.loans)) l.loans w (λ s. less_either (may_reset s) s _ (record { pages = refl; ballooned = omega arith })) h) h
-loan_events_leave_loans l (Grants n) w o h = have_if (may_grant l n) l.loans _ w
-    (have_at n granted l.loans w (λ s. record { pages = refl; ballooned = omega arith }) h) h
-loan_events_leave_loans l (Takes n k) w o h = have_at n (took k) l.loans w (λ s. less_either (may_take k s) s _ (record { pages = refl; ballooned = omega arith })) h
-loan_events_leave_loans l (Uncounts n) w o h = have_at n uncounted l.loans w (λ s. less_either (may_uncount s) s _ (record { pages = refl; ballooned = omega arith })) h
-loan_events_leave_loans l (Recounts n) w o h = have_at n recounted l.loans w (λ s. record { pages = refl; ballooned = omega arith }) h
-loan_events_leave_loans l (Figures n k) w o h = have_at n (figured k) l.loans w (λ s. record { pages = refl; ballooned = omega arith }) h
-loan_events_leave_loans l (Keeps n k) w o h = absurd o
-loan_events_leave_loans l (Withdraws n k) w o h = have_at n (withdrawn k) l.loans w (λ s. record { pages = refl; ballooned = omega arith }) h
-loan_events_leave_loans l (Shrinks n k b) w o h = absurd o
-loan_events_leave_loans l (Grows n k line) w o h = absurd o
-loan_events_leave_loans l (Budget frames) w o h = h
+pub have_if : (limited : ℕ → Bool) (b : Bool) (xs ys : List Seat) (w : World) → HaveSeats limited ys w → HaveSeats limited xs w
+    → HaveSeats limited (if b then ys else xs) w
+have_if limited true xs ys w a c = a
+have_if limited false xs ys w a c = c
+
+granting_less : (s : Seat) → Less s (granting s)
+granting_less s = record { pages = refl; reclaimed = omega arith }
+
+targets_less : (room : ℕ) (s : Seat) → Less s (retargeted room s)
+targets_less room s = retargets (λ (x : Seat). Less s x) room s (less_same s) (λ number. record { pages = refl; reclaimed = omega arith })
+
+prefers_less : (preferred : ℕ) (s : Seat) → Less s (preferring preferred s)
+prefers_less preferred s = record { pages = refl; reclaimed = omega arith }
+
+pub seat_events_leave_seats : SeatEventsLeaveSeats
+seat_events_leave_seats limited l (Hears n r) w o h = absurd o
+seat_events_leave_seats limited l (Grants n) w o h = have_if limited (may_grant l n) l.seats _ w (have_at limited n granting l.seats w granting_less h) h
+seat_events_leave_seats limited l (Overdraws n) w o h = have_if limited (may_overdraw l n) l.seats _ w (have_at limited n granting l.seats w granting_less h) h
+seat_events_leave_seats limited l (Wants n pages) w o h = have_at limited n (λ s. record s { wanted = pages }) l.seats w (λ s. record { pages = refl; reclaimed = omega arith }) h
+seat_events_leave_seats limited l (Targets n) w o h = have_at limited n (retargeted (room l)) l.seats w (targets_less (room l)) h
+seat_events_leave_seats limited l (Arrives n pages ballooned) w o h = absurd o
+seat_events_leave_seats limited l (Joins n m) w o h = absurd o
+seat_events_leave_seats limited l (TakesOver n pages r) w o h = absurd o
+seat_events_leave_seats limited l (Uncounts n) w o h = have_at limited n uncounting l.seats w (λ s. record { pages = refl; reclaimed = omega arith }) h
+seat_events_leave_seats limited l (Budget frames) w o h = h
+seat_events_leave_seats limited l (Prefers n) w o h =
+    have_at limited n (preferring 1) (map (preferring 0) l.seats) w (prefers_less 1) (have_all limited (preferring 0) l.seats w (prefers_less 0) h)
