@@ -5,6 +5,7 @@
 #include "vb.h"
 #include "vb_host.h"
 #include "vb_lending.h"
+#include "vb_policy.h"
 
 #define REFERENCE(call) extern __typeof__(vb_##call) reference_##call
 
@@ -66,4 +67,6 @@ REFERENCE(seat_asked);
 REFERENCE(seat_waits);
 REFERENCE(seat_due_target);
 REFERENCE(seat_due_grant);
+REFERENCE(policy_tiers);
+REFERENCE(policy_decide);
 #endif

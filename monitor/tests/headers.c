@@ -2,6 +2,7 @@
 #include "balloon.h"
 #include "vb_host.h"
 #include "vb_lending.h"
+#include "vb_policy.h"
 
 /* Each call is taken by its address, so that one whose body doesn't compile is found. */
 int main(void)
@@ -12,5 +13,5 @@ int main(void)
     return (int)(balloon_save(none, &byte, 0) + balloon_restore(none, &byte, 0) +
                  balloon_write_status(none, 0, &result) + balloon_ask_statistics(none).code +
                  balloon_set_regions(none, 0, 0) + vb_loan_owed(0, 0) + vb_host_owed(0, 0) +
-                 vb_version());
+                 vb_policy_decide(0, 0, 0, 0, 0, 0, 0).code + vb_version());
 }

@@ -11,3 +11,4 @@ pub mod Queues
 pub mod Lending
 pub mod Seats
 pub mod Hosting
+pub mod Policy

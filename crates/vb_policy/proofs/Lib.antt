@@ -9,5 +9,6 @@ pub mod Fairness
 pub mod Later
 pub mod Alike
 pub mod Rest
+pub mod Joins
 mod DivisionFacts
 mod TargetFacts

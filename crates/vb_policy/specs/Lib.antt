@@ -3,3 +3,5 @@ pub mod Divisions
 pub mod Settling
 pub mod Decisions
 pub mod Laws
+pub mod Needs
+pub mod Asking

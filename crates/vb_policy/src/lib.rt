@@ -2,7 +2,9 @@
 //! nothing before page cache, and page cache before reserves; by weight; moving few targets.
 #![tactic(auto)]
 
+mod asking;
 mod decision;
+mod figures;
 mod guest;
 mod laws;
 mod level;
@@ -11,7 +13,9 @@ mod settle;
 mod tests;
 mod tiers;
 
+pub use asking::ask;
 pub use decision::decide;
+pub use figures::{Budget, Contact, Figures};
 pub use guest::{Decision, Division, Guest, Host, Tier};
 pub use laws::{
     decisions_rest, no_more_than_asked, nobody_waits_in_vain, order_of_guests_is_free,

@@ -1,0 +1,134 @@
+/* Bigvasta: which guest of a host is asked for how much: memory that guests use for nothing before
+ * page cache, page cache before their reserves, and within each in equal parts by weight. A part of
+ * the library of vb.h. The library keeps nothing, and any numbers may be passed: of what a guest
+ * says no more counts than its pages. All numbers count pages unless it is said.
+ */
+#ifndef VB_POLICY_H
+#define VB_POLICY_H
+#include "vb.h"
+
+#ifdef __cplusplus
+extern "C" {
+#define VB_ASSERT(what) static_assert(what, #what)
+#else
+#define VB_ASSERT(what) _Static_assert(what, #what)
+#endif
+
+/* Whether a guest's word on its memory is at hand. Any other number is VB_CONTACT_STARTS. */
+enum {
+    VB_CONTACT_STARTS = 0, /* its driver isn't ready: it counts for all its pages, and gives none */
+    VB_CONTACT_SILENT = 1, /* its statistics are too old: it counts for what it holds and has given,
+                              and gives what it has given */
+    VB_CONTACT_HEARD = 2,  /* its statistics are recent */
+    /* it has gone, and its memory isn't freed yet: it counts for what it holds */
+    VB_CONTACT_AWAY = 3,
+};
+
+/* What a host knows of a guest. */
+typedef struct {
+    uint32_t pages;          /* its memory */
+    uint32_t held;           /* the frames that it holds, by the host's own count */
+    uint32_t ballooned;      /* in its balloon now */
+    uint32_t ballooned_then; /* in its balloon when its last statistics were made */
+    uint32_t available; /* by these statistics; of a guest that doesn't tell that, what is free */
+    uint32_t free; /* by these: used for nothing, nor for page cache; UINT32_MAX where they don't
+                      say it */
+    uint32_t lent, asked; /* of a strict guest: the frames that it was lent, and waits for */
+    uint32_t least;       /* how many pages always stay to it, as far as it has them */
+    uint32_t most;     /* what it has above these is asked of it, whatever the host lacks, as far as
+                          it can give it and doesn't wait */
+    uint32_t weight;   /* its part of what needn't be given; 0 counts as 1 */
+    uint32_t priority; /* within each tier those of a lower one give first */
+    uint32_t target;   /* its target so far */
+    uint16_t contact;  /* VB_CONTACT_STARTS .. */
+    /* Unless 0: it uses no frames but those that it is lent; its balloon doesn't count. Either
+     * counts for all its pages. */
+    uint16_t strict, uncounted;
+    uint16_t paused; /* unless 0: it isn't asked for more than it has given, since it has just taken
+                         pages by itself */
+    uint16_t pressed; /* unless 0: its own work waits for memory. It isn't asked for more of its
+                         unused memory and page cache than it has given, and gets its part at once */
+    uint16_t first;   /* unless 0: it waits first of all */
+} VbFigures;
+
+/* What a host has for its guests together, and what each of them is to keep. */
+typedef struct {
+    uint32_t frames;  /* for all guests */
+    uint32_t floor;   /* to stay available in each guest */
+    uint32_t slack;   /* too few to change a target for */
+    uint32_t reserve; /* of each guest's page cache, as long as others have any: percent of its
+                         pages; at most 100 count */
+    uint32_t band;    /* percent: who has less than this of its part gets its part; at most 100
+                         count */
+} VbPolicyBudget;
+
+/* Up to which tier guests give. */
+enum {
+    VB_TIER_NONE = 0,    /* nothing is missing */
+    VB_TIER_UNUSED = 1,  /* memory that they use for nothing */
+    VB_TIER_CACHE = 2,   /* page cache beside their reserves */
+    VB_TIER_RESERVE = 3, /* their reserves: all above the floor */
+    VB_TIER_SHORT = 4,   /* all that they can give isn't enough */
+};
+
+/* What a guest counts for, and how many pages it can give up to and with each tier; and with the
+ * floor less the slack. */
+typedef struct {
+    uint32_t pages, unused, cached, spare, most;
+} VbTiers;
+
+/* Room for a guest in a decision. Nothing is kept there. */
+typedef struct {
+    uint32_t numbers[7];
+    uint8_t flag;
+} VbPolicyRoom;
+
+typedef struct {
+    uint32_t code, tier;
+    uint64_t missing; /* the pages that stay missing; 0 unless VB_TIER_SHORT */
+} VbDecision;
+
+VB_ASSERT(sizeof(VbFigures) == 64 && offsetof(VbFigures, held) == 4);
+VB_ASSERT(offsetof(VbFigures, ballooned) == 8 && offsetof(VbFigures, ballooned_then) == 12);
+VB_ASSERT(offsetof(VbFigures, available) == 16 && offsetof(VbFigures, free) == 20);
+VB_ASSERT(offsetof(VbFigures, lent) == 24 && offsetof(VbFigures, asked) == 28);
+VB_ASSERT(offsetof(VbFigures, least) == 32 && offsetof(VbFigures, most) == 36);
+VB_ASSERT(offsetof(VbFigures, weight) == 40 && offsetof(VbFigures, priority) == 44);
+VB_ASSERT(offsetof(VbFigures, target) == 48 && offsetof(VbFigures, contact) == 52);
+VB_ASSERT(offsetof(VbFigures, strict) == 54 && offsetof(VbFigures, uncounted) == 56);
+VB_ASSERT(offsetof(VbFigures, paused) == 58 && offsetof(VbFigures, pressed) == 60);
+VB_ASSERT(offsetof(VbFigures, first) == 62 && sizeof(VbPolicyBudget) == 20);
+VB_ASSERT(offsetof(VbPolicyBudget, floor) == 4 && offsetof(VbPolicyBudget, slack) == 8);
+VB_ASSERT(offsetof(VbPolicyBudget, reserve) == 12 && offsetof(VbPolicyBudget, band) == 16);
+VB_ASSERT(sizeof(VbTiers) == 20 && offsetof(VbTiers, unused) == 4);
+VB_ASSERT(offsetof(VbTiers, cached) == 8 && offsetof(VbTiers, spare) == 12);
+VB_ASSERT(offsetof(VbTiers, most) == 16 && sizeof(VbPolicyRoom) == 32);
+VB_ASSERT(sizeof(VbDecision) == 16 && offsetof(VbDecision, tier) == 4);
+VB_ASSERT(offsetof(VbDecision, missing) == 8);
+
+/* What a guest counts for, and what it can give. A guest whose statistics are recent gives what it
+ * doesn't use, what was in its balloon then included, but for what stays: of its available memory
+ * the floor (spare), and its reserve (cached); of its free memory half of the floor, and at least a
+ * 512th of its pages (unused). A strict one that waits gives what stays in its balloon when it has
+ * what it waits for, and one whose balloon doesn't count nothing. Its least pages stay to it. */
+VbTiers vb_policy_tiers(const VbPolicyBudget *budget, const VbFigures *figures);
+
+/* Puts a target for each guest into `targets`, so that what the guests count for without their
+ * targets is no more than the frames. The first tier that suffices is given by lower priorities
+ * first; of it the guests of the last class keep equal parts by weight. A guest whose target so far
+ * is more than it can give with the floor less the slack, or leaves it less than the band of its
+ * part by more than the slack, gets its part; others keep their targets, or rise no further than
+ * leaves enough. VB_OK and the tier; VB_SHORT, VB_TIER_SHORT and what is missing where all that
+ * they can give isn't enough. Then each is asked for that, unless all targets so far are within the
+ * slack of it and nobody waits. While one waits on a short host the first that waits is served
+ * alone: the others that wait keep what they were lent, and those that don't wait are asked for all
+ * but a quarter of the floor. VB_BAD_ARGUMENT where rooms aren't count; then nothing is changed. */
+VbDecision vb_policy_decide(const VbPolicyBudget *budget, const VbFigures *figures, size_t count,
+                            VbPolicyRoom *rooms, size_t rooms_count, uint32_t *targets,
+                            size_t targets_count);
+
+#undef VB_ASSERT
+#ifdef __cplusplus
+}
+#endif
+#endif

@@ -1,0 +1,18 @@
+/* A host's policy by the comments of vb_policy.h: decisions by rows that were worked out by hand,
+ * and random ones beside the plain implementation, which has to decide the same.
+ *
+ *     policy [DECISIONS]
+ */
+#include "policy/policy.h"
+#include <stdlib.h>
+
+enum { DECISIONS = 30000 };
+
+int main(int count, char **words)
+{
+    check_rows();
+    check_tiers();
+    check_refused();
+    check_chance(count > 1 ? strtoull(words[1], NULL, 10) : DECISIONS);
+    return 0;
+}
