@@ -1,6 +1,7 @@
 /* A lender, fuzzed: any messages of three guests' processes, which may obey it, or lie, or go; and
- * budgets, floors and terms that change. After each step nobody waits who could be granted, and in
- * the end no file is left open. */
+ * budgets, floors and terms that change. After each step what is lent to guests that wait for it is
+ * within the budget, whatever others do; each that waits has its place in line or its answer; nobody
+ * waits who could be granted, nor who never can; no sum wraps. In the end no file is left open. */
 #define _GNU_SOURCE
 #include "../../backends/host/places.h"
 #include "script.h"
@@ -12,11 +13,26 @@
 
 enum { SEATS = 3, FRAMES = 512, PERIOD = 200, MOST_READ = 8, STEP_MS = 50, TELLS_IN = 500 };
 
+/* Orders that a process has heard and not obeyed yet, at most. */
+enum { MOST_ORDERS = 64 };
+
 struct script script;
 
 static struct host host;
 static int processes[SEATS]; /* their ends of the channels; -1: none */
 static struct lending_message reports[SEATS];
+
+/* What a process has heard; the numbers of the last wait that was answered, and of the last deflate
+ * that was granted. */
+static struct {
+    struct lending_message orders[MOST_ORDERS];
+    unsigned count;
+    uint32_t answered, granted;
+} heard[SEATS];
+
+static bool adopted[SEATS];  /* its process is an earlier lender's: what it has nobody granted */
+static uint32_t most_frames; /* the largest budget that there was */
+static uint64_t lent_before; /* to those that wait, after the step before */
 static struct timespec now;
 
 int __wrap_clock_gettime(clockid_t clock, struct timespec *time);
@@ -39,7 +55,7 @@ static void hush(enum saying saying, const char *words)
 }
 
 /* A process begins, as a new one or as an earlier lender's. */
-static void process_begins(unsigned number, bool adopted)
+static void process_begins(unsigned number, bool is_adopted)
 {
     struct seat *seat = host.seats[number];
     int ends[2];
@@ -51,7 +67,8 @@ static void process_begins(unsigned number, bool adopted)
     seat->channel = ends[0];
     processes[number] = ends[1];
     seat->here = true;
-    seat->adopts = seat->asks_terms = adopted;
+    seat->adopts = seat->asks_terms = adopted[number] = is_adopted;
+    heard[number].count = heard[number].answered = heard[number].granted = 0;
     seat->adopts_until = loop_now() + TELLS_IN;
     seat->holds = seat->terms.strict;
     reports[number] = (struct lending_message){.kind = TELL_REPORT, .holds = seat->holds};
@@ -83,7 +100,7 @@ static void change_report(struct lending_message *report)
     else if (what < 12)
         *words[what - 6] = is_wild ? 3 : value % 3;
     else if (what == 12)
-        report->wait++, report->held_wait++;
+        report->wait += value % 3 != 1, report->held_wait += value % 3 != 2;
     else if (what == 13)
         report->terms = (struct kept_terms){value % 64, value, value % 3, value % 2};
     else if (what == 14)
@@ -116,24 +133,42 @@ static void process_tells(unsigned number)
          MSG_DONTWAIT | MSG_NOSIGNAL);
 }
 
-/* A process obeys its orders, as far as the script says. */
-static void process_obeys(unsigned number)
+/* A process hears its orders. */
+static void process_hears(unsigned number)
 {
-    struct lending_message order, *report = &reports[number];
+    struct lending_message order;
     while (processes[number] >= 0 && lending_read(processes[number], &order) > 0) {
         demand(order.kind >= ORDER_LOOK && order.kind <= ORDER_LEAVE);
-        if (order.kind == ORDER_TARGET)
-            report->target = order.target;
-        if (order.kind == ORDER_ADMIT && report->waits == WAIT_ROOM && order.wait == report->wait)
-            report->pages = report->wanted;
         if (order.kind == ORDER_ADMIT || order.kind == ORDER_REFUSE)
-            report->waits = WAIT_NOTHING;
-        if (order.kind == ORDER_GRANT && order.wait == report->held_wait) {
-            report->ballooned -=
-                report->held_pages < report->ballooned ? report->held_pages : report->ballooned;
-            report->held_pages = 0;
-        }
+            heard[number].answered = order.wait;
+        if (order.kind == ORDER_GRANT)
+            heard[number].granted = order.wait;
+        if (heard[number].count < MOST_ORDERS)
+            heard[number].orders[heard[number].count++] = order;
     }
+}
+
+static void obey(struct lending_message *report, const struct lending_message *order)
+{
+    if (order->kind == ORDER_TARGET)
+        report->target = order->target;
+    if (order->kind == ORDER_ADMIT && report->waits == WAIT_ROOM && order->wait == report->wait)
+        report->pages = report->wanted;
+    if (order->kind == ORDER_ADMIT || order->kind == ORDER_REFUSE)
+        report->waits = WAIT_NOTHING;
+    if (order->kind == ORDER_GRANT && order->wait == report->held_wait) {
+        report->ballooned -=
+            report->held_pages < report->ballooned ? report->held_pages : report->ballooned;
+        report->held_pages = 0;
+    }
+}
+
+/* A process obeys what it has heard. */
+static void process_obeys(unsigned number)
+{
+    for (unsigned i = 0; i < heard[number].count; i++)
+        obey(&reports[number], &heard[number].orders[i]);
+    heard[number].count = 0;
 }
 
 /* A line of the operator's. */
@@ -186,10 +221,14 @@ static void serve(void)
     places_follow_budget(&host);
     if (host.news)
         policy_decide(&host);
+    most_frames = host.frames > most_frames ? host.frames : most_frames;
+    for (unsigned i = 0; i < SEATS; i++)
+        process_hears(i);
 }
 
-/* Nobody waits who could be granted, and nobody has more pages than there may be. */
-static void check_places(void)
+/* Nobody waits who could be granted, nor for more than there ever was; and nobody has more pages
+ * than there may be. */
+static void check_line(void)
 {
     size_t first = vb_host_first(host.places, host.place_count);
     uint32_t asked = first == SIZE_MAX ? 0 : vb_seat_asked(&host.places[first]);
@@ -197,9 +236,55 @@ static void check_places(void)
     for (unsigned i = 0; i < MOST_PLACES; i++) {
         const VbSeat *its = &host.places[i];
         demand(its->pages <= MOST_SET && (!vb_seat_waits(its) || vb_seat_asked(its) > 0));
+        demand(its->granted > 0 || vb_seat_asked(its) <= most_frames);
     }
+}
+
+/* Whether all that a guest has was granted: its process holds deflates, and isn't one that an
+ * earlier lender has left, nor was it seen to take pages. */
+static bool is_granted(unsigned number)
+{
+    const struct seat *seat = host.seats[number];
+    return seat->holds && !adopted[number] && !place_of(seat)->uncounted;
+}
+
+/* Whoever takes pages, or has them of an earlier lender: the others are lent no more together than
+ * there is, but for what they were lent of a larger budget. */
+static void check_budget(void)
+{
+    uint64_t lent = 0;
     for (unsigned i = 0; i < SEATS; i++)
-        demand(host_held(&host) >= host.seats[i]->report.held_kib);
+        lent += is_granted(i) ? seat_lent(host.seats[i]) : 0;
+    demand(lent <= (uint64_t)host.lends.frames + host.lends.overdraft || lent <= lent_before);
+    lent_before = lent;
+}
+
+/* A guest whose process waits, by the last report that is believed, has its place in line, or its
+ * process was answered by the number of that wait. */
+static void check_wait(unsigned number)
+{
+    const struct seat *seat = host.seats[number];
+    const struct lending_message *report = &seat->report;
+    bool is_in = seat_pages(seat) > 0;
+    bool holds_answer =
+        report->waits == WAIT_ROOM ? report->wanted > 0 : report->waits == WAIT_RESET && is_in;
+    bool was_answered = holds_answer && heard[number].answered == report->wait;
+    bool was_granted = report->held_pages > 0 && heard[number].granted == report->held_wait;
+    bool is_in_line = vb_seat_waits(place_of(seat)) ||
+                      (seat->added != NO_PLACE && vb_seat_waits(&host.places[seat->added]));
+    bool is_heard = seat->holds && seat_is_taken(seat) && seat->channel >= 0 && seat->lost == 0;
+    bool waits = holds_answer || (report->held_pages > 0 && is_in);
+    demand(!is_heard || !waits || is_in_line || was_answered || was_granted);
+}
+
+static void check(void)
+{
+    check_line();
+    check_budget();
+    for (unsigned i = 0; i < SEATS; i++) {
+        check_wait(i);
+        demand(host.seats[i]->report.held_kib / PAGE_KIB <= UINT32_MAX);
+    }
 }
 
 static void act(void)
@@ -245,7 +330,8 @@ static void begin(void)
     memset(host.places, 0, sizeof host.places);
     host.lends = (VbHost){0};
     now = (struct timespec){1, 0};
-    host.frames = FRAMES;
+    host.frames = most_frames = FRAMES;
+    lent_before = 0;
     host.floor = kind / 16;
     host.period = PERIOD;
     host.step = kind & 8 ? 8 : 0;
@@ -269,7 +355,7 @@ int LLVMFuzzerTestOneInput(const uint8_t *data, size_t size)
     while (script_goes_on()) {
         act();
         serve();
-        check_places();
+        check();
     }
     for (unsigned i = 0; i < SEATS; i++)
         process_goes(i);
