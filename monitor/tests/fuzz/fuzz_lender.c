@@ -1,9 +1,11 @@
 /* A lender, fuzzed: any messages of three guests' processes, which may obey it, or lie, or go; and
  * budgets, floors and terms that change. After each step what is lent to guests that wait for it is
- * within the budget, whatever others do; each that waits has its place in line or its answer; nobody
- * waits who could be granted, nor who never can; no sum wraps. In the end no file is left open. */
+ * within the budget, whatever others do; each that waits has its place in line or its answer;
+ * nobody waits who could be granted, nor who never can; no sum wraps. In the end no file is left
+ * open. */
 #define _GNU_SOURCE
 #include "../../backends/host/places.h"
+#include "process.h"
 #include "script.h"
 
 #include <stddef.h>
@@ -13,23 +15,10 @@
 
 enum { SEATS = 3, FRAMES = 512, PERIOD = 200, MOST_READ = 8, STEP_MS = 50, TELLS_IN = 500 };
 
-/* Orders that a process has heard and not obeyed yet, at most. */
-enum { MOST_ORDERS = 64 };
-
 struct script script;
 
 static struct host host;
-static int processes[SEATS]; /* their ends of the channels; -1: none */
-static struct lending_message reports[SEATS];
-
-/* What a process has heard; the numbers of the last wait that was answered, and of the last deflate
- * that was granted. */
-static struct {
-    struct lending_message orders[MOST_ORDERS];
-    unsigned count;
-    uint32_t answered, granted;
-} heard[SEATS];
-
+static struct process processes[SEATS];
 static bool adopted[SEATS];  /* its process is an earlier lender's: what it has nobody granted */
 static uint32_t most_frames; /* the largest budget that there was */
 static uint64_t lent_before; /* to those that wait, after the step before */
@@ -65,110 +54,12 @@ static void process_begins(unsigned number, bool is_adopted)
            lending_names_senders(ends[0]));
     seat_clear(seat);
     seat->channel = ends[0];
-    processes[number] = ends[1];
     seat->here = true;
     seat->adopts = seat->asks_terms = adopted[number] = is_adopted;
-    heard[number].count = heard[number].answered = heard[number].granted = 0;
     seat->adopts_until = loop_now() + TELLS_IN;
     seat->holds = seat->terms.strict;
-    reports[number] = (struct lending_message){.kind = TELL_REPORT, .holds = seat->holds};
-}
-
-static void process_goes(unsigned number)
-{
-    if (processes[number] >= 0)
-        close(processes[number]);
-    processes[number] = -1;
-}
-
-/* One more of what a report says is as the script has it. */
-static void change_report(struct lending_message *report)
-{
-    uint32_t *const numbers[] = {&report->pages,      &report->wanted, &report->ballooned,
-                                 &report->held_pages, &report->target, &report->obeyed};
-    uint32_t *const words[] = {&report->ready,     &report->waits, &report->taken_since,
-                               &report->has_terms, &report->holds, &report->status};
-    unsigned what = next_below(16), value = next_byte();
-    bool is_wild = value >= 250;
-    if (what == 0 && !is_wild)
-        report->pages =
-            report->pages > 0 ? value % report->pages : 0; /* more, and its service ends */
-    else if (what == 10)
-        report->holds ^= is_wild;
-    else if (what < 6)
-        *numbers[what] = is_wild ? next_u32() : value;
-    else if (what < 12)
-        *words[what - 6] = is_wild ? 3 : value % 3;
-    else if (what == 12)
-        report->wait += value % 3 != 1, report->held_wait += value % 3 != 2;
-    else if (what == 13)
-        report->terms = (struct kept_terms){value % 64, value, value % 3, value % 2};
-    else if (what == 14)
-        report->counters.statistics++,
-            report->figures[0] =
-                (VbStatistic){.tag = 4 + value % 3, .value = value * UINT64_C(4096)};
-    else
-        report->counters.taken += value,
-            report->held_kib = is_wild ? (uint64_t)next_u32() << 32 : value * 4;
-    report->figure_count = what == 14 ? value % 40 : report->figure_count;
-}
-
-/* A process reports what it is, after some changes; or says something else. */
-static void process_tells(unsigned number)
-{
-    struct lending_message *report = &reports[number], other;
-    for (unsigned changes = next_below(4); changes > 0; changes--)
-        change_report(report);
-    unsigned kind = next_byte();
-    report->number = kind % 2 ? host.seats[number]->number : 0;
-    other = *report;
-    if (kind < 200) {
-        lending_send(processes[number], report);
-        return;
-    }
-    other.kind = kind % 16;
-    next_bytes(other.words, 16);
-    other.version = LENDING_VERSION + (kind == 254);
-    send(processes[number], &other, kind == 255 ? next_byte() : sizeof other,
-         MSG_DONTWAIT | MSG_NOSIGNAL);
-}
-
-/* A process hears its orders. */
-static void process_hears(unsigned number)
-{
-    struct lending_message order;
-    while (processes[number] >= 0 && lending_read(processes[number], &order) > 0) {
-        demand(order.kind >= ORDER_LOOK && order.kind <= ORDER_LEAVE);
-        if (order.kind == ORDER_ADMIT || order.kind == ORDER_REFUSE)
-            heard[number].answered = order.wait;
-        if (order.kind == ORDER_GRANT)
-            heard[number].granted = order.wait;
-        if (heard[number].count < MOST_ORDERS)
-            heard[number].orders[heard[number].count++] = order;
-    }
-}
-
-static void obey(struct lending_message *report, const struct lending_message *order)
-{
-    if (order->kind == ORDER_TARGET)
-        report->target = order->target;
-    if (order->kind == ORDER_ADMIT && report->waits == WAIT_ROOM && order->wait == report->wait)
-        report->pages = report->wanted;
-    if (order->kind == ORDER_ADMIT || order->kind == ORDER_REFUSE)
-        report->waits = WAIT_NOTHING;
-    if (order->kind == ORDER_GRANT && order->wait == report->held_wait) {
-        report->ballooned -=
-            report->held_pages < report->ballooned ? report->held_pages : report->ballooned;
-        report->held_pages = 0;
-    }
-}
-
-/* A process obeys what it has heard. */
-static void process_obeys(unsigned number)
-{
-    for (unsigned i = 0; i < heard[number].count; i++)
-        obey(&reports[number], &heard[number].orders[i]);
-    heard[number].count = 0;
+    processes[number] =
+        (struct process){.channel = ends[1], .report = {.kind = TELL_REPORT, .holds = seat->holds}};
 }
 
 /* A line of the operator's. */
@@ -223,7 +114,7 @@ static void serve(void)
         policy_decide(&host);
     most_frames = host.frames > most_frames ? host.frames : most_frames;
     for (unsigned i = 0; i < SEATS; i++)
-        process_hears(i);
+        process_hears(&processes[i]);
 }
 
 /* Nobody waits who could be granted, nor for more than there ever was; and nobody has more pages
@@ -248,7 +139,7 @@ static bool is_granted(unsigned number)
     return seat->holds && !adopted[number] && !place_of(seat)->uncounted;
 }
 
-/* Whoever takes pages, or has them of an earlier lender: the others are lent no more together than
+/* Whatever a guest takes, or has of an earlier lender: the others are lent no more together than
  * there is, but for what they were lent of a larger budget. */
 static void check_budget(void)
 {
@@ -268,8 +159,8 @@ static void check_wait(unsigned number)
     bool is_in = seat_pages(seat) > 0;
     bool holds_answer =
         report->waits == WAIT_ROOM ? report->wanted > 0 : report->waits == WAIT_RESET && is_in;
-    bool was_answered = holds_answer && heard[number].answered == report->wait;
-    bool was_granted = report->held_pages > 0 && heard[number].granted == report->held_wait;
+    bool was_answered = holds_answer && processes[number].answered == report->wait;
+    bool was_granted = report->held_pages > 0 && processes[number].granted == report->held_wait;
     bool is_in_line = vb_seat_waits(place_of(seat)) ||
                       (seat->added != NO_PLACE && vb_seat_waits(&host.places[seat->added]));
     bool is_heard = seat->holds && seat_is_taken(seat) && seat->channel >= 0 && seat->lost == 0;
@@ -292,11 +183,11 @@ static void act(void)
     unsigned what = next_byte(), number = what / 16 % SEATS;
     what %= 16;
     if (what < 8)
-        process_tells(number);
+        process_tells(&processes[number], host.seats[number]->number);
     else if (what < 11)
-        process_obeys(number);
+        process_obeys(&processes[number]);
     else if (what == 11)
-        process_goes(number);
+        process_goes(&processes[number]);
     else if (what == 12)
         process_begins(number, next_byte() % 4 == 0);
     else if (what == 13)
@@ -358,7 +249,7 @@ int LLVMFuzzerTestOneInput(const uint8_t *data, size_t size)
         check();
     }
     for (unsigned i = 0; i < SEATS; i++)
-        process_goes(i);
+        process_goes(&processes[i]);
     serve();
     int after = dup(STDIN_FILENO);
     close(after);
