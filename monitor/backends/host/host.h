@@ -154,9 +154,11 @@ struct input {
 
 /* A line whose answer waits for new reports. */
 struct question {
-    char line[256];  /* empty: none */
-    uint64_t number; /* reports with a later number are new */
-    uint64_t ask;    /* the number of the order to ask a guest, and whether it could be asked */
+    char line[256];        /* empty: none */
+    uint64_t number;       /* reports with a later number are new */
+    const struct seat *of; /* the guest that is asked; the number of that order, and whether it
+                              could be asked */
+    uint64_t ask;
     bool asked;
     int64_t until;
 };

@@ -256,6 +256,7 @@ static bool wants_reports(struct host *host, const char *line)
     if (seat &&
         (!strcmp(rest, "counters") || !strcmp(rest, "statistics") || !strcmp(rest, "ask"))) {
         seat_look(seat, !strcmp(rest, "ask"));
+        host->question.of = seat;
         host->question.ask = seat->number;
         host->question.asked = false;
         return seat_is_taken(seat);

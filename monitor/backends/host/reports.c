@@ -144,18 +144,26 @@ static void pass_on(struct seat *seat)
         host_changed(seat->host, BY_GUESTS);
 }
 
-static void take_report(struct seat *seat, const struct lending_message *message)
+/* It answers this order, which was given to it; 0: none. */
+static void take_answer(struct seat *seat, uint64_t number, bool asked)
 {
     struct question *question = &seat->host->question;
+    if (number == 0 || number > seat->number)
+        return;
+    if (number == seat->number)
+        seat->asked_at = 0;
+    seat->answered = number > seat->answered ? number : seat->answered;
+    if (number == question->ask && seat == question->of)
+        question->asked = asked;
+}
+
+static void take_report(struct seat *seat, const struct lending_message *message)
+{
     uint32_t brought = brings(seat, message);
     seat_waits(seat, message);
     seat->report = *message;
     check_version(seat->report.words);
-    if (message->number == seat->number)
-        seat->asked_at = 0;
-    seat->answered = message->number > seat->answered ? message->number : seat->answered;
-    if (message->number != 0 && message->number == question->ask)
-        question->asked = message->asked;
+    take_answer(seat, message->number, message->asked != 0);
     if (seat->adopts)
         adopt(seat);
     take_note(seat);

@@ -5,10 +5,12 @@ import contextlib
 import os
 import re
 import signal
+import threading
+import time
 
 import pytest
 from played import TELL_REMARK, WAIT_ROOM, Listens, Played
-from tenants import FREE, eventually
+from tenants import FREE, eventually, go_on, process_of, stop
 from test_later_states import seen
 from test_strict import GIVEN, STRICT, lent, used
 from vhost_client import DEFLATE, PAGE
@@ -76,6 +78,32 @@ def test_a_flood_of_words_hides_none_of_the_lenders(lend):
     assert noise[0] == "a: noise?b: has taken 1 pages unasked ?[2J0"
     assert all(it.startswith("a: noise?b: has taken") for it in noise) and len(noise) < MANY
     a.channel.close()
+
+
+def test_a_process_answers_for_its_own_guest_alone(lend, come):
+    lender = lend(1, *STRICT)
+    come(lender, "b", {FREE: 100})
+    a, process = Played(lender, "a", pages=ALL), process_of(lender, "b")
+    stop(process)
+    try:
+        ends = threading.Event()
+        answers = threading.Thread(target=answer_all, args=(a, ends))
+        answers.start()
+        assert [lender.ask("b ask") for _ in range(5)] == 5 * ["nothing"]
+        ends.set(), answers.join()
+        lender.become("b", reports=0)
+    finally:
+        go_on(process)
+    a.leave()
+
+
+def answer_all(played, ends):
+    """Answers orders that were given to others."""
+    number = 0
+    while not ends.is_set():
+        number = number % 300 + 1
+        played.report(number=number, asked=1)
+        time.sleep(0.001)
 
 
 def test_the_first_report_to_a_later_lender_is_bounded(lend):
