@@ -10,7 +10,9 @@ from mutants import demand_refused
 # Each wrong event loop, and the test that has to refuse it; tests/vhost_user has others, by the
 # backend of one guest.
 LOOPS = {
-    "late-removal": "test_turns.py::test_a_client_is_taken_once_while_turns_follow_at_once",
+    "late-removal": (
+        "test_processes.py::test_a_client_is_taken_once_however_late_its_process_takes_it"
+    ),
     "old-number": (
         "test_processes.py::"
         "test_who_comes_once_another_has_gone_is_heard_by_files_of_the_same_numbers"

@@ -2,6 +2,7 @@
 
 import os
 import signal
+import socket
 import subprocess
 import time
 
@@ -52,6 +53,27 @@ def test_the_lender_has_no_file_of_a_client(lend, come):
     assert links == ["anon_inode", "socket"]  # its process, and the channel to it
     with open(f"/proc/{lender.process.pid}/maps", encoding="ascii") as maps:
         assert "memfd" not in maps.read()
+
+
+# A guest's process that takes its client late.
+LATE = """#!/bin/sh
+sleep 0.5
+exec {}/vhost_user_balloon "$@"
+"""
+
+
+def test_a_client_is_taken_once_however_late_its_process_takes_it(lend, plain, tmp_path):
+    program = tmp_path / "late"
+    program.write_text(LATE.format(os.path.dirname(plain)))
+    program.chmod(0o755)
+    lender = lend(5, "--program", str(program))
+    counters = lambda: lender.status()["guests"][0]["counters"]["clients"]
+    lender.add("a")
+    with socket.socket(socket.AF_UNIX) as client:
+        client.connect(f"{lender.folder}/a")
+        eventually(counters)
+        assert [counters() for _ in range(20)] == 20 * [1]
+        assert lender.guests()["a"]["here"] == 1
 
 
 def test_another_process_goes_on_where_one_is_killed(lend, come):

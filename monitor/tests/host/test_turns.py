@@ -163,17 +163,6 @@ def test_one_process_is_started_in_a_turn(lend):
         eventually(lambda: all(clients_of(lender).values()), "somebody's client isn't taken")
 
 
-def test_a_client_is_taken_once_while_turns_follow_at_once(lend):
-    lender = lend(5)
-    lender.add("a")
-    stop(lender.process.pid)
-    eventually(lambda: status_of(lender.process.pid)["State"].startswith("T"))
-    with clients_that_ask(lender, asks(b"status")) as clients, connect(lender, "a"):
-        go_on(lender.process.pid)
-        read_lines(clients, CLIENTS)
-        assert clients_of(lender) == {"a": 1}
-
-
 def test_who_comes_seldom_comes_first(lend):
     lender = lend(64)
     for it in ("a", "b", "c"):
