@@ -248,8 +248,9 @@ def test_a_process_that_ends_again_and_again_is_not_started_anew(lend, cutting):
     client = Client(lender.add("cut-always"), lambda: "")
     assert client.socket.recv(1) == b""
     lender.become("cut-always", here=0)
+    # No signal of its own ends the first process of a namespace: abort() ends it by a fault.
     assert lender.said()[-2:] == [
-        "cut-always: its process has ended by signal 6",
+        "cut-always: its process has ended by signal 11",
         "gone cut-always",
     ]
 
