@@ -5,7 +5,6 @@ import json
 import os
 import socket
 import stat
-import time
 
 import pytest
 from bigvasta.statuses import Refused
@@ -220,14 +219,6 @@ def test_a_line_of_the_most_bytes_and_one_more(host, raw):
     }
     assert raw.lines.readline() == b""
     assert host.status()["control"]["clients"] == 1
-
-
-def test_a_line_that_is_too_long_by_its_second_part(host, raw):
-    raw.socket.sendall(b"x")  # its answer may be lost, as bytes are left that nobody reads
-    time.sleep(0.3)
-    raw.socket.sendall(b"x" * 4096)
-    eventually(lambda: host.status()["control"]["refused"] == 1)
-    eventually(lambda: host.status()["control"]["clients"] == 1)
 
 
 def test_who_ends_what_it_sends_is_answered_and_then_closed(raw):

@@ -1,7 +1,8 @@
-"""A client of a control socket that leaves answers unread, though no more than it may, and then
-reads them: again and again."""
+"""What is left unread at a control socket: answers, by a client that then reads them, again and
+again, and what a client sends beyond the longest line."""
 
 import json
+import time
 
 from hosts import Raw, say
 from waiting import eventually
@@ -25,4 +26,15 @@ def test_what_was_left_unread_is_read_in_order(host):
             *range(turn * count, (turn + 1) * count)
         ]
     assert host.status()["control"]["dropped"] == 0
+    client.close()
+
+
+def test_a_line_that_is_too_long_by_its_second_part(host):
+    """Its answer may be lost, as bytes are left that nobody reads."""
+    client = Raw(host.control)
+    client.socket.sendall(b"x")
+    time.sleep(0.3)
+    client.socket.sendall(b"x" * 4096)
+    eventually(lambda: host.status()["control"]["refused"] == 1)
+    eventually(lambda: host.status()["control"]["clients"] == 1)
     client.close()

@@ -2,6 +2,7 @@
 
 import socket
 
+import linux_kit
 from tenants import eventually
 from test_anew import WIDE
 from vhost_client import GET_FEATURES, Client
@@ -10,7 +11,8 @@ from vhost_client import GET_FEATURES, Client
 PLACES = 40
 
 
-def test_a_process_that_is_cut_off_before_an_answer_that_nobody_takes(lend, cutting):
+def test_a_process_that_is_cut_off_before_an_answer_that_nobody_takes(lend):
+    cutting = linux_kit.built("cut/vhost_user_balloon")
     lender = lend(64, *WIDE, "--lines", "10000", "--program", cutting)
     for place in range(1, PLACES):
         client = Client(lender.add(f"cut-{place}"), lambda: "")
