@@ -46,9 +46,10 @@ typedef struct {
     uint16_t strict, uncounted;
     uint16_t paused; /* unless 0: it isn't asked for more than it has given, since it has just taken
                          pages by itself */
-    uint16_t pressed; /* unless 0: its own work waits for memory. It isn't asked for more of its
-                         unused memory and page cache than it has given, and gets its part at once */
-    uint16_t first;   /* unless 0: it waits first of all */
+    /* Unless 0: its own work waits for memory. It isn't asked for more of its unused memory and
+     * page cache than it has given, and gets its part at once. */
+    uint16_t pressed;
+    uint16_t first; /* unless 0: it waits first of all */
 } VbFigures;
 
 /* What a host has for its guests together, and what each of them is to keep. */

@@ -102,7 +102,7 @@ struct level {
     Sum kept;
 };
 
-/* While the first that waits is served, what others wait for behind it isn't looked at, and a
+/* While the first that waits is served, what others wait for after it isn't looked at, and a
  * quarter of the floor stays in those that don't wait. */
 static Sum yielded(const VbPolicyBudget *budget, const VbFigures *it)
 {

@@ -127,7 +127,7 @@ last_of b g = gives (is_paused g) (b.floor / 4) g.available g
 abbrev pub waits_behind : Figures → Bool
 waits_behind g = waits g && g.first == 0
 
--- What a guest that waits behind another has stays to it, and of the others a quarter of the floor.
+-- What a guest that waits after another has stays to it, and of the others a quarter of the floor.
 abbrev pub yields : Budget → Figures → ℕ
 yields b g =
     if waits_behind g then min (g.pages - g.lent) (counts g - g.least) else last_of b g

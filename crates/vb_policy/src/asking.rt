@@ -128,7 +128,7 @@ fn serve_starved(
 }
 
 /// Puts a target for each guest into `targets`: what is forced by its most, and what `decide` has
-/// beside that. While a guest waits on a short host, what others wait for behind the first of them
+/// beside that. While a guest waits on a short host, what others wait for after the first of them
 /// isn't looked at, and those that don't wait are asked for all but a quarter of their floor. What
 /// `guests` has before doesn't matter.
 pub fn ask(

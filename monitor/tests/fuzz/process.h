@@ -1,5 +1,5 @@
-/* A guest's process of a lender that is fuzzed: what it reports, which a script says, and what it has
- * heard. */
+/* A guest's process of a lender that is fuzzed: what it reports, which a script says, and what it
+ * has heard. */
 #ifndef FUZZ_PROCESS_H
 #define FUZZ_PROCESS_H
 #include "../../backends/host/message.h"
