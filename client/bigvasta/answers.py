@@ -97,7 +97,7 @@ GUEST = {
         "most": is_limit,
         "strict": is_flag,
         "limit": is_text_or_null,
-        **fields(Maybe(is_limit), "user memory"),
+        **fields(Maybe(is_limit), "user memory start"),
     },
     "counters": fields(
         is_count, "inflated deflated reported taken granted clients lost limit_failures"

@@ -47,10 +47,12 @@ TERMS = {
     "limit": kernel_limit,
     "user": user,
     "memory": limit,
+    "start": limit,
 }
 TERMS_HELP = (
     "least=SIZE most=SIZE|none priority=N strict=yes|no overhead=SIZE "
-    "limit=cgroup:PATH|tmpfs:MOUNT|none user=USER|none memory=SIZE|none"
+    "limit=cgroup:PATH|tmpfs:MOUNT|none user=USER|none memory=SIZE|none "
+    "start=SIZE|none"
 )
 TARGET = {"target": parse_size}
 

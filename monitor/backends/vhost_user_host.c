@@ -15,7 +15,7 @@
  *     add NAME [TERMS]    a guest may come to the socket FOLDER/NAME, and again once it has gone
  *     terms NAME TERMS    its terms are these from now on: least=MIB, most=MIB, priority=NUMBER,
  *                         strict=0 or 1, overhead=MIB, limit=cgroup:PATH or limit=tmpfs:MOUNT,
- *                         user=NAME or NUMBER, memory=MIB
+ *                         user=NAME or NUMBER, memory=MIB, start=MIB
  *     remove NAME         its service ends
  *     budget MIB          the host is to hold no more than this
  *     floor MIB           what each guest keeps free

@@ -29,6 +29,8 @@ def describe(guest):
         yield f"  {'user':<10} {terms['user']:>8}"
     if terms.get("memory") is not None:
         yield f"  {'at most':<10} {mebibytes(terms['memory']):>8} MiB of memory"
+    if terms.get("start") is not None:
+        yield f"  {'start':<10} {mebibytes(terms['start']):>8} MiB"
     if wait_of(guest):
         yield f"  waits for  {wait_of(guest)}"
 

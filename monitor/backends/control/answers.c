@@ -29,10 +29,11 @@ static json_t *answer_terms(const struct guest_terms *terms)
     char words[MOST_LIMIT_WORDS];
     const char *its = terms->limit.kind == LIMIT_NONE ? NULL : limit_words(&terms->limit, words);
     json_t *user = terms->user == ANY_USER ? json_null() : count(terms->user);
-    return json_pack("{s:o, s:o, s:o, s:b, s:o, s:s?, s:o, s:o}", "least", part_bytes(terms->least),
-                     "most", limit(terms->most), "priority", count(terms->priority), "strict",
-                     terms->strict, "overhead", part_bytes(terms->overhead), "limit", its, "user",
-                     user, "memory", limit(terms->memory));
+    return json_pack("{s:o, s:o, s:o, s:b, s:o, s:s?, s:o, s:o, s:o}", "least",
+                     part_bytes(terms->least), "most", limit(terms->most), "priority",
+                     count(terms->priority), "strict", terms->strict, "overhead",
+                     part_bytes(terms->overhead), "limit", its, "user", user, "memory",
+                     limit(terms->memory), "start", limit(terms->start));
 }
 
 static json_t *answer_guest_counters(const struct guest_view *guest)

@@ -81,13 +81,15 @@ static struct guest_terms terms_of(const json_t *fields, struct guest_terms term
         terms.user = field_user(fields, "user");
     if (field_is_there(fields, "memory"))
         terms.memory = field_pages(fields, "memory");
+    if (field_is_there(fields, "start"))
+        terms.start = field_pages(fields, "start");
     return terms;
 }
 
 static bool changes_terms(const json_t *fields)
 {
-    static const char *const names[] = {"least",    "most",  "priority", "strict",
-                                        "overhead", "limit", "user",     "memory"};
+    static const char *const names[] = {"least", "most", "priority", "strict", "overhead",
+                                        "limit", "user", "memory",   "start"};
     for (unsigned i = 0; i < sizeof names / sizeof names[0]; i++)
         if (field_is_there(fields, names[i]))
             return true;
@@ -103,8 +105,6 @@ static const char *change(const struct asked *asked, const struct guest_view *gu
     struct guest_terms terms = terms_of(fields, guest->terms);
     char name[64];
     snprintf(name, sizeof name, "%s", guest->name);
-    if (terms.least > terms.most)
-        return "its least is more than its most";
     const char *fault = has_terms ? host_refuses(asked->host, name, &terms) : NULL;
     if (!fault && has_target)
         fault = host_set_target(asked->host, name, field_pages(fields, "target"));
@@ -138,8 +138,6 @@ static json_t *add(const struct asked *asked)
 {
     const char *name = field_name(asked->fields, "name");
     struct guest_terms terms = terms_of(asked->fields, host_usual_terms(asked->host));
-    if (terms.least > terms.most)
-        return outcome("its least is more than its most");
     if (host_find(asked->host, name) >= 0)
         return request_refusal("guest-exists", "name", "a guest is named %s already", name);
     const char *fault = host_add(asked->host, name, &terms);
@@ -214,7 +212,7 @@ static json_t *follow(const struct asked *asked)
     {"priority", FIELD_NUMBER, .effect = CHANGES, .least = 0, .most = UINT32_MAX}, \
     {"overhead", FIELD_BYTES, .effect = CHANGES}, \
     {"limit", FIELD_KERNEL_LIMIT, .effect = CHANGES}, {"user", FIELD_USER, .effect = CHANGES}, \
-    {"memory", FIELD_LIMIT, .effect = CHANGES}
+    {"memory", FIELD_LIMIT, .effect = CHANGES}, {"start", FIELD_LIMIT, .effect = CHANGES}
 /* clang-format on */
 
 static const struct kind kinds[] = {

@@ -56,6 +56,7 @@ void kept_save(struct lent *lent)
     state->socket = backend->socket;
     state->channel = backend->channel;
     state->outcome = backend->outcome;
+    state->awaited = lent->awaited;
     state->messages = lent->messages;
     state->bytes = lent->bytes;
     __atomic_store_n(&lent->kept->counts, other, __ATOMIC_RELEASE);
@@ -98,6 +99,7 @@ bool kept_restore(struct lent *lent)
     struct backend *backend = &lent->backend;
     VbDevice *device = &backend->balloon.state.device;
     lent->notes = state->notes;
+    lent->awaited = state->awaited;
     lent->messages = state->messages;
     lent->bytes = state->bytes;
     backend->socket = state->socket;

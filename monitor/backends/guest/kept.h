@@ -56,6 +56,7 @@ struct kept_state {
     uint64_t set_words;
     int socket, channel;      /* the client's, and the one on which it is told things */
     enum outcome outcome;     /* of the message in the inbox */
+    uint32_t awaited;         /* 0.3.0 has a gap of zeros here */
     uint64_t messages, bytes; /* that were served */
 };
 

@@ -26,6 +26,7 @@ static bool admit(struct backend *backend)
         return refuse("there is no room for the set of its pages");
     lent->news |= pages != lent->notes.pages;
     lent->notes.pages = (uint32_t)pages;
+    awaited_note(lent);
     return true;
 }
 

@@ -23,7 +23,10 @@ struct lent {
     bool regains;   /* the deflate that the process before held is still to be found */
     /* the deflate that is held names no page: it is given back without a grant */
     bool asks_nothing;
-    uint32_t wanted; /* pages for which it waits, and for what */
+    uint32_t awaited; /* that count in its balloon at least, as its guest has started without them,
+                         and its driver hasn't put as many there yet */
+    uint32_t returns; /* as many fewer of them are wanted: a deflate of these is held */
+    uint32_t wanted;  /* pages for which it waits, and for what */
     enum lending_wait waits;
     int answered; /* 1: they may be had; -1: they may not; 0: it waits */
 };
@@ -38,6 +41,23 @@ enum { ENDS_ANEW = 75 };
  * leave; returns the program's status. ENDS_ANEW: another process is to go on, and nothing was
  * closed. */
 int lent_run(const struct options *options, struct kept *kept);
+
+/* ---- awaited.c */
+
+/* The pages that count in its balloon; and what of it waits for grants. */
+uint32_t lent_ballooned(const struct lent *lent);
+enum lending_hold lent_hold(const struct lent *lent);
+
+/* It starts, or begins anew, while these count in its balloon; whether it does: added memory has
+ * them in it already. */
+bool awaited_begin(struct lent *lent, uint32_t pages);
+
+/* Notes what its driver has put into the balloon, and holds a deflate of awaited pages that the
+ * host doesn't want there any longer. */
+void awaited_note(struct lent *lent);
+
+/* These pages have left the balloon by a grant. */
+void awaited_leave(struct lent *lent, uint32_t pages);
 
 /* ---- lent_channel.c */
 

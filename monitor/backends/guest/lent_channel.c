@@ -69,13 +69,13 @@ void lent_report(struct lent *lent, uint64_t number, bool asked)
                                       .pages = lent->notes.pages,
                                       .wanted = lent->wanted,
                                       .wait = lent->notes.wait,
-                                      .holds = backend->options->holds,
-                                      .held_pages = lent->notes.held_pages,
+                                      .holds = lent_hold(lent),
+                                      .held_pages = lent->notes.held_pages + lent->returns,
                                       .held_wait = lent->notes.held_wait,
                                       .waits = lent->waits,
                                       .target = device->target,
                                       .actual = device->actual,
-                                      .ballooned = backend_given(backend),
+                                      .ballooned = lent_ballooned(lent),
                                       .status = device->status,
                                       .ready = backend_is_ready(backend),
                                       .obeyed = lent->notes.reads ? obeyed_target(lent) + 1 : 0,
@@ -118,6 +118,7 @@ void lent_note(struct lent *lent)
     if (taken)
         lent->notes.taken_since = true;
     uint32_t pages;
+    awaited_note(lent);
     if (lent->notes.held_pages > 0 && !balloon_held_deflate(&backend->balloon, &pages))
         lent->notes.held_pages = 0, lent->news = true; /* its queue was stopped */
     lent->news |= backend->options->holds && backend->ballooned != lent->notes.ballooned_before;
@@ -167,8 +168,11 @@ static void remind(struct lent *lent)
 /* What the lender says of pages that are waited for: it tells itself why they aren't to be had. */
 static void take_answer(struct lent *lent, const struct lending_message *order)
 {
-    if (lent->waits != WAIT_NOTHING && order->wait == lent->notes.wait)
-        lent->answered = order->kind == ORDER_REFUSE ? -1 : 1;
+    if (lent->waits == WAIT_NOTHING || order->wait != lent->notes.wait)
+        return;
+    lent->answered = order->kind == ORDER_REFUSE ? -1 : 1;
+    if (order->kind == ORDER_ADMIT && awaited_begin(lent, order->ballooned))
+        set_target(lent, order->target);
 }
 
 void lent_holds(struct backend *backend, uint32_t pages)
@@ -178,6 +182,7 @@ void lent_holds(struct backend *backend, uint32_t pages)
     lent->asks_nothing = pages == 0;
     lent->notes.held_wait += lent->regains ? 0 : 1;
     lent->regains = false;
+    lent->returns = 0;
     lent->news = true;
     lent->report_at = 0;
 }
@@ -188,9 +193,8 @@ bool lent_give(struct lent *lent)
 {
     lent->kept->granted = lent->notes.held_wait;
     __atomic_thread_fence(__ATOMIC_RELEASE);
+    awaited_leave(lent, lent->notes.held_pages);
     lent->notes.held_pages = 0;
-    lent->news = true;
-    lent->report_at = 0;
     return backend_give(&lent->backend);
 }
 
@@ -198,9 +202,11 @@ bool lent_give(struct lent *lent)
  * longer. */
 static bool give(struct lent *lent, const struct lending_message *order)
 {
-    if (lent->notes.held_pages == 0 || order->wait != lent->notes.held_wait)
+    if (order->wait != lent->notes.held_wait)
         return true;
-    return lent_give(lent);
+    if (lent->returns > 0)
+        awaited_leave(lent, lent->returns);
+    return lent->notes.held_pages == 0 || lent_give(lent);
 }
 
 /* Reports to the lender; where the guest could be asked, once it has answered, or hasn't for a

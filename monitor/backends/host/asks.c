@@ -16,6 +16,31 @@ static bool is_same(struct ask one, struct ask other)
     return one.what == other.what && one.number == other.number;
 }
 
+/* Whether it waits with the memory that it comes with. */
+static bool comes(const struct seat *seat)
+{
+    return seat->report.waits == WAIT_ROOM && seat->report.pages == 0;
+}
+
+bool ask_starts_small(const struct seat *seat)
+{
+    bool is_about_to = comes(seat) && is_let_in(seat) && place_of(seat)->ballooned > 0;
+    return is_about_to || seat->report.holds == HAS_STARTED_SMALL;
+}
+
+uint32_t ask_without(const struct seat *seat, uint32_t pages)
+{
+    uint32_t most = smaller(seat->terms.start, seat->terms.most);
+    bool can = seat->terms.limit.kind != LIMIT_NONE && seat->report.holds >= MAY_START_SMALL;
+    return can ? pages - smaller(pages, most) : 0;
+}
+
+uint32_t ask_of_reset(const struct seat *seat)
+{
+    uint32_t ballooned = seat->report.ballooned;
+    return ballooned - smaller(ballooned, ask_without(seat, place_of(seat)->pages));
+}
+
 struct ask ask_of(const struct seat *seat)
 {
     const struct lending_message *message = &seat->report;
@@ -24,7 +49,7 @@ struct ask ask_of(const struct seat *seat)
     bool was_granted = is_same(seat->ask, deflate) && place_of(seat)->granted == seat->asks;
     if (deflate.what == WAITS_FOR_DEFLATE && was_granted)
         return deflate;
-    if (message->waits == WAIT_RESET)
+    if (message->waits == WAIT_RESET && ask_of_reset(seat) > 0)
         return (struct ask){WAITS_FOR_RESET, message->wait};
     if (message->waits == WAIT_ROOM && !is_let_in(seat))
         return (struct ask){WAITS_FOR_ROOM, message->wait};
@@ -63,16 +88,16 @@ static uint32_t read_target(const struct seat *seat)
     return lingers ? target ^ 1 : target;
 }
 
-/* The pages of the deflate that it asks for: a reset takes all that is in its balloon, and is
- * granted by number also where that is empty. */
+/* The pages of the deflate that it asks for. */
 static uint32_t held_pages(const struct seat *seat, enum guest_wait what)
 {
     const struct lending_message *message = &seat->report;
+    const VbSeat *its = place_of(seat);
     const uint32_t pages[] = {
         [WAITS_FOR_NOTHING] = 0,
-        [WAITS_FOR_ROOM] = place_of(seat)->pages,
+        [WAITS_FOR_ROOM] = its->pages - ask_without(seat, its->pages),
         [WAITS_FOR_DEFLATE] = message->held_pages,
-        [WAITS_FOR_RESET] = message->ballooned > 0 ? message->ballooned : 1,
+        [WAITS_FOR_RESET] = ask_of_reset(seat),
     };
     return pages[what];
 }
@@ -86,7 +111,7 @@ VbReport ask_report(const struct seat *seat)
     const VbSeat *its = place_of(seat);
     enum guest_wait what = ask_of(seat).what;
     bool is_smaller = message->waits != WAIT_ROOM && message->pages < its->pages;
-    return (VbReport){.ballooned = what == WAITS_FOR_ROOM ? its->pages : message->ballooned,
+    return (VbReport){.ballooned = comes(seat) ? its->ballooned : message->ballooned,
                       .target = message->target,
                       .read_target = read_target(seat),
                       .held = held_pages(seat, what),

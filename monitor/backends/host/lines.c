@@ -83,7 +83,7 @@ static void set_pages(struct host *host, const char *word,
 
 static const char no_terms[] = "a name, and of least=MIB, most=MIB, priority=NUMBER, strict=0 or "
                                "1, overhead=MIB, limit=cgroup:PATH or tmpfs:MOUNT, user=NAME, "
-                               "memory=MIB what is wanted";
+                               "memory=MIB, start=MIB what is wanted";
 
 /* Reads one of the words of a guest's terms; NULL, or why it is none. */
 static const char *read_term(struct guest_terms *terms, const char *word)
@@ -94,7 +94,8 @@ static const char *read_term(struct guest_terms *terms, const char *word)
     } sizes[] = {{"least=", &terms->least},
                  {"most=", &terms->most},
                  {"overhead=", &terms->overhead},
-                 {"memory=", &terms->memory}};
+                 {"memory=", &terms->memory},
+                 {"start=", &terms->start}};
     uint64_t number;
     for (unsigned i = 0; i < sizeof sizes / sizeof sizes[0]; i++)
         if (!strncmp(word, sizes[i].name, strlen(sizes[i].name)))

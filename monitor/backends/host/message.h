@@ -32,6 +32,11 @@ enum lending_kind {
 /* For what a guest's process waits before it answers its client. */
 enum lending_wait { WAIT_NOTHING, WAIT_ROOM, WAIT_RESET };
 
+/* What of a guest waits for its grant: nothing; its deflates and resets, of a process of 0.3.0; and
+ * it may start with less than its memory; it has, and its driver hasn't put as much into the
+ * balloon yet. */
+enum lending_hold { HOLDS_NOTHING, HOLDS_DEFLATES, MAY_START_SMALL, HAS_STARTED_SMALL };
+
 /* The terms that a process of 0.3.0 keeps for the lender that comes after its own. */
 struct kept_terms {
     uint32_t least, most, priority, strict;
@@ -46,10 +51,11 @@ struct lending_message {
     uint32_t pages;         /* of its memory that has room */
     uint32_t wanted;        /* pages that it waits for */
     uint32_t wait;          /* how many times it has waited: the answer has the same number */
-    uint32_t holds;         /* its deflates and resets wait for their grant */
+    uint32_t holds;         /* enum lending_hold */
     uint32_t held_pages;    /* pages of the deflate that is held; 0: none is */
     uint32_t held_wait;     /* how many were held: the grant has the same number */
     uint32_t waits;         /* enum lending_wait */
+    /* Of an order to admit: what counts in its balloon from then on, and its target. */
     uint32_t target, actual, ballooned, status, ready;
     union {
         uint32_t asks;   /* of an order: whether to ask for statistics */

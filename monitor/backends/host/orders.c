@@ -61,13 +61,14 @@ static bool goes_by_steps(const struct seat *seat)
 }
 
 /* What is wanted of it without steps: what was decided. Of a guest whose driver isn't there nothing
- * is lent for a target, as nobody could take it. */
+ * is lent for a target, as nobody could take it; one that wasn't let in comes with what it does. */
 static uint32_t all_wanted(const struct seat *seat)
 {
     const VbSeat *its = place_of(seat);
     uint32_t given = smaller(its->ballooned, its->least_target);
-    bool is_idle = seat->holds && its->granted > 0 && !seat_is_ready(seat);
-    return is_idle && given > seat->target ? given : seat->target;
+    if (seat->holds && its->granted == 0)
+        return its->wanted;
+    return seat->holds && !seat_is_ready(seat) && given > seat->target ? given : seat->target;
 }
 
 void seat_set_target(struct seat *seat, uint32_t pages)
@@ -107,26 +108,39 @@ void seat_leave(struct seat *seat)
     order(seat, &message);
 }
 
+/* It may go on, with these pages in its balloon. */
+static void admit(struct seat *seat, uint32_t ballooned)
+{
+    struct lending_message message = {.kind = ORDER_ADMIT,
+                                      .wait = seat->report.wait,
+                                      .ballooned = ballooned,
+                                      .target = seat_told(seat)};
+    order(seat, &message);
+}
+
 /* Answers its process, which waits for room: there is none, or what it waits for has room. */
 static void answer_room(struct seat *seat)
 {
     const struct lending_message *report = &seat->report;
-    bool has_room = place_of(seat)->granted > 0 && report->wanted <= seat_pages(seat);
-    struct lending_message message = {.kind = has_room ? ORDER_ADMIT : ORDER_REFUSE,
-                                      .wait = report->wait};
-    if (has_room)
+    struct lending_message refuses = {.kind = ORDER_REFUSE, .wait = report->wait};
+    if (place_of(seat)->granted > 0 && report->wanted <= seat_pages(seat)) {
         folder_keep_pages(seat);
-    if (has_room ? limit_allows(seat) : seat->refused)
-        order(seat, &message);
+        if (limit_allows(seat))
+            admit(seat, place_of(seat)->ballooned);
+    } else if (seat->refused) {
+        order(seat, &refuses);
+    }
 }
 
 /* Grants what it asks for: its reset, or its deflate. */
 static void grant(struct seat *seat)
 {
     struct ask ask = ask_of(seat);
-    struct lending_message message = {
-        .kind = ask.what == WAITS_FOR_DEFLATE ? ORDER_GRANT : ORDER_ADMIT, .wait = ask.number};
-    order(seat, &message);
+    struct lending_message message = {.kind = ORDER_GRANT, .wait = ask.number};
+    if (ask.what == WAITS_FOR_DEFLATE)
+        order(seat, &message);
+    else
+        admit(seat, place_of(seat)->ballooned);
 }
 
 void seat_repeat(struct seat *seat)
@@ -134,6 +148,8 @@ void seat_repeat(struct seat *seat)
     VbReport report = ask_report(seat);
     if (seat->report.waits == WAIT_ROOM)
         answer_room(seat);
+    if (seat->report.waits == WAIT_RESET && ask_of_reset(seat) == 0)
+        admit(seat, seat->report.ballooned);
     if (seat->holds && vb_seat_due_grant(place_of(seat), &report) && limit_allows(seat))
         grant(seat);
 }

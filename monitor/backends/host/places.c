@@ -108,9 +108,11 @@ static void happens(struct host *host, VbHostEvent event)
         join(seat);
 }
 
-static void arrive(struct seat *seat, size_t place, uint32_t pages)
+static void arrive(struct seat *seat, size_t place, uint32_t pages, uint32_t without)
 {
-    happens(seat->host, (VbHostEvent){.kind = VB_ARRIVES, .guest = place, .pages = pages});
+    happens(
+        seat->host,
+        (VbHostEvent){.kind = VB_ARRIVES, .guest = place, .pages = pages, .ballooned = without});
 }
 
 void places_follow_budget(struct host *host)
@@ -156,7 +158,7 @@ static void drop_added(struct seat *seat)
 {
     if (seat->added == NO_PLACE)
         return;
-    arrive(seat, seat->added, 0);
+    arrive(seat, seat->added, 0, 0);
     seat->added = NO_PLACE;
 }
 
@@ -187,7 +189,7 @@ static void hear_of_added(struct seat *seat, uint32_t pages)
         seat->added = free_place(seat->host);
     VbReport report = {.ballooned = pages, .held = pages, .line = VB_LINE_ARRIVALS, .deflates = 1};
     if (seat->host->places[seat->added].pages != pages) {
-        arrive(seat, seat->added, pages);
+        arrive(seat, seat->added, pages, 0);
         host_changed(seat->host, BY_GUESTS);
     }
     happens(seat->host, (VbHostEvent){.kind = VB_HEARS, .guest = seat->added, .report = report});
@@ -213,9 +215,9 @@ static void hear(struct seat *seat)
 /* A guest that isn't let in yet. */
 static void hear_newcomer(struct seat *seat)
 {
-    uint32_t wanted = room_wanted(seat);
-    if (place_of(seat)->pages != wanted)
-        arrive(seat, seat->place, wanted);
+    uint32_t wanted = room_wanted(seat), without = ask_without(seat, wanted);
+    if (place_of(seat)->pages != wanted || place_of(seat)->wanted != without)
+        arrive(seat, seat->place, wanted, without);
     if (wanted > 0)
         hear(seat);
 }
@@ -270,7 +272,7 @@ void place_takes_over(struct seat *seat)
 {
     const struct lending_message *message = &seat->report;
     if (message->pages == 0) {
-        arrive(seat, seat->place, 0);
+        arrive(seat, seat->place, 0, 0);
         return;
     }
     VbReport report = {.ballooned = message->ballooned,
@@ -297,7 +299,7 @@ void place_uncounts(struct seat *seat)
 void place_leaves(struct seat *seat)
 {
     drop_added(seat);
-    arrive(seat, seat->place, 0);
+    arrive(seat, seat->place, 0, 0);
 }
 
 void place_wants(struct seat *seat, uint32_t pages)

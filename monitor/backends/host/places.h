@@ -27,6 +27,17 @@ void ask_note(struct seat *seat);
 /* Its last report, as the step takes it. */
 VbReport ask_report(const struct seat *seat);
 
+/* Of these pages of its memory, those that it starts without: where the kernel limits what it
+ * holds, and its process can. */
+uint32_t ask_without(const struct seat *seat, uint32_t pages);
+
+/* Whether pages that it starts without count in its balloon, as its driver hasn't put them there
+ * yet. */
+bool ask_starts_small(const struct seat *seat);
+
+/* The pages that its reset takes: those in its balloon, but for what it starts without. */
+uint32_t ask_of_reset(const struct seat *seat);
+
 /* Whether its process has received its last target. */
 bool target_is_received(const struct seat *seat);
 

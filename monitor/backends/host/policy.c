@@ -40,8 +40,8 @@ static uint16_t contact_of(const struct seat *seat)
 {
     if (!seat_is_taken(seat))
         return VB_GUEST_AWAY;
-    if (!seat_is_ready(seat))
-        return VB_GUEST_STARTS;
+    if (!seat_is_ready(seat)) /* it gives the pages that it has started without */
+        return ask_starts_small(seat) ? VB_GUEST_SILENT : VB_GUEST_STARTS;
     return is_heard(seat) ? VB_GUEST_HEARD : VB_GUEST_SILENT;
 }
 

@@ -37,10 +37,10 @@ static const char *report_fault(const struct seat *seat, const struct lending_me
 static uint64_t missing_room(const struct seat *seat)
 {
     struct host *host = seat->host;
-    uint32_t wanted = seat->report.wanted;
+    uint32_t wanted = seat->report.wanted, asked = wanted - ask_without(seat, wanted);
     if (!seat->holds)
         return policy_lacks(host, seat, wanted);
-    return wanted > host->frames ? wanted - host->frames : 0;
+    return asked > host->frames ? asked - host->frames : 0;
 }
 
 /* What its client brings isn't admitted. */
@@ -48,6 +48,13 @@ static void turn_away(struct seat *seat)
 {
     seat->host->counters.refused++;
     seat->refused = true;
+}
+
+/* Whether it is to start with more than its client brings. */
+static bool starts_above(const struct seat *seat)
+{
+    uint32_t start = seat->terms.start;
+    return seat_pages(seat) == 0 && start != UINT32_MAX && start > seat->report.wanted;
 }
 
 /* It waits for room: it is refused where there is none for it, and has it at once where its process
@@ -61,6 +68,11 @@ static void answer_room(struct seat *seat)
         return;
     if (wanted > seat->terms.memory) {
         refuse("its memory has %u pages, and may have %u", wanted, seat->terms.memory);
+        turn_away(seat);
+        return;
+    }
+    if (starts_above(seat)) {
+        refuse("its memory has %u pages, and it is to start with %u", wanted, seat->terms.start);
         turn_away(seat);
         return;
     }
@@ -110,7 +122,8 @@ static void adopt(struct seat *seat)
                                            .overhead = seat->terms.overhead,
                                            .limit = seat->terms.limit,
                                            .user = seat->terms.user,
-                                           .memory = seat->terms.memory};
+                                           .memory = seat->terms.memory,
+                                           .start = seat->terms.start};
     seat->asks_terms = folder_keep(seat, &seat->terms) != NULL;
 }
 

@@ -8,7 +8,8 @@ struct guest_terms host_usual_terms(const struct host *host)
                                 .strict = host->strict,
                                 .overhead = USUAL_OVERHEAD,
                                 .user = ANY_USER,
-                                .memory = UINT32_MAX};
+                                .memory = UINT32_MAX,
+                                .start = UINT32_MAX};
 }
 
 const char *guest_state_word(enum guest_state state)
@@ -184,10 +185,25 @@ const char *host_set_floor(struct host *host, uint32_t pages)
 
 static const char nobody[] = "no guest has that name";
 
+const char *terms_fault(const struct guest_terms *terms)
+{
+    if (terms->least > terms->most)
+        return "its least is more than its most";
+    if (terms->start == UINT32_MAX)
+        return NULL;
+    if (terms->start > terms->most)
+        return "its start is more than its most";
+    return terms->limit.kind == LIMIT_NONE ? "a start is for a guest that has a limit" : NULL;
+}
+
 const char *host_refuses(const struct host *host, const char *name, const struct guest_terms *terms)
 {
-    return terms->least > terms->most ? "a guest's least is above its most"
-                                      : limit_refusal(host, name, terms);
+    const struct seat *seat = seat_of(host, name);
+    const char *fault = terms_fault(terms);
+    bool needs_limit = seat && ask_starts_small(seat);
+    if (!fault && needs_limit && terms->limit.kind == LIMIT_NONE)
+        fault = "its limit stays until its balloon has what it started without";
+    return fault ? fault : limit_refusal(host, name, terms);
 }
 
 const char *host_add(struct host *host, const char *name, const struct guest_terms *terms)

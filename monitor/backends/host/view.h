@@ -51,6 +51,8 @@ struct guest_terms {
     struct guest_limit limit; /* the kernel has it hold no more than its loan and its overhead */
     uint32_t user;            /* of its client; ANY_USER: of any */
     uint32_t memory;          /* that its client may bring at most; UINT32_MAX: any */
+    uint32_t start; /* frames that it may hold at first, until it is lent more; UINT32_MAX: all that
+                       it may have */
 };
 
 /* The overhead of a guest of whom nothing was said. */
@@ -125,6 +127,8 @@ const char *host_set_overdraft(struct host *host, uint32_t pages);
 const char *host_add(struct host *host, const char *name, const struct guest_terms *terms);
 const char *host_remove(struct host *host, const char *name);
 const char *host_set_terms(struct host *host, const char *name, const struct guest_terms *terms);
+/* Why no guest can have these terms; NULL: one can. */
+const char *terms_fault(const struct guest_terms *terms);
 /* Why a guest of this name, which there may be, can't have these terms; NULL: it can. */
 const char *host_refuses(const struct host *host, const char *name,
                          const struct guest_terms *terms);

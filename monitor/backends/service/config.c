@@ -62,6 +62,7 @@ static const struct key guest_keys[] = {
     {"guest", "limit", WORD_LIMIT, offsetof(struct config_guest, terms.limit)},
     {"guest", "user", WORD_USER, offsetof(struct config_guest, terms.user)},
     {"guest", "memory", WORD_SIZE, offsetof(struct config_guest, terms.memory)},
+    {"guest", "start", WORD_SIZE, offsetof(struct config_guest, terms.start)},
 };
 
 static bool fault(struct reader *reader, const char *key, const char *words)
@@ -87,7 +88,8 @@ static struct config_guest *guest_of(struct reader *reader, const char *section)
     *guest = (struct config_guest){.terms = {.most = UINT32_MAX,
                                              .overhead = USUAL_OVERHEAD,
                                              .user = ANY_USER,
-                                             .memory = UINT32_MAX}};
+                                             .memory = UINT32_MAX,
+                                             .start = UINT32_MAX}};
     strcpy(guest->name, name);
     return guest;
 }
@@ -198,12 +200,13 @@ static void check_guests(struct reader *reader)
 {
     for (unsigned i = 0; i < reader->config->count; i++) {
         const struct config_guest *guest = &reader->config->guests[i];
-        bool above = guest->terms.least > guest->terms.most;
-        if (!above && !shares_limit(reader->config, i))
+        const char *fault = terms_fault(&guest->terms);
+        if (!fault && shares_limit(reader->config, i))
+            fault = "the limit is another guest's";
+        if (!fault)
             continue;
         reader->faulty = true;
-        say_fault("%s: guest %s: %s", reader->path, guest->name,
-                  above ? "its least is more than its most" : "the limit is another guest's");
+        say_fault("%s: guest %s: %s", reader->path, guest->name, fault);
     }
 }
 

@@ -80,7 +80,9 @@ class Made:
             name: bool((bits >> (number + phase) % GUESTS) & 1) for name, bits in FLAGS.items()
         }
         strict = flags.pop("strict")
-        most = dict.fromkeys(("most", "user", "memory"), (1 << 32) - 1) if number == 0 else {}
+        most = (
+            dict.fromkeys(("most", "user", "memory", "start"), (1 << 32) - 1) if number == 0 else {}
+        )
         terms = self.struct(
             "host/view.h", "guest_terms", strict=strict, limit=LIMITS[number % len(LIMITS)], **most
         )

@@ -47,7 +47,7 @@ COMMANDS = (
         "",
         (
             "bigvasta: 'target' is none of least=, most=, priority=, strict=, overhead=, limit=, "
-            "user=, memory=, target=\n"
+            "user=, memory=, start=, target=\n"
         ),
     ),
     (
@@ -56,7 +56,7 @@ COMMANDS = (
         "",
         (
             "bigvasta: 'size=4M' is none of least=, most=, priority=, strict=, overhead=, limit=, "
-            "user=, memory=, target=\n"
+            "user=, memory=, start=, target=\n"
         ),
     ),
     ("guest web-1 target=1M target=2M", 2, "", "bigvasta: target= is said twice\n"),
@@ -99,6 +99,9 @@ COMMANDS = (
     ("guest web-1 memory=9", 2, "", "bigvasta: memory: '9' is no size: "),
     ("guest web-1 user=no-such", 1, "", f"bigvasta: user: {NO_USER}\n"),
     ("guest web-1 user=root memory=9M", 0, "web-1: absent, at {folder}/web-1\n", ""),
+    ("guest web-1 start=9", 2, "", "bigvasta: start: '9' is no size: "),
+    ("guest web-1 start=9M", 1, "", "bigvasta: a start is for a guest that has a limit\n"),
+    ("guest web-1 start=none", 0, "web-1: absent, at {folder}/web-1\n", ""),
     ("guest web-1 user=none memory=none", 0, "web-1: absent, at {folder}/web-1\n", ""),
     (
         "add web-3 target=1M",
@@ -106,7 +109,7 @@ COMMANDS = (
         "",
         (
             "bigvasta: 'target=1M' is none of least=, most=, priority=, strict=, overhead=, "
-            "limit=, user=, memory=\n"
+            "limit=, user=, memory=, start=\n"
         ),
     ),
     ("budget", 0, "480 MiB\n", ""),

@@ -96,6 +96,17 @@ WRONG = (
         "[guest web-1]\nmemory = 0M",
         f"line 18: memory: a size of 1M or more: {SIZE}",
     ),
+    ("[guest web-1]", "[guest web-1]\nstart = 0M", f"line 18: start: a size of 1M or more: {SIZE}"),
+    (
+        "[guest web-1]",
+        "[guest web-1]\nstart = 9M",
+        "guest web-1: a start is for a guest that has a limit",
+    ),
+    (
+        "[guest web-1]",
+        "[guest web-1]\nstart = 9M\nmost = 8M",
+        "guest web-1: its start is more than its most",
+    ),
     ("[guest web-1]", "[guest web-1]\nuser = no-such", f"line 18: user: {NO_USER}"),
     ("[guest web-1]", "[guest web-1]\nuser = 4294967295", f"line 18: user: {NO_USER}"),
     (
@@ -248,6 +259,13 @@ TAKEN = (
     ),
     ("user of [guest]", "[guest web-1]", "[guest web-1]\nuser = root", term("user"), 0),
     ("memory of [guest]", "[guest web-1]", "[guest web-1]\nmemory = 9M", term("memory"), 9 * MIB),
+    (
+        "start of [guest]",
+        "[guest web-1]",
+        "[guest web-1]\nstrict = yes\nlimit = tmpfs:/dev/shm\nstart = 9M",
+        term("start"),
+        9 * MIB,
+    ),
 )
 
 
@@ -302,7 +320,7 @@ def test_each_key_is_wrong_once(folder):
                 if it.startswith("[")
             )
             wrong.add((re.findall(r"\[(\w+)", section or "[none")[-1], line[2]))
-    assert len(keys) == 21 and keys <= wrong, keys - wrong
+    assert len(keys) == 22 and keys <= wrong, keys - wrong
 
 
 def test_what_the_file_says_is_done(configured, folder):

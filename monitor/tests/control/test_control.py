@@ -113,6 +113,13 @@ WRONG = (
     ),
     (say(request="guest", name="a", overhead=1), "bad-field", "overhead", PAGES),
     (say(request="guest", name="a", memory=1), "bad-field", "memory", f"{PAGES}, or null"),
+    (say(request="guest", name="a", start=1), "bad-field", "start", f"{PAGES}, or null"),
+    (
+        say(request="guest", name="a", start=PAGE),
+        "refused",
+        None,
+        "a start is for a guest that has a limit",
+    ),
     (say(request="guest", name="a", user="no-such"), "bad-field", "user", NO_USER),
     (say(request="guest", name="a", user=-1), "bad-field", "user", NO_NUMBER),
     (say(request="guest", name="a", user=2**32 - 1), "bad-field", "user", NO_NUMBER),

@@ -46,7 +46,7 @@ def rows(unit, words):
 
 TERMS = {
     **rows("pages", "least overhead"),
-    **rows("limit", "most memory"),
+    **rows("limit", "most memory start"),
     **rows("user", "user"),
     **rows("count", "priority"),
     **rows("flag", "strict"),
@@ -455,6 +455,8 @@ def test_each_line_of_a_guest(made, host):
         wanted += [["user", str(terms["user"])]] if terms["user"] is not None else []
         if terms["memory"] is not None:
             wanted += [["at", "most", mebibytes(terms["memory"]), "MiB", "of", "memory"]]
+        if terms["start"] is not None:
+            wanted += [["start", mebibytes(terms["start"]), "MiB"]]
         assert (
             lines[0] == f"{guest['name']}: {guest['state']}, at {guest['socket']}".split()
             and lines[1 : len(wanted) + 1] == wanted

@@ -66,6 +66,7 @@ ELSEWHERE = {
         "test_a_process_whose_program_does_not_go_on_stays",
     ),
     "kept.unnoted": ("test_anew.py", "lost-bytes"),
+    "awaited": ("test_start.py", "test_another_process_and_another_lender_know_of_it"),
     "kept.inbox.message": ("test_anew.py", "lost-files"),
     "outcome": ("test_anew.py", "handles-twice"),
 }

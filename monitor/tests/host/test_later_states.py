@@ -190,6 +190,7 @@ def test_terms_go_on_whatever_the_later_lender_has_others(lend, come, first, sec
         "limit": None,
         "user": USER,
         "memory": 5 << 20,
+        "start": None,
     }
     assert list(terms) == terms_of_guests()
     lender.kill()
@@ -332,7 +333,7 @@ def test_a_folder_keeps_what_is_no_guests(lend, tmp_path_factory):
     lender = lend(1, *STRICT, folder=str(folder))
     assert (lender.guests(), lender.ask("add a")) == ({}, "error: a: Address already in use")
     lender.demand("add c overhead=3")
-    assert os.readlink(folder / "=c") == f"terms 0 {ANY} 0 1 {3 * 256} {ANY} {ANY} 0 none"
+    assert os.readlink(folder / "=c") == f"terms 0 {ANY} 0 1 {3 * 256} {ANY} {ANY} {ANY} 0 none"
     assert [(folder / it).read_text() for it in ("+b", "a")] == ["x", "x"]
 
 

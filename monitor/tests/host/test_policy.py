@@ -113,9 +113,9 @@ def test_words_that_are_no_terms(lend, words):
 
 def test_least_above_most(lend):
     lender = lend(5)
-    assert lender.ask("add a least=3 most=2") == "error: a: a guest's least is above its most"
+    assert lender.ask("add a least=3 most=2") == "error: a: its least is more than its most"
     lender.demand("add a least=1 most=2")
-    assert lender.ask("terms a least=3") == "error: a guest's least is above its most"
+    assert lender.ask("terms a least=3") == "error: its least is more than its most"
     assert lender.ask("terms b least=3") == "error: no guest has that name"
 
 

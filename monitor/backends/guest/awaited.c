@@ -1,0 +1,62 @@
+/* Pages that a guest has started without: they count in its balloon, as if its driver had put them
+ * there, until it has. The kernel's limit keeps them from the guest meanwhile. */
+#include "lent.h"
+
+static uint32_t larger(uint32_t one, uint32_t other)
+{
+    return one > other ? one : other;
+}
+
+uint32_t lent_ballooned(const struct lent *lent)
+{
+    return larger(backend_given(&lent->backend), lent->awaited);
+}
+
+enum lending_hold lent_hold(const struct lent *lent)
+{
+    if (!lent->backend.options->holds)
+        return HOLDS_NOTHING;
+    return lent->awaited > 0 ? HAS_STARTED_SMALL : MAY_START_SMALL;
+}
+
+bool awaited_begin(struct lent *lent, uint32_t pages)
+{
+    if (lent->waits == WAIT_ROOM && lent->notes.pages > 0)
+        return false;
+    lent->awaited = pages;
+    lent->returns = 0;
+    return pages > 0;
+}
+
+/* Has its report tell of a change at once. */
+static void tell(struct lent *lent)
+{
+    lent->news = true;
+    lent->report_at = 0;
+}
+
+void awaited_note(struct lent *lent)
+{
+    uint32_t given = backend_given(&lent->backend),
+             wanted = larger(given, lent->backend.balloon.state.device.target);
+    if (lent->awaited == 0)
+        return;
+    if (lent->awaited > lent->notes.pages)
+        lent->awaited = lent->notes.pages;
+    if (lent->awaited <= given) {
+        lent->awaited = lent->returns = 0;
+        tell(lent);
+    }
+    if (lent->awaited <= wanted || lent->notes.held_pages > 0 || lent->returns > 0)
+        return;
+    lent->returns = lent->awaited - wanted;
+    lent->notes.held_wait++;
+    tell(lent);
+}
+
+void awaited_leave(struct lent *lent, uint32_t pages)
+{
+    lent->awaited -= pages < lent->awaited ? pages : lent->awaited;
+    lent->returns = 0;
+    tell(lent);
+}
