@@ -3,7 +3,7 @@
 import time
 
 import pytest
-from played import ORDER_LOOK, TELL_REPORT, VERSION, Message
+from played import ORDER_LOOK, TELL_REPORT, VERSION, Message, Played
 from tenants import FREE, eventually
 from test_channels import channel
 from test_strict import GIVEN, STRICT, used
@@ -47,6 +47,17 @@ def pages_are_taken_unasked(lender, come):
     has_target(lender, "b", 100)
 
 
+def pages_are_taken_that_nobody_granted(lender, come):
+    """What each guest is asked for is decided anew."""
+    liar = Played(lender, "a", pages=128, ballooned=50, target=50)
+    decisions = lambda: lender.status()["host"]["counters"]["decisions"]
+    time.sleep(HEARD)
+    before = decisions()
+    liar.report(ballooned=40)
+    eventually(lambda: decisions() > before, "nothing is decided")
+    liar.leave()
+
+
 def a_deflate_is_held(lender, come):
     """It is granted."""
     guest = come(lender, "a", {FREE: 100})
@@ -70,6 +81,7 @@ def statistics_are_waited_for(lender, come):
 STORIES = (
     statistics_are_heard,
     pages_are_taken_unasked,
+    pages_are_taken_that_nobody_granted,
     a_deflate_is_held,
     statistics_are_waited_for,
 )
@@ -122,3 +134,4 @@ def test_an_overdraft_is_lent_once_nothing_has_moved_for_a_second(lend, come):
     guest.take(GIVEN[:10])
     used(guest, DEFLATE, 1)
     assert time.monotonic() - begin >= 1
+    assert not [it for it in lender.said() if "has waited" in it]
