@@ -134,6 +134,8 @@ REAL(void, files_take, struct files *files)
 {
     if (!is("lost-files") || kept->unnoted == 0)
         __real_files_take(files);
+    if (files->count > 0)
+        cut();
 }
 
 REAL(void, lent_holds, struct backend *backend, uint32_t pages)

@@ -1,0 +1,49 @@
+"""What a host sees as it looks at its guests: what they hold, and who takes pages back."""
+
+import time
+
+from tenants import FREE, PAGES, eventually
+from test_later_lender import QUICK
+
+# Pages of a guest, KiB of a page, and the seconds for which nobody is asked who took pages back.
+ALL, KIB, PAUSE = 128, 4, 2
+
+
+def test_what_is_held_at_most_and_above_the_budget(lend, come):
+    lender = lend(1, *QUICK)
+    guest = come(lender, "a", {FREE: 0})
+    guest.fill()
+    looks = lambda: lender.counters()["looks"]
+
+    def look():
+        before = looks()
+        eventually(lambda: looks() > before + 1)
+
+    def counted():
+        its, status = lender.counters(), lender.status()["host"]
+        return its["peak_kib"], its["above"] > 0, status["measures"]["above"] > 0
+
+    lender.become("a", held_kib=ALL * KIB)
+    lender.set_budget(ALL), look()
+    assert counted() == (ALL * KIB, False, False)
+    lender.set_budget(ALL - 1), look()
+    assert counted() == (ALL * KIB, True, True)
+    guest.leave()
+    lender.become("a", held_kib=0), look()
+    before, passed = (lender.counters()[it] for it in ("above", "peak_kib"))
+    look()
+    assert (lender.counters()["above"], passed) == (before, ALL * KIB)
+
+
+def test_who_has_taken_pages_back_is_asked_for_none_for_a_while(lend, come):
+    lender = lend(1, *QUICK)
+    guest = come(lender, "a", {FREE: 100})
+    lender.set_budget(ALL - 50)
+    lender.become("a", asked=50)
+    guest.give([*range(PAGES, PAGES + 50)])
+    lender.become("a", ballooned=50)
+    begin = time.monotonic()
+    guest.take([*range(PAGES, PAGES + 50)])
+    lender.become("a", ballooned=0, taken=50, spare=0)
+    lender.become("a", asked=50)
+    assert time.monotonic() - begin >= PAUSE
