@@ -6,7 +6,7 @@ use Rattle.vb_policy.specs.declared.guest.Guest.{Guest}
 use Rattle.vb_policy.specs.declared.guest.Host.{Host}
 use Rattle.vb_policy.specs.declared.guest.Tier.TheVariants.{Unused}
 use Rattle.vb_policy.specs.Decisions.{Decides, short_targets}
-use Rattle.vb_policy.specs.Laws.{with_targets}
+use Rattle.vb_policy.specs.Laws.{CanGiveMore, with_targets}
 use Rattle.vb_policy.specs.Settling.{base, is_poor, settled, Settles}
 use Rattle.vb_policy.proofs.DivisionFacts.{guest, of_tier}
 
@@ -140,3 +140,32 @@ one_waits : short_targets (host 305)
     (aimed (guest 100 100 100) 96 ∷ record (guest 100 100 100) { target = 100; waits = true } ∷ [])
     ≡ 100 ∷ 100 ∷ []
 one_waits = refl
+
+-- ---- guests that can give more: the first in each tier, and the second as much
+
+more_so : CanGiveMore (guest 100 100 100 ∷ guest 20 40 60 ∷ [])
+    (guest 101 102 103 ∷ guest 20 40 60 ∷ [])
+more_so = (
+  refl,
+  refl,
+  omega arith,
+  omega arith,
+  omega arith,
+  (refl, refl, omega arith, omega arith, omega arith, tt),
+)
+
+-- neither with less in a tier, nor of another weight or class, nor with a guest less
+not_more : (CanGiveMore (guest 100 100 100 ∷ []) (guest 99 100 100 ∷ []) → ⊥)
+    × (CanGiveMore (guest 100 100 100 ∷ []) (guest 100 99 100 ∷ []) → ⊥)
+    × (CanGiveMore (guest 100 100 100 ∷ []) (guest 100 100 99 ∷ []) → ⊥)
+    × (CanGiveMore (guest 1 1 1 ∷ []) (record (guest 1 1 1) { weight = 2 } ∷ []) → ⊥)
+    × (CanGiveMore (guest 1 1 1 ∷ []) (record (guest 1 1 1) { priority = 1 } ∷ []) → ⊥)
+    × (CanGiveMore (guest 1 1 1 ∷ []) [] → ⊥)
+not_more = (
+  λ m. omega (arith, m),
+  λ m. omega (arith, m),
+  λ m. omega (arith, m),
+  λ m. omega (arith, m),
+  λ m. omega (arith, m),
+  λ m. m,
+)

@@ -1,11 +1,10 @@
 -- What the guests of a host are asked for, by what is known of each.
-use Rattle.std.specs.Prelude.{◌≡◌, ℕ, ◌+◌, ◌-◌, ◌<◌, ◌≤◌, ◌^◌, min, Bool, true, false}
-use Rattle.std.specs.Prelude.{List, [], ◌∷◌, map, sum_by, nat_lt, ◌&&◌, if◌then◌else◌}
+use Rattle.std.specs.Prelude.{◌≡◌, ℕ, ◌+◌, ◌-◌, ◌^◌, min, Bool, true, false}
+use Rattle.std.specs.Prelude.{List, [], ◌∷◌, map, sum_by, nat_lt, ◌&&◌}
 use Rattle.std.specs.List.{list_any}
 use Rattle.vb_policy.specs.declared.figures.Budget.{Budget}
 use Rattle.vb_policy.specs.declared.figures.Figures.{Figures}
 use Rattle.vb_policy.specs.declared.guest.Decision.{Decision}
-use Rattle.vb_policy.specs.declared.guest.Guest.{Guest}
 use Rattle.vb_policy.specs.declared.guest.Host.{Host}
 use Rattle.vb_policy.specs.declared.guest.Tier.TheVariants.{Reserve}
 use Rattle.vb_policy.specs.Decisions.{Decides}
