@@ -17,8 +17,7 @@ enum {
     MOST_CONTROL_CLIENTS = 256
 };
 
-/* Seconds of a processor's, after which no more requests are answered in a turn, and no more events
- * told. */
+/* Seconds after which no more requests are answered in a turn, and no more events told. */
 #define CONTROL_SECONDS 0.001
 
 /* What the clients of a socket may do: change the host, and look at it; or look alone. */
@@ -80,8 +79,8 @@ bool control_open(struct control *control, const struct control_options options[
 /* Drops all clients, and removes the sockets. */
 void control_close(struct control *control);
 
-/* Takes clients that wait, and serves requests, one of each client in turn, until a call's
- * processor time is spent or a request may have changed the host. */
+/* Takes clients that wait, and serves requests, one of each client in turn, until a call's time is
+ * spent or a request may have changed the host. */
 void control_serve(struct control *control, struct host *host);
 
 /* Once in each turn of the host's loop: tells followers what has happened since the last call. */

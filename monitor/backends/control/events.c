@@ -36,7 +36,7 @@ struct events {
     struct seen seen[MOST_SEEN];
 };
 
-/* A look: its first event, and the processor time until which it tells more. */
+/* A look: its first event, and until when it tells more. */
 struct look {
     struct events *events;
     uint64_t first_event;
@@ -196,7 +196,7 @@ static void tell_removed(struct control *control)
 /* Whether more may be told in this look: it has told nothing yet, or has time. */
 static bool may_tell(const struct look *look)
 {
-    return look->events->next == look->first_event || loop_processor_seconds() < look->until;
+    return look->events->next == look->first_event || loop_seconds() < look->until;
 }
 
 /* Looks at guests, from the one at which the last look has stopped; the others are still there. */
@@ -234,7 +234,7 @@ static void tell_decisions(struct control *control, const struct host *host,
 void events_look(struct control *control, const struct host *host)
 {
     struct events *events = control->events;
-    const struct look look = {events, events->next, loop_processor_seconds() + CONTROL_SECONDS};
+    const struct look look = {events, events->next, loop_seconds() + CONTROL_SECONDS};
     struct host_view view;
     host_see(host, &view);
     if (events->budget != view.budget && events->budget > 0)

@@ -218,12 +218,12 @@ static void serve(struct control *control, const struct epoll_event *event, stru
 void control_serve(struct control *control, struct host *host)
 {
     struct epoll_event ready;
-    double end = loop_processor_seconds() + CONTROL_SECONDS;
+    double end = loop_seconds() + CONTROL_SECONDS;
     control->has_acted = false;
     for (unsigned served = 0; served < MOST_READY && epoll_wait(control->waits, &ready, 1, 0) == 1;
          served++) {
         serve(control, &ready, host);
-        if (control->has_acted || loop_processor_seconds() >= end)
+        if (control->has_acted || loop_seconds() >= end)
             break;
     }
 }

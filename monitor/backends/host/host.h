@@ -188,7 +188,8 @@ struct host {
     struct seat *comes;  /* whose client is taken in this turn; NULL: none */
     struct seat *reads_next; /* whose messages this turn had no time for, and all after it; NULL: it
                                 had for all */
-    int64_t refills_at;      /* when messages are read again of processes that have sent too many */
+    double processor_at; /* what it had of the processors as the turn before ended, in seconds */
+    int64_t refills_at;  /* when messages are read again of processes that have sent too many */
     int64_t decides_at, stepped_at; /* what guests do isn't decided on before the first; when
                                        targets were last let grow */
     bool looked, steps;    /* this turn is the first one after a look; as it began, a guest wasn't

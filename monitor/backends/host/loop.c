@@ -5,7 +5,7 @@
 
 #include <unistd.h>
 
-/* Seconds of a processor for messages in a turn. */
+/* Seconds for messages in a turn. */
 static const double reading_seconds = 0.001;
 
 /* Milliseconds between two decisions on what guests do; messages of a process that are read in
@@ -139,7 +139,7 @@ static int take_messages(void *context, int file)
     struct host *host = seat->host;
     if (file != seat->channel || host->reads_next)
         return LOOP_GOES_ON;
-    if (loop_processor_seconds() - host->loop.processor_at < reading_seconds)
+    if (loop_seconds() - host->loop.woke_at < reading_seconds)
         seat->read += seat_read(seat, MESSAGES_A_TURN);
     else
         host->reads_next = seat;
@@ -200,8 +200,10 @@ static void wait_for_seats(void *context, struct loop *loop)
 {
     struct host *host = context;
     refill(host);
+    double processor = loop_processor_seconds();
     if (loop->woke_at > 0)
-        measure_turn(loop_seconds() - loop->woke_at, loop_processor_seconds() - loop->processor_at);
+        measure_turn(loop_seconds() - loop->woke_at, processor - host->processor_at);
+    host->processor_at = processor;
     limits_follow(host);
     unsigned first = first_read(host), count = count_seats(host);
     for (unsigned i = 0; i < count; i++)

@@ -68,7 +68,6 @@ static void wait_for_all(struct loop *loop)
                            : left > 0     ? (int)left
                                           : 0);
     loop->woke_at = loop_seconds();
-    loop->processor_at = loop_processor_seconds();
 }
 
 /* Serves what has come. */

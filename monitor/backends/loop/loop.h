@@ -36,8 +36,8 @@ struct loop {
     } served_by[MOST_POLLED];
     nfds_t count;
     int64_t until;
-    int came; /* files of which something has come; negative: it couldn't wait */
-    double woke_at, processor_at; /* when it had waited, in seconds of both clocks */
+    int came;       /* files of which something has come; negative: it couldn't wait */
+    double woke_at; /* when it had waited, in seconds */
 };
 
 /* The monotonic clock, in milliseconds; and in seconds; the seconds for which the process has had a
