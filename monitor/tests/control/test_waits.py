@@ -130,3 +130,18 @@ def test_a_deflate_whose_guest_goes_is_no_grant(host, arrive, heard):
     guest.leave()
     assert heard("a", "deflate") == "withdrawn"
     assert ends(host) == before | {"withdrawn": before["withdrawn"] + 1}
+
+
+def test_each_wait_of_a_guest_is_told(host, arrive, heard):
+    guest, pages = arrive("a"), 5
+    eventually(lambda: host.guest("a")["answers"])
+    loan = GUEST - len(GIVEN) * PAGE
+    host.ask("budget", bytes=loan)
+    guest.client.post_pages(INFLATE, GIVEN)
+    eventually(lambda: host.guest("a")["loan"] == loan)
+    for first in range(0, 3 * pages, pages):
+        guest.client.post_pages(DEFLATE, GIVEN[first : first + pages])
+        assert heard("a", "deflate") == "waits"
+        loan += pages * PAGE
+        host.ask("budget", bytes=loan)
+        assert heard("a", "deflate") == "granted"

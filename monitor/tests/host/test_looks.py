@@ -1,8 +1,10 @@
-"""What a host sees as it looks at its guests: what they hold, and who takes pages back."""
+"""What a host sees as it looks at its guests, what they hold and who takes pages back; and a process
+that nobody looks at."""
 
+import os
 import time
 
-from tenants import FREE, PAGES, eventually
+from tenants import FREE, PAGES, eventually, process_of
 from test_later_lender import QUICK
 
 # Pages of a guest, KiB of a page, and the seconds for which nobody is asked who took pages back.
@@ -47,3 +49,20 @@ def test_who_has_taken_pages_back_is_asked_for_none_for_a_while(lend, come):
     lender.become("a", ballooned=0, taken=50, spare=0)
     lender.become("a", asked=50)
     assert time.monotonic() - begin >= PAUSE
+
+
+def test_a_process_whose_lender_has_gone_takes_no_processor(lend, come):
+    lender = lend(1, *QUICK)
+    come(lender, "a", {FREE: 100})
+    process = process_of(lender, "a")
+    lender.kill()
+
+    def ticks():
+        with open(f"/proc/{process}/stat", encoding="ascii") as its:
+            return sum(map(int, its.read().rsplit(")", 1)[1].split()[11:13]))
+
+    time.sleep(0.5)
+    before = ticks()
+    time.sleep(1)
+    assert ticks() - before < os.sysconf("SC_CLK_TCK") / 20
+    lend(1, *QUICK, folder=lender.folder)

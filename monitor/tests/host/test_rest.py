@@ -19,27 +19,39 @@ def resting(lend, come):
     return lender, guest
 
 
-def asked_in_looks(lender):
-    """Returns how often a guest at rest is asked while a lender looks LOOKS times, and how often it
-    is to be."""
+def asked_in(lender, looks):
+    """Returns how often a guest is asked while a lender looks this many times, and how many looks
+    it were."""
 
     def counted():
         return lender.guests()["a"]["statistics"], lender.counters()["looks"]
 
-    asked, looks = counted()
-    time.sleep(LOOKS * PERIOD)
+    asked, before = counted()
+    time.sleep(looks * PERIOD)
     now, then = counted()
-    return now - asked, (then - looks) / ASKED_ONCE_IN
+    return now - asked, then - before
 
 
 def test_a_guest_at_rest_is_asked_in_one_period_of_five(resting):
     # Where the machine holds up a guest that answers, it isn't at rest.
     lender, _ = resting
-    found = [asked_in_looks(lender)]
-    while abs(found[-1][0] - found[-1][1]) > 1 and len(found) < TRIES:
-        found.append(asked_in_looks(lender))
-    asked, wanted = found[-1]
-    assert abs(asked - wanted) <= 1 and asked > 0, found
+    for _ in range(TRIES):
+        asked, looks = asked_in(lender, LOOKS)
+        if abs(asked - looks / ASKED_ONCE_IN) <= 1:
+            return
+    raise AssertionError(f"it is asked {asked} times in {looks} looks")
+
+
+def test_a_guest_that_has_changed_is_not_at_rest_for_ten_periods(resting):
+    lender, guest = resting
+    for free in range(30, 30 + TRIES):
+        guest.figures[FREE] = free
+        lender.become("a", free=free)
+        asked, looks = asked_in(lender, 6)
+        if asked >= looks - 2:
+            return
+        time.sleep(RESTED)
+    raise AssertionError(f"it is asked {asked} times in {looks} looks")
 
 
 def test_what_changes_of_a_guest_at_rest_is_heard(resting):
