@@ -1,5 +1,5 @@
-"""What a host sees as it looks at its guests, what they hold and who takes pages back; and a process
-that nobody looks at."""
+"""What a host sees as it looks at its guests, what they hold and who takes pages back; and what a
+process does that nobody looks at."""
 
 import os
 import time
