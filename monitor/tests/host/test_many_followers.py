@@ -9,9 +9,9 @@ from bigvasta.connection import Connection
 from test_later_lender import QUICK
 from waiting import PATIENCE
 
-# Clients that follow, guests that a file adds, and seconds of the processor: of these a turn takes
-# no more.
-FOLLOWERS, GUESTS, MOST = 240, 64, 0.02
+# Clients that follow at each socket, guests that a file adds, and seconds of the processor: a turn
+# takes no more.
+FOLLOWERS, GUESTS, MOST = 240, 64, 0.1
 
 
 def follow(path):
@@ -36,7 +36,8 @@ def test_no_turn_takes_long(lend, tmp_path):
     file = tmp_path / "host.conf"
     file.write_text("[host]\n")
     lender = lend(1, *QUICK, "--config", str(file))
-    followers = [follow(f"{lender.folder}/.control") for _ in range(FOLLOWERS)]
+    paths = [f"{lender.folder}/{it}" for it in (".control", ".status")]
+    followers = [follow(it) for it in paths for _ in range(FOLLOWERS)]
     before = longest(lender)
     with Connection(f"{lender.folder}/.control") as last:
         events = last.follow()
