@@ -33,16 +33,6 @@ void host_changed(struct host *host, enum reason reason)
     host->reason = reason;
 }
 
-uint64_t host_held(const struct host *host)
-{
-    uint64_t held = 0;
-    for (unsigned i = 0; i < host->count; i++)
-        held += host->seats[i]->report.held_kib;
-    for (unsigned i = 0; i < host->leaving_count; i++)
-        held += host->leaving[i]->report.held_kib;
-    return held;
-}
-
 /* Each guest, and each that is leaving after them. */
 static struct seat *seat_at(const struct host *host, unsigned number)
 {
@@ -52,6 +42,14 @@ static struct seat *seat_at(const struct host *host, unsigned number)
 static unsigned count_seats(const struct host *host)
 {
     return host->count + host->leaving_count;
+}
+
+uint64_t host_held(const struct host *host)
+{
+    uint64_t held = 0;
+    for (unsigned i = 0; i < count_seats(host); i++)
+        held += seat_at(host, i)->report.held_kib;
+    return held;
 }
 
 /* Has something be done with each. */
