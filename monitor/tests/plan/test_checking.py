@@ -61,15 +61,16 @@ ORDER = {
     "c": "10/0/0 10/0/0 5/0/0 0/0/0",
 }
 
-# What a guest asked for it doesn't want any longer.
-LEAVES_IT = {"a": "90/0/0 90/10/0 90/0/0 90/4/0", "b": "60/0/0 60/0/0 60/0/0 60/0/0"}
+# What a guest asked for it doesn't want any longer: all, then the last part; it gets the rest.
+LEAVES = "90/0/0 90/10/0 90/0/0 90/4/0 90/9/0 90/4/0 94/0/4 94/3/4 97/0/7"
+LEAVES_IT = [150] * 6 + [154] * 2 + [157], {"a": LEAVES, "b": " ".join(["60/0/0"] * 9)}
 
 # Days of hosts that grant as vb_host_step does; of each guest the pages that it was granted, and
 # the seconds that it waited.
 SAME = {
     "waits": ([150] * 5, WAITS, {"a": (15, 1), "b": (5, 0)}),
     "in the order of the line": ([150] * 4, ORDER, {"a": (10, 2), "b": (5, 1), "c": (0, 0)}),
-    "an ask that is withdrawn": ([150] * 4, LEAVES_IT, {"a": (0, 1), "b": (0, 0)}),
+    "asks that are withdrawn": (*LEAVES_IT, {"a": (7, 5), "b": (0, 0)}),
     "a budget that grows": (
         [150, 150, 160],
         {"a": "90/0/0 90/10/0 100/0/10", "b": "60/0/0 60/0/0 60/0/0"},
