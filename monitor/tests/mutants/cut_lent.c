@@ -125,8 +125,11 @@ REAL(void, outbox_regain, struct outbox *outbox)
     outbox->number = is("answers-twice") ? 0 : outbox->number;
 }
 
+/* The files beside what was read are noted already, as where the process before ended just then. */
 REAL(bool, inbox_regain, struct inbox *inbox, uint64_t length)
 {
+    if (length > 0)
+        files_take(&inbox->message.files);
     return __real_inbox_regain(inbox, is("lost-bytes") ? 0 : length);
 }
 
@@ -134,8 +137,6 @@ REAL(void, files_take, struct files *files)
 {
     if (!is("lost-files") || kept->unnoted == 0)
         __real_files_take(files);
-    if (files->count > 0)
-        cut();
 }
 
 REAL(void, lent_holds, struct backend *backend, uint32_t pages)

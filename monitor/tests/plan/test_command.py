@@ -6,6 +6,7 @@ import re
 import subprocess
 
 import pytest
+from bigvasta.cli import parser
 from bigvasta.plan.search import spread, tightest
 from linux_kit import HEADERS
 from planner import CLIENT, run
@@ -231,3 +232,21 @@ def test_what_is_no_library(tmp_path, day, shared):
         "Usage: plan: the library isn't there: make -C monitor shared makes it, --library "
         "FILE names another\n"
     ) in ran.stderr
+
+
+# What holds where a command line doesn't say it, as the help has it.
+DEFAULTS = {
+    "steps": 12,
+    "floor": "12M",
+    "wait_seconds": 60.0,
+    "seed": 1,
+    "hours": 24.0,
+    "promises": "1.00..2.00",
+    "places": 64,
+}
+
+
+def test_what_is_not_said():
+    asked = vars(parser().parse_args(["plan", "DAY"]))
+    said = {it: asked[it] for it in asked if it not in ("file", "command", "run") and asked[it]}
+    assert said == DEFAULTS

@@ -111,6 +111,8 @@ def test_a_file_that_is_not_there(tmp_path):
 def test_a_day_that_is_made_can_be_read(tmp_path, seed):
     lines = list(making.make(12, seed, 24))
     assert lines == list(making.make(12, seed, 24)) != list(making.make(12, seed + 1, 24))
+    seconds = [float(it.split(",")[1]) for it in lines[1:]]
+    assert seconds == sorted(seconds)
     path = tmp_path / "day.csv"
     path.write_text("\n".join(lines))
     day = read(str(path))
