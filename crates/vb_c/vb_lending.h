@@ -1,30 +1,6 @@
-/* Bigvasta: a host that lends its frames to guests, and never more than it has. A part of the
- * library of vb.h.
- *
- * A frame is lent when it may be taken, and not when it is. A deflate request, a reset and a
- * newcomer wait in line until there is room; nobody within a line is overtaken. Where resets and
- * newcomers wait in the second line, a deflate of a few pages passes them: its guest can inflate
- * only once it is granted, and so make room for them. What is lent to a guest is a number for the
- * kernel to enforce. The caller keeps a VbLoan for each guest, in an array, and the number of its
- * frames; a guest is its place in the array. Zeros are a place without a guest. The library keeps
- * nothing. Any numbers may be passed, also in a VbLoan: each call answers, and a loan that calls
- * alone write stays sound, lent + ballooned >= pages >= lent + asked. All numbers but turns count
- * pages.
- *
- * The order of effects is the host's part. The kernel's limit is lowered once pages went, and
- * raised before they may come:
- *
- *     an inflate request          its pages are discarded, then vb_loan_give, the limit down, and
- *                                 vb_loan_grant until VB_NOTHING
- *     a deflate request, a reset  vb_loan_ask or vb_loan_reset; the request, or the status that
- *                                 isn't 0, waits
- *     a newcomer                  vb_loan_arrive; it starts once it is granted
- *     a grant to a guest          the limit up to `lent`, vb_loan_take of what was asked, and only
- *                                 then the answer to its driver
- *     memory is taken away        its pages are discarded, then vb_loan_shrink, the limit down, and
- *                                 vb_loan_grant until VB_NOTHING
- *     memory is to be added       vb_loan_grow; the guest gets it once it is granted
- *     a guest has ended           its memory is given up, then vb_loan_leave
+/* Bigvasta: what a host that has fewer frames than its guests have pages asks of each. A part of
+ * the library of vb.h; what is lent to guests vb_host.h says. The library keeps nothing. Any
+ * numbers may be passed: each call answers. All numbers count pages.
  */
 #ifndef VB_LENDING_H
 #define VB_LENDING_H
@@ -43,7 +19,7 @@ typedef struct {
     uint32_t lent;      /* how many frames it may hold: its limit */
     uint32_t asked;     /* how many it waits for; 0 where it doesn't wait */
     uint64_t turn;      /* of its ask, among all; 0 where it doesn't wait */
-    uint32_t spare;     /* how many it can spare, by vb_loan_figure */
+    uint32_t spare;     /* how many it can spare; nothing reads it in a VbHostGuest */
     uint16_t uncounted; /* unless 0: its balloon doesn't count */
     /* 0: it waits in the first line; else in the second, which comes after the first */
     uint16_t line;
@@ -56,17 +32,8 @@ typedef struct {
     uint64_t missing;
 } VbTargets;
 typedef struct {
-    uint32_t code;
-    size_t guest;
-} VbGrant;
-/* What the host has agreed with a guest: how many pages always stay to it, and its priority (those
- * of a lower one give first). */
-typedef struct {
-    uint32_t least, priority;
-} VbTerms;
-typedef struct {
     uint32_t pages, spare, priority;
-} VbShare; /* room that vb_loan_class_targets needs for a guest */
+} VbShare; /* room that vb_guest_targets needs for a guest */
 
 /* Whether a guest's word on its memory is at hand. Any other number is VB_GUEST_STARTS. */
 enum {
@@ -106,8 +73,6 @@ VB_ASSERT(sizeof(VbLoan) == 32 && offsetof(VbLoan, ballooned) == 4 && offsetof(V
           offsetof(VbLoan, line) == 30);
 VB_ASSERT(sizeof(VbNeed) == 8 && offsetof(VbNeed, spare) == 4 && sizeof(VbTargets) == 16 &&
           offsetof(VbTargets, missing) == 8);
-VB_ASSERT(sizeof(VbGrant) == 16 && offsetof(VbGrant, guest) == 8);
-VB_ASSERT(sizeof(VbTerms) == 8 && offsetof(VbTerms, priority) == 4);
 VB_ASSERT(sizeof(VbHostGuest) == 72 && offsetof(VbHostGuest, pages) == 32 &&
           offsetof(VbHostGuest, held) == 36 && offsetof(VbHostGuest, ballooned) == 40 &&
           offsetof(VbHostGuest, ballooned_then) == 44 && offsetof(VbHostGuest, available) == 48 &&
@@ -140,79 +105,6 @@ VbTargets vb_targets(const VbNeed *needs, size_t count, uint32_t frames, uint32_
 uint32_t vb_needs_targets(const uint32_t *old_targets, size_t old_count, const VbNeed *needs,
                           size_t count, uint32_t frames);
 
-/* What happens to a guest: VB_OK where it has its effect; VB_BAD_ARGUMENT where guest isn't below
- * count, or it doesn't fit, as is said of each, and then nothing is changed. No other guest's loan
- * is changed. What comes to a line doesn't fit either while a guest has the last turn, 2^64 - 1;
- * turns begin anew once nobody waits. */
-
-/* A guest of this many pages comes: none has a frame, as if all were in its balloon, and it asks
- * for all, in the line of this number. Doesn't fit: no pages, or a place that isn't vacant. */
-uint32_t vb_loan_arrive(VbLoan *loans, size_t count, size_t guest, uint32_t pages, uint16_t line);
-/* A guest has gone, and its memory with it: nothing is lent to it, and its place is vacant. */
-uint32_t vb_loan_leave(VbLoan *loans, size_t count, size_t guest);
-/* Pages joined its balloon and lost their frames: ballooned + pages, lent - pages. Doesn't fit: its
- * balloon doesn't count, fewer are lent to it, or more would be in its balloon than it has. */
-uint32_t vb_loan_give(VbLoan *loans, size_t count, size_t guest, uint32_t pages);
-/* A deflate request for this many pages is pending: it asks for them, after all that wait in its
- * line. Doesn't fit: no pages, more than aren't lent to it, or it waits already. */
-uint32_t vb_loan_ask(VbLoan *loans, size_t count, size_t guest, uint32_t pages);
-/* A reset is pending, in place of all requests: it asks for all pages that aren't lent to it, in
- * the line of this number and after all that wait there; what it asked for before is forgotten.
- * Doesn't fit: all are lent to it, so that nothing has to wait. */
-uint32_t vb_loan_reset(VbLoan *loans, size_t count, size_t guest, uint16_t line);
-/* Pages are about to leave its balloon: ballooned - pages. Doesn't fit: fewer are in it, or not
- * enough is lent to it: pages have to be granted before they are taken. */
-uint32_t vb_loan_take(VbLoan *loans, size_t count, size_t guest, uint32_t pages);
-/* Its balloon counts no longer, since it uses pages without an ask, or never agreed to ask
- * (MUST_TELL_HOST): all its pages are lent to it, whether or not there is room, and its ask is
- * gone. Doesn't fit: nothing is lent to it, since it wasn't let in yet. */
-uint32_t vb_loan_uncount(VbLoan *loans, size_t count, size_t guest);
-/* Its balloon counts again, as in a new life. */
-uint32_t vb_loan_recount(VbLoan *loans, size_t count, size_t guest);
-/* It can spare this many pages, those in its balloon included (vb_spare). */
-uint32_t vb_loan_figure(VbLoan *loans, size_t count, size_t guest, uint32_t pages);
-/* Pages joined its balloon, and stay lent to it, since its driver is to take them out again:
- * ballooned + pages. Doesn't fit: its balloon doesn't count, or more would be in its balloon than
- * it has. */
-uint32_t vb_loan_keep(VbLoan *loans, size_t count, size_t guest, uint32_t pages);
-/* What it asks for isn't waited for any longer, and of what is lent to it beyond its pages outside
- * its balloon at most `ahead` pages stay lent. */
-uint32_t vb_loan_withdraw(VbLoan *loans, size_t count, size_t guest, uint32_t ahead);
-/* Memory was taken away: it has this many pages from now on, `ballooned` of them in its balloon,
- * and all others are lent to it; its ask is gone. Doesn't fit: no pages, more than it has, more in
- * its balloon than pages, or fewer are lent to it than would be. */
-uint32_t vb_loan_shrink(VbLoan *loans, size_t count, size_t guest, uint32_t pages,
-                        uint32_t ballooned);
-/* Memory was added to a guest that is there: these pages have no frame, as if they were in its
- * balloon, and it asks for them, in the line of this number and after all that wait there. Doesn't
- * fit: no pages, more than 2^32 - 1 with its own, a vacant place, it waits already, or more is lent
- * to it, or in its balloon, than it has. */
-uint32_t vb_loan_grow(VbLoan *loans, size_t count, size_t guest, uint32_t pages, uint16_t line);
-
-/* Lends to the first guest that waits what it asks for, where that and what is lent to all are no
- * more than these frames: VB_OK and which guest. VB_NOTHING (and guest 0) where nobody waits, or
- * there is no room for the first: then nothing is changed. */
-VbGrant vb_loan_grant(uint32_t frames, VbLoan *loans, size_t count);
-/* How many frames are lent to all guests together (2^64 - 1 where it is more). A lower budget takes
- * none back. */
-uint64_t vb_loan_owed(const VbLoan *loans, size_t count);
-
-/* Puts a target for each guest into `targets`, as vb_targets: once all that don't wait have as many
- * pages in their balloons, there is room for all that is waited for. One that waits spares what
- * stays in its balloon when it has what it asks for, one whose balloon doesn't count nothing.
- * VB_OK; VB_SHORT where all that they can spare is too little by `missing`: then each is asked for
- * all that it can spare; VB_BAD_ARGUMENT where rooms aren't count: then nothing is changed. Of
- * `needs` nothing is kept. */
-VbTargets vb_loan_targets(uint32_t frames, const VbLoan *loans, size_t count, VbNeed *needs,
-                          size_t needs_room, uint32_t *targets, size_t targets_room);
-/* The same by terms: its least pages stay to each guest, as far as it has them, and those of a
- * lower priority are asked for all that they can give before one of a higher priority is asked for
- * any. Of `shares` and `needs` nothing is kept. */
-VbTargets vb_loan_class_targets(uint32_t frames, const VbLoan *loans, size_t count,
-                                const VbTerms *terms, size_t terms_count, VbShare *shares,
-                                size_t shares_room, VbNeed *needs, size_t needs_room,
-                                uint32_t *targets, size_t targets_room);
-
 /* By what a host knows of its guests. A guest with a loan counts for the loan's pages; what it can
  * spare is, while it waits, what stays in its balloon when it has what it asks for, nothing where
  * its balloon doesn't count, and else what it tells. A guest whose statistics are recent tells that
@@ -223,9 +115,11 @@ VbTargets vb_loan_class_targets(uint32_t frames, const VbLoan *loans, size_t cou
 /* The pages for which a guest counts, and how many of them it can give (`spare`). */
 VbNeed vb_guest_need(const VbHostGuest *guest, uint32_t floor);
 /* Puts a target for each guest into `targets`: what it has above its most, as far as it can give it
- * and doesn't wait; and what is still missing, by priority as vb_loan_class_targets does. VB_OK,
- * and then what the guests count for without their targets is no more than the frames; VB_SHORT and
- * VB_BAD_ARGUMENT as of vb_loan_class_targets. */
+ * and doesn't wait; and what is still missing: those of a lower priority are asked for all that
+ * they can give before one of a higher priority is asked for any. VB_OK, and then what the guests
+ * count for without their targets is no more than the frames; VB_SHORT where all that they can give
+ * is too little by `missing`: then each is asked for all that it can give; VB_BAD_ARGUMENT where
+ * rooms aren't count: then nothing is changed. Of `shares` and `needs` nothing is kept. */
 VbTargets vb_guest_targets(const VbBudget *budget, const VbHostGuest *guests, size_t count,
                            VbShare *shares, size_t shares_room, VbNeed *needs, size_t needs_room,
                            uint32_t *targets, size_t targets_room);

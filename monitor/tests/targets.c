@@ -1,6 +1,5 @@
 /* What guests are asked to give (vb_targets, vb_spare, vb_needs_targets), beside a plain sort, for
- * random guests; and what it takes for 100,000 guests, as does a grant, and targets of a host that
- * lends (vb_lending.h). */
+ * random guests; and what it takes for 100,000 guests (vb_lending.h). */
 #define _GNU_SOURCE
 #include "vb_lending.h"
 #include <stdbool.h>
@@ -13,9 +12,6 @@ enum { MANY = 100000, ROUNDS = 20000, SMALL = 40, UNTOUCHED = 77, MOST_MILLISECO
 
 static VbNeed needs[MANY];
 static uint32_t targets[MANY], wanted[MANY], order[MANY];
-static VbTerms terms[MANY];
-static VbShare shares[MANY];
-static VbLoan loans[MANY];
 
 static uint64_t seed = 20261126;
 static uint32_t chance(uint32_t below)
@@ -32,12 +28,10 @@ static void fail(const char *what, unsigned round)
     exit(1);
 }
 
-/* The lowest priority first, then most spare, then the first in order. */
+/* Most spare first, then the first in order. */
 static int gives_before(const void *one, const void *other)
 {
     uint32_t i = *(const uint32_t *)one, j = *(const uint32_t *)other;
-    if (terms[i].priority != terms[j].priority)
-        return terms[i].priority < terms[j].priority ? -1 : 1;
     if (needs[i].spare != needs[j].spare)
         return needs[i].spare > needs[j].spare ? -1 : 1;
     return i < j ? -1 : i > j;
@@ -161,93 +155,11 @@ static double bench(uint32_t most)
     return least;
 }
 
-/* A large host that lends: every other guest waits, and the last of these came first. Its frames
- * leave half of what they can give. */
-static uint32_t any_loans(void)
-{
-    uint64_t kept = 0, spare = 0;
-    for (uint32_t i = 0; i < MANY; i++) {
-        uint32_t pages = 1000 + chance(39000), ballooned = chance(1000),
-                 asked = i % 2 ? 1 + chance(ballooned + 1) : 0;
-        asked = asked > ballooned ? ballooned : asked;
-        loans[i] = (VbLoan){.pages = pages,
-                            .ballooned = ballooned,
-                            .lent = pages - ballooned,
-                            .asked = asked,
-                            .turn = asked ? MANY - i : 0,
-                            .spare = ballooned + chance(pages - ballooned + 1)};
-        terms[i] = (VbTerms){chance(pages / 2), chance(5)};
-        needs[i] = (VbNeed){pages, asked ? ballooned - asked : loans[i].spare};
-        if (needs[i].spare > pages - terms[i].least)
-            needs[i].spare = pages - terms[i].least;
-        kept += pages - needs[i].spare;
-        spare += needs[i].spare;
-    }
-    return (uint32_t)(kept + spare / 2);
-}
-
-/* The quickest of five grants, in milliseconds: to the guest that came first, where there is
-  * room. */
-static double bench_grant(void)
-{
-    double least = 1e9;
-    for (unsigned round = 0; round < 5; round++) {
-        size_t first = 0;
-        for (size_t i = 0; i < MANY; i++)
-            first = loans[i].asked && (!loans[first].asked || loans[i].turn < loans[first].turn)
-                        ? i
-                        : first;
-        double start = milliseconds();
-        VbGrant said = vb_loan_grant(UINT32_MAX, loans, MANY);
-        double took = milliseconds() - start;
-        least = took < least ? took : least;
-        if (said.code != VB_OK || said.guest != first || loans[first].asked != 0)
-            fail("a grant among many guests", round);
-    }
-    return least;
-}
-
-static double bench_lent(uint32_t frames, bool by_terms)
-{
-    double least = 1e9;
-    for (unsigned round = 0; round < 5; round++) {
-        double start = milliseconds();
-        VbTargets said = by_terms
-                             ? vb_loan_class_targets(frames, loans, MANY, terms, MANY, shares, MANY,
-                                                     needs, MANY, targets, MANY)
-                             : vb_loan_targets(frames, loans, MANY, needs, MANY, targets, MANY);
-        double took = milliseconds() - start;
-        least = took < least ? took : least;
-        if (said.code != VB_OK || memcmp(targets, wanted, sizeof targets) != 0)
-            fail(by_terms ? "targets by terms of many guests"
-                          : "targets of many guests that are lent to",
-                 round);
-    }
-    return least;
-}
-
 static void check_time(const char *what, double took)
 {
     printf("targets: %s among %u guests in %.2f ms\n", what, MANY, took);
     if (took > MOST_MILLISECONDS)
         fail("more than 20 ms", 0);
-}
-
-/* By terms, and then without them: each guest may give all that it can spare, and all have one
- * priority. */
-static void bench_lending(void)
-{
-    uint32_t frames = any_loans();
-    if (share_by_sort(MANY, frames) > 0)
-        fail("a host that can't be served", 0);
-    check_time("vb_loan_class_targets", bench_lent(frames, true));
-    memset(terms, 0, sizeof terms);
-    for (size_t i = 0; i < MANY; i++)
-        needs[i] = (VbNeed){loans[i].pages,
-                            loans[i].asked ? loans[i].ballooned - loans[i].asked : loans[i].spare};
-    share_by_sort(MANY, frames);
-    check_time("vb_loan_targets", bench_lent(frames, false));
-    check_time("vb_loan_grant", bench_grant());
 }
 
 int main(void)
@@ -262,6 +174,5 @@ int main(void)
     double took = bench(40000);
     printf("targets: %u rounds as a plain sort has them\n", ROUNDS);
     check_time("vb_targets", took);
-    bench_lending();
     return 0;
 }

@@ -1,11 +1,11 @@
 -- What the calls of a host's lender answer in C, worked out: each kind, each field, and all that is left.
-use Rattle.std.proofs.Common.{◌≡◌, ◌∙◌, ◌⊎◌, inl, inr, refl, ap, subst, arith, ℕ, zero, suc, ◌+◌, ◌<◌, ◌≤◌, true, false, List, [], ◌∷◌, map, Option, Some, None}
+use Rattle.std.proofs.Common.{◌≡◌, inl, inr, refl, subst, arith, ℕ, zero, suc, ◌<◌, false, List, [], ◌∷◌, map, Option, Some, None}
 use Rattle.vb_host.specs.declared.event.Event.{Event}
 use Rattle.vb_host.specs.declared.event.Event.TheVariants.{Hears, Grants, Overdraws, Wants, Targets, Arrives, Joins, TakesOver, Uncounts, Budget, Prefers, Defers}
 use Rattle.vb_host.specs.declared.report.Report.{Report}
 use Rattle.vb_host.specs.declared.seat.Seat.{Seat}
-use Rattle.vb_host.specs.Lending.{Lending, held_at, test_at, room, rank_at}
-use Rattle.vb_host.specs.Line.{ByGrants, Granted, GrantsNone, IsFirst, IsNextGrant, IsStep, Stays}
+use Rattle.vb_host.specs.Lending.{held_at, test_at}
+use Rattle.vb_host.specs.Line.{IsStep, Stays}
 use Rattle.vb_host.specs.Seats.{covers, newcomer}
 use Rattle.vb_host.proofs.Outcome.{step_one}
 use Rattle.vb_c.specs.declared.seats.VbHost.{VbHost}

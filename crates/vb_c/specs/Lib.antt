@@ -8,7 +8,6 @@ pub mod Notices
 pub mod Serving
 pub mod Places
 pub mod Queues
-pub mod Lending
 pub mod Seats
 pub mod Hosting
 pub mod Policy

@@ -1,19 +1,14 @@
 -- Targets of the class in which what is missing runs out, with all that lower ones give, are targets by class.
-use Rattle.std.proofs.Common.{◌≡◌, ◌⊎◌, inl, inr, ℕ, zero, suc, ◌+◌, ◌-◌, ◌<◌, ◌≤◌, min, if◌then◌else◌, Bool, true, false, nat_lt, ◌==◌, List, [], ◌∷◌, length, map, sum, sum_by, slice_index, refl, ap, sym, subst, Result, ◌∙◌, arith}
+use Rattle.std.proofs.Common.{◌≡◌, ◌⊎◌, inl, inr, ℕ, zero, suc, ◌+◌, ◌-◌, ◌<◌, ◌≤◌, if◌then◌else◌, true, false, nat_lt, ◌==◌, List, [], ◌∷◌, length, map, sum, sum_by, slice_index, refl, ap, sym, subst, Result, ◌∙◌, arith}
 use Rattle.std.proofs.lemmas.Bool.{cases_lt, cases_order}
 use Rattle.std.proofs.lemmas.Bool.Decides.{nat_tests}
 use Rattle.std.proofs.lemmas.List.Sums.{sum_by-cons}
 use Rattle.std.specs.List.{AllByRecursion}
 use Rattle.vb_virtio.specs.Targets.{Need, AreTargets, GivesBefore, missing, shortage, spare_at}
-use Rattle.vb_lender.specs.declared.loan.Loan.{Loan}
 use Rattle.vb_lender.specs.declared.terms.Share.{Share}
-use Rattle.vb_lender.specs.declared.terms.Terms.{Terms}
-use Rattle.vb_lender.specs.Classes.{AreClassTargets, GivesFirst, IsLastClass, all_below, alone, most_priority, priority_at, share_of, shares_of, spare_below, spared_below, whole}
-use Rattle.vb_lender.specs.Lending.{AreSound, owed, value_at}
-use Rattle.vb_lender.specs.Targets.{HasReached, can_spare, need, waited}
+use Rattle.vb_lender.specs.Classes.{AreClassTargets, GivesFirst, IsLastClass, all_below, alone, most_priority, priority_at, spare_below, spared_below, whole}
 use Rattle.vb_balance.specs.Sharing.{SharesInto}
 use Rattle.vb_balance.specs.declared.need.NoTargets.{NoTargets}
-use Rattle.vb_lender.proofs.Shares.{all_cover}
 use Rattle.vb_lender.proofs.Zips.{length-below}
 
 -- ---- one guest
@@ -129,12 +124,6 @@ same_spares (s ∷ shares) = omega (arith, same_spares shares, sum_by-cons (λ (
 pub enough_spare : (frames : ℕ) (shares : List Share) → shortage (map whole shares) frames ≡ 0
     → missing (map whole shares) frames ≤ sum_by (λ s. s.spare) shares
 enough_spare frames shares e = omega (arith, e, same_spares shares)
-
--- what a guest can give by its terms is its own
-pub within_terms : (loans : List Loan) (terms : List Terms) → AllByRecursion (λ s. s.spare ≤ s.pages) (shares_of loans terms)
-within_terms [] terms = tt
-within_terms (s ∷ loans) [] = tt
-within_terms (s ∷ loans) (t ∷ terms) = (omega arith, within_terms loans terms)
 
 -- ---- targets by class
 
@@ -257,62 +246,3 @@ from_balance frames shares targets p h are = record {
       → slice_index targets j ≡ spare_at (map whole shares) j
   in_order i j l m some (inl lower) = absurd (omega (arith, lower, all_one p shares i h l, all_one p shares j h m))
   in_order i j l m some (inr same) = are.in_order i j (omega (arith, l, as_many whole shares)) (omega (arith, m, as_many whole shares)) some same.1
-
-can_less : (s : Loan) → can_spare s ≤ s.pages
-can_less s = by (nat_lt 0 s.asked) (nat_lt 0 s.uncounted) where
-  by : (b c : Bool) → (if b then s.pages - (s.lent + s.asked) else (if c then 0 else min s.spare s.pages)) ≤ s.pages
-  by true c = omega arith
-  by false true = omega arith
-  by false false = omega arith
-
-one_need : (s : Loan) (t : Terms) → t.least ≡ 0 → whole (share_of s t) ≡ need s
-one_need s t e = let same : min (can_spare s) (s.pages - t.least) ≡ can_spare s = omega (arith, e, can_less s) in
-    ap (λ (k : ℕ). record { pages = s.pages; spare = k }) same
-
-pub no_least : (loans : List Loan) (terms : List Terms) → length terms ≡ length loans → AllByRecursion (λ t. t.least ≡ 0) terms
-    → map whole (shares_of loans terms) ≡ map need loans
-no_least [] terms e h = refl
-no_least (s ∷ loans) [] e h = absurd (omega (arith, e))
-no_least (s ∷ loans) (t ∷ terms) e h =
-    ap (λ (n : Need). n ∷ map whole (shares_of loans terms)) (one_need s t h.0)
-    ∙ ap (λ (ns : List Need). need s ∷ ns) (no_least loans terms (omega (arith, e)) h.1)
-
--- ---- what stays to a guest, and room
-
-length-shares : (loans : List Loan) (terms : List Terms) → length terms ≡ length loans → length (shares_of loans terms) ≡ length loans
-length-shares [] terms e = refl
-length-shares (s ∷ loans) [] e = absurd (omega (arith, e))
-length-shares (s ∷ loans) (t ∷ terms) e = ap (λ k. suc k) (length-shares loans terms (omega (arith, e)))
-
-least_at : (loans : List Loan) (terms : List Terms) (i : ℕ) → length terms ≡ length loans → i < length loans
-    → (spare_at (map whole (shares_of loans terms)) i + min (slice_index (map (λ t. t.least) terms) i) (value_at (λ s. s.pages) loans i) ≤ value_at (λ s. s.pages) loans i)
-    × (spare_at (map whole (shares_of loans terms)) i ≤ value_at can_spare loans i)
-least_at [] terms i e l = absurd (omega (arith, l))
-least_at (s ∷ loans) [] i e l = absurd (omega (arith, e))
-least_at (s ∷ loans) (t ∷ terms) zero e l = (omega arith, omega arith)
-least_at (s ∷ loans) (t ∷ terms) (suc i) e l = least_at loans terms i (omega (arith, e)) (omega (arith, l))
-
-pub stays : (frames i : ℕ) (loans : List Loan) (terms : List Terms) (targets : List ℕ) → length terms ≡ length loans
-    → AreClassTargets (shares_of loans terms) frames targets → i < length loans
-    → slice_index targets i + min (slice_index (map (λ t. t.least) terms) i) (value_at (λ s. s.pages) loans i) ≤ value_at (λ s. s.pages) loans i
-stays frames i loans terms targets e are l =
-    omega (arith, are.within i (omega (arith, l, length-shares loans terms e)), (least_at loans terms i e l).0)
-
-same_pages : (loans : List Loan) (terms : List Terms) → length terms ≡ length loans
-    → sum_by (λ n. n.pages) (map whole (shares_of loans terms)) ≡ sum_by (λ s. s.pages) loans
-same_pages [] terms e = refl
-same_pages (s ∷ loans) [] e = absurd (omega (arith, e))
-same_pages (s ∷ loans) (t ∷ terms) e = omega (
-  arith,
-  same_pages loans terms (omega (arith, e)),
-  sum_by-cons (λ (n : Need). n.pages) (whole (share_of s t)) (map whole (shares_of loans terms)),
-  sum_by-cons (λ (x : Loan). x.pages) s loans,
-)
-
-pub make_room : (frames : ℕ) (loans : List Loan) (terms : List Terms) (targets : List ℕ) → AreSound loans → length terms ≡ length loans
-    → AreClassTargets (shares_of loans terms) frames targets → HasReached loans targets → owed loans + waited loans ≤ frames
-make_room frames loans terms targets a e are r =
-    let many = length-shares loans terms e in
-    let all = all_cover loans targets a (are.one_each ∙ many)
-    (λ i l. omega (arith, are.within i (omega (arith, many, l)), (least_at loans terms i e l).1)) r in
-    omega (arith, all, are.enough, same_pages loans terms e)

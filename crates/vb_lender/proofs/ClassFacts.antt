@@ -1,40 +1,13 @@
 -- Worked facts of what guests are asked to give by class.
-use Rattle.std.proofs.Common.{◌≡◌, inl, inr, ℕ, zero, suc, ◌-◌, ◌<◌, ◌≤◌, List, [], ◌∷◌, map, slice_index, Result, Ok, Err, refl, ap, arith}
+use Rattle.std.proofs.Common.{◌≡◌, inl, inr, ℕ, zero, suc, ◌<◌, ◌≤◌, List, [], ◌∷◌, map, slice_index, Result, Ok, Err, refl, ap, arith}
 use Rattle.vb_virtio.specs.Targets.{spare_at}
 use Rattle.vb_balance.specs.declared.need.NoTargets.{NoTargets}
 use Rattle.vb_balance.specs.declared.need.NoTargets.TheVariants.{Short}
-use Rattle.vb_lender.specs.declared.loan.Loan.{Loan}
 use Rattle.vb_lender.specs.declared.terms.Share.{Share}
-use Rattle.vb_lender.specs.declared.terms.Terms.{Terms}
-use Rattle.vb_lender.specs.Classes.{AreClassTargets, AsksByClass, GivesFirst, IsLastClass, all_below, alone, most_priority, priority_at, share_of, shares_of, spare_below, spared_below, whole}
-
-abbrev loan : ℕ → ℕ → ℕ → Loan
-loan lent asked spare = record {
-  pages = 60;
-  ballooned = 60 - lent;
-  lent = lent;
-  asked = asked;
-  turn = 1;
-  spare = spare;
-  uncounted = 0;
-  line = 0;
-}
-
-abbrev terms : ℕ → ℕ → Terms
-terms least priority = record { least = least; priority = priority }
+use Rattle.vb_lender.specs.Classes.{AreClassTargets, AsksByClass, GivesFirst, IsLastClass, all_below, alone, most_priority, priority_at, spare_below, spared_below, whole}
 
 abbrev share : ℕ → ℕ → Share
 share spare priority = record { pages = 60; spare = spare; priority = priority }
-
--- ---- what a guest can give by its terms: its statistics said 40, and one that waits has 25 left
-
-shares : share_of (loan 60 0 40) (terms 0 3) ∷ share_of (loan 60 0 40) (terms 20 3) ∷ share_of (loan 60 0 40) (terms 21 3)
-    ∷ share_of (loan 60 0 40) (terms 61 3) ∷ share_of (loan 20 15 9) (terms 35 3) ∷ share_of (loan 20 15 9) (terms 36 3) ∷ []
-    ≡ share 40 3 ∷ share 40 3 ∷ share 39 3 ∷ share 0 3 ∷ share 25 3 ∷ share 24 3 ∷ []
-shares = refl
-
-pairs : shares_of (loan 60 0 40 ∷ loan 60 0 7 ∷ []) (terms 0 3 ∷ terms 0 1 ∷ []) ≡ share 40 3 ∷ share 7 1 ∷ []
-pairs = refl
 
 -- ---- three guests: the first and the last of a lower priority than the second
 

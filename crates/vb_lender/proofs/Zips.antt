@@ -1,27 +1,9 @@
--- Loans with their terms, and targets with their shares, place by place.
-use Rattle.std.proofs.Common.{◌≡◌, ℕ, zero, suc, ◌+◌, ◌<◌, ◌≤◌, List, [], ◌∷◌, ◌++◌, length, get_or, take, nat_lt, if◌then◌else◌, true, false, refl, ap, subst, arith}
+-- Targets with their shares, place by place.
+use Rattle.std.proofs.Common.{◌≡◌, ℕ, zero, suc, ◌+◌, ◌<◌, ◌≤◌, List, [], ◌∷◌, length, get_or, take, nat_lt, if◌then◌else◌, true, false, refl, ap, subst, arith}
 use Rattle.std.proofs.lemmas.Bool.Decides.{nat_tests}
 use Rattle.std.proofs.Math.ListN.{set}
-use Rattle.vb_lender.specs.declared.loan.Loan.{Loan}
 use Rattle.vb_lender.specs.declared.terms.Share.{Share}
-use Rattle.vb_lender.specs.declared.terms.Terms.{Terms}
-use Rattle.vb_lender.specs.Classes.{all_below, share_of, shares_of}
-
-shares_next : (i : ℕ) (loans : List Loan) (terms : List Terms) (d : Loan) (e : Terms) → i < length loans → i < length terms
-    → shares_of (take (suc i) loans) (take (suc i) terms)
-    ≡ shares_of (take i loans) (take i terms) ++ share_of (get_or loans i d) (get_or terms i e) ∷ []
-shares_next i [] terms d e l m = absurd (omega (arith, l))
-shares_next i (s ∷ loans) [] d e l m = absurd (omega (arith, m))
-shares_next zero (s ∷ loans) (t ∷ terms) d e l m = refl
-shares_next (suc i) (s ∷ loans) (t ∷ terms) d e l m =
-    ap (λ (xs : List Share). share_of s t ∷ xs) (shares_next i loans terms d e (omega (arith, l)) (omega (arith, m)))
-
-pub shares_more : (i : ℕ) (loans : List Loan) (terms : List Terms) (d : Loan) (e : Terms) → i < length loans → i < length terms
-    → shares_of (take (i + 1) loans) (take (i + 1) terms)
-    ≡ shares_of (take i loans) (take i terms) ++ share_of (get_or loans i d) (get_or terms i e) ∷ []
-shares_more i loans terms d e l m = let same : suc i ≡ i + 1 = omega arith in
-    subst (λ (k : ℕ). shares_of (take k loans) (take k terms)
-    ≡ shares_of (take i loans) (take i terms) ++ share_of (get_or loans i d) (get_or terms i e) ∷ []) same (shares_next i loans terms d e l m)
+use Rattle.vb_lender.specs.Classes.{all_below}
 
 -- one more of a lower priority gives all, and one of another stays
 next_set : (p i : ℕ) (shares : List Share) (targets : List ℕ) (d : Share) → i < length shares → length targets ≡ length shares

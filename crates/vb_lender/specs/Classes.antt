@@ -6,23 +6,7 @@ use Rattle.std.specs.Prelude.{[], ◌∷◌, length, map, sum, sum_by, slice_ind
 use Rattle.vb_virtio.specs.Targets.{Need, GivesBefore, missing, shortage, spare_at}
 use Rattle.vb_balance.specs.declared.need.NoTargets.{NoTargets}
 use Rattle.vb_balance.specs.declared.need.NoTargets.TheVariants.{Short}
-use Rattle.vb_lender.specs.declared.loan.Loan.{Loan}
 use Rattle.vb_lender.specs.declared.terms.Share.{Share}
-use Rattle.vb_lender.specs.declared.terms.Terms.{Terms}
-use Rattle.vb_lender.specs.Targets.{can_spare}
-
--- What a guest has and can give: never so much that fewer than its least pages stay to it.
-abbrev pub share_of : Loan → Terms → Share
-share_of s t = record {
-  pages = s.pages;
-  spare = min (can_spare s) (s.pages - t.least);
-  priority = t.priority;
-}
-
-abbrev pub shares_of : List Loan → List Terms → List Share
-shares_of [] terms = []
-shares_of (s ∷ loans) [] = []
-shares_of (s ∷ loans) (t ∷ terms) = share_of s t ∷ shares_of loans terms
 
 -- as `vb_balance` sees it
 abbrev pub whole : Share → Need

@@ -8,7 +8,7 @@ use Rattle.vb_lender.specs.declared.guest.Contact.TheVariants.{Starting, Silent,
 use Rattle.vb_lender.specs.declared.guest.HostGuest.{HostGuest}
 use Rattle.vb_lender.specs.declared.terms.Share.{Share}
 use Rattle.vb_lender.specs.Classes.{AsksByClass}
-use Rattle.vb_lender.specs.Targets.{can_spare}
+use Rattle.vb_lender.specs.Loans.{can_spare}
 use Rattle.vb_balance.specs.Serving.{StillServe}
 
 -- the contact of a number that anybody may have written

@@ -5,18 +5,13 @@ ghost use Rattle.std.specs.Prelude.{◌≡◌, ℕ, ◌+◌, ◌-◌, ◌*◌, �
 ghost use Rattle.std.specs.Prelude.{slice_index, sum_by};
 ghost use Rattle.std.specs.List.{AllByRecursion};
 ghost use Rattle.vb_virtio.specs.Targets.{AreTargets, missing, shortage};
-ghost use Rattle.vb_lender.specs.declared.loan.Loan.{Loan};
 ghost use Rattle.vb_lender.specs.declared.terms.Share.{Share};
-ghost use Rattle.vb_lender.specs.declared.terms.Terms.{Terms};
 ghost use Rattle.vb_lender.specs.Classes.{AreClassTargets, AsksByClass, IsLastClass, all_below};
 ghost use Rattle.vb_lender.specs.Classes.{alone};
-ghost use Rattle.vb_lender.specs.Classes.{most_priority, shares_of, spare_below, spared_below};
+ghost use Rattle.vb_lender.specs.Classes.{most_priority, spare_below, spared_below};
 ghost use Rattle.vb_lender.specs.Classes.{whole};
-ghost use Rattle.vb_lender.specs.Lending.{AreSound, owed, value_at};
-ghost use Rattle.vb_lender.specs.Targets.{HasReached, need, waited};
 
-use crate::terms::shares_into;
-use crate::{Loan, Share, Terms};
+use crate::Share;
 use vb_balance::{GuestNeed, NoTargets, targets_into};
 
 /// How many pages more than frames there are.
@@ -198,32 +193,7 @@ pub(crate) fn ask_shares(
     }
 }
 
-/// Puts a target for each guest into `targets`, by the guests' terms, so that there is room for all
-/// that guests wait for once the others have their targets in their balloons: no guest is asked for
-/// so much that fewer than its least pages stay to it, and guests of a lower priority are asked for
-/// all that they can give before one of a higher priority is asked for any. `Short` where all that
-/// the guests can give is too little: then each is asked for all that it can give. What `shares`
-/// and `needs` have before doesn't matter.
-pub fn ask_by_class(
-    frames: u32,
-    loans: &[Loan],
-    terms: &[Terms],
-    shares: &mut [Share],
-    needs: &mut [GuestNeed],
-    targets: &mut [u32],
-) -> Result<(), NoTargets>
-    requires terms { length terms.now ≡ length loans.now }
-    requires shares { length shares.old ≡ length loans.now }
-    requires needs { length needs.old ≡ length loans.now }
-    requires targets { length targets.old ≡ length loans.now }
-    ensures { AsksByClass frames (shares_of loans.now terms.now) targets.new result }
-{
-    shares_into(loans, terms, shares);
-    ask_shares(frames, shares, needs, targets)
-}
-
-/// With one class, targets by class are those of `vb_balance`, and with no least pages they are
-/// over the same needs.
+/// With one class, targets by class are those of `vb_balance`.
 pub fn one_class_is_balances_own()
     ensures to { (frames : ℕ) (shares : List Share) (targets : List ℕ) (priority : ℕ) →
         AllByRecursion (λ s. s.priority ≡ priority) shares →
@@ -231,25 +201,4 @@ pub fn one_class_is_balances_own()
     ensures from { (frames : ℕ) (shares : List Share) (targets : List ℕ) (priority : ℕ) →
         AllByRecursion (λ s. s.priority ≡ priority) shares →
         AreTargets (map whole shares) frames targets → AreClassTargets shares frames targets }
-    ensures needs { (loans : List Loan) (terms : List Terms) → length terms ≡ length loans →
-        AllByRecursion (λ t. t.least ≡ 0) terms →
-        map whole (shares_of loans terms) ≡ map need loans }
-{}
-
-/// A guest that is asked for its target keeps its least pages, or all where it has fewer.
-pub fn least_stays()
-    ensures { (frames i : ℕ) (loans : List Loan) (terms : List Terms) (targets : List ℕ) →
-        length terms ≡ length loans → AreClassTargets (shares_of loans terms) frames targets →
-        i < length loans →
-        slice_index targets i + min (slice_index (map (λ t. t.least) terms) i)
-        (value_at (λ s. s.pages) loans i) ≤ value_at (λ s. s.pages) loans i }
-{}
-
-/// Where each guest that doesn't wait has its target by class in its balloon, there is room for all
-/// that the others wait for.
-pub fn class_targets_make_room()
-    ensures { (frames : ℕ) (loans : List Loan) (terms : List Terms) (targets : List ℕ) →
-        AreSound loans → length terms ≡ length loans →
-        AreClassTargets (shares_of loans terms) frames targets → HasReached loans targets →
-        owed loans + waited loans ≤ frames }
 {}

@@ -5,7 +5,7 @@ ghost use Rattle.vb_lender.specs.Guests.{charged, contact_of, counts, forced, gi
 ghost use Rattle.vb_lender.specs.Guests.{has_loan};
 ghost use Rattle.vb_lender.specs.Guests.{rest, rests, spares, tells, unused, waits, low_need};
 
-use crate::{Loan, Share, can_spare};
+use crate::{Loan, Share};
 use vb_balance::GuestNeed;
 
 /// Whether a guest's word on its memory is at hand.
@@ -134,7 +134,7 @@ impl HostGuest {
     {
         let spare = self.tells(floor);
         if self.has_loan() {
-            can_spare(&Loan { spare, ..self.loan })
+            Loan { spare, ..self.loan }.can_spare()
         } else {
             spare.min(self.charged())
         }

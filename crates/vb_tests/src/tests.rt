@@ -7,7 +7,6 @@ mod device;
 mod driver;
 mod faults;
 mod frames;
-mod lender;
 mod notices;
 mod pages;
 mod ram;

@@ -1,4 +1,4 @@
-use Rattle.std.proofs.Common.{◌≡◌, subst, refl}
+use Rattle.std.proofs.Common.{subst, refl}
 use Rattle.vb_monitor.specs.{declared.room.Room.Room, Machine.{Ahead, whole}, Steps.step_of}
 use Rattle.vb_c.proofs.serving.leave_hints.Goals as goal
 
