@@ -78,6 +78,11 @@ struct balloon {
      * read once. It doesn't call the balloon. */
     void (*copy)(void *context, const struct balloon_region *region, uint64_t at, uint8_t *to,
                  size_t length);
+    /* The device has written these bytes of a region: a monitor that keeps a dirty log marks their
+     * pages. It is called for each stretch, once all of a used element and the index after it are
+     * there. It doesn't call the balloon. */
+    void (*on_written)(void *context, const struct balloon_region *region, uint64_t at,
+                       uint64_t length);
     /* The set of the pages in the balloon, or NULL: words of the monitor's, zeros at first
      * (vb_mark). A page is put in before it is discarded, and taken out before its chain is given
      * back. A reset empties it. Save and restore it beside `state`. */
@@ -228,6 +233,12 @@ static inline bool balloon_tell_pages(struct balloon *balloon, struct balloon_re
     return told;
 }
 
+/* Names a stretch that the device has written. */
+static inline void balloon_tell_written(const struct balloon *balloon, VbSpot at, uint64_t length)
+{
+    balloon->on_written(balloon->context, &balloon->regions[at.region], at.offset, length);
+}
+
 /* Publishes a used element: its two numbers, the fence, then the index. */
 static inline void balloon_give_back(const struct balloon *balloon)
 {
@@ -237,6 +248,11 @@ static inline void balloon_give_back(const struct balloon *balloon)
         htole32(notice->used_length);
     __atomic_thread_fence(__ATOMIC_RELEASE);
     *(volatile balloon_word16 *)balloon_at(balloon, notice->index_at) = htole16(notice->used_index);
+    if (!balloon->on_written)
+        return;
+    balloon_tell_written(balloon, notice->id_at, sizeof(balloon_word32));
+    balloon_tell_written(balloon, notice->length_at, sizeof(balloon_word32));
+    balloon_tell_written(balloon, notice->index_at, sizeof(balloon_word16));
 }
 
 /* Tells, discards and gives back; what is still to be done then. */

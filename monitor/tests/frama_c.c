@@ -204,6 +204,14 @@ static void copy_bytes(void *context, const struct balloon_region *region, uint6
     balloon_read_once(to, region->host + at, length);
 }
 
+/* A hook that is told what was written: bytes of a region. */
+static void be_told_of_a_write(void *context, const struct balloon_region *region, uint64_t at,
+                               uint64_t length)
+{
+    (void)context;
+    //@ assert within_the_region: 0 < length <= 4 && at + length <= region->length;
+}
+
 /* The regions, and a balloon over them with any hooks. */
 static void begin(void)
 {
@@ -220,6 +228,7 @@ static void begin(void)
     balloon.on_hint_id = maybe() ? hear_id : NULL;
     balloon.discard = maybe() ? discard : NULL;
     balloon.copy = maybe() ? copy_bytes : NULL;
+    balloon.on_written = maybe() ? be_told_of_a_write : NULL;
     balloon.keeps_pages = maybe();
     balloon.ballooned = has_set ? words : NULL;
     balloon.deflating = has_set ? waiting : NULL;

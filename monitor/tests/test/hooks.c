@@ -203,9 +203,55 @@ static void a_hook_may_copy(void)
     free_memory(&amid);
 }
 
+/* The stretches that a hook was told of: their addresses, their lengths, and what was there then. */
+static struct stretch {
+    uint64_t at, length, there;
+} stretches[8];
+static uint32_t stretch_count;
+
+static void on_written(void *context, const struct balloon_region *region, uint64_t from,
+                       uint64_t length)
+{
+    struct stretch *it = &stretches[stretch_count++];
+    (void)context;
+    EXPECT(stretch_count < 8 && length <= sizeof it->there);
+    *it = (struct stretch){region->guest + from, length, 0};
+    memcpy(&it->there, region->host + from, length);
+}
+
+static void expect_stretch(const struct stretch *it, uint64_t at, uint64_t length, uint64_t there)
+{
+    EXPECT(it->at == at && it->length == length && le64toh(it->there) == there);
+}
+
+/* Each stretch that is written is named, once it is there, and no other one. */
+static void a_hook_hears_what_was_written(void)
+{
+    for (uint32_t kind = 0; kind < VB_NO_KIND; kind++) {
+        offer(kind);
+        const uint16_t before = used_index(&amid, kind);
+        for (uint32_t i = 0; i < 16; i++)
+            put(&amid, used_of(kind) + 4 + 4 * i, 0xaaaaaaaa, 4);
+        stretch_count = 0;
+        amid.balloon.on_written = on_written;
+        EXPECT(balloon_notify(&amid.balloon, kind).code == VB_OK);
+        EXPECT(kind != VB_STATISTICS || balloon_ask_statistics(&amid.balloon).code == VB_OK);
+        EXPECT(used_since(kind) > 0 && stretch_count == 3u * used_since(kind));
+        for (uint32_t i = 0; i < used_since(kind); i++) {
+            const uint64_t element = used_of(kind) + 4 + 8 * (before + i);
+            const uint16_t after = (uint16_t)(before + i + 1);
+            expect_stretch(&stretches[3 * i], element, 4, i);
+            expect_stretch(&stretches[3 * i + 1], element + 4, 4, 0);
+            expect_stretch(&stretches[3 * i + 2], used_of(kind) + 2, 2, after);
+        }
+        free_memory(&amid);
+    }
+}
+
 void test_hooks(void)
 {
     RUN(a_hook_may_copy());
+    RUN(a_hook_hears_what_was_written());
     RUN(a_hook_may_reset());
     RUN(later_hooks_may_reset());
     RUN(a_hook_may_end_a_round());

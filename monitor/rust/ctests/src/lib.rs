@@ -48,7 +48,8 @@ pub struct Struct {
     on_statistics: Option<OnStatistics>,
     on_hint_id: Option<OnHintId>,
     discard: Option<OnDiscard>,
-    _copy: Option<extern "C" fn()>, // the crate's memory copies by itself
+    _copy: Option<extern "C" fn()>,       // the crate's memory copies by itself
+    _on_written: Option<extern "C" fn()>, // and marks a bitmap
     ballooned: *mut u64,
     ballooned_words: usize,
     deflating: *mut u64,
