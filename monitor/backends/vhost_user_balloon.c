@@ -36,6 +36,7 @@
 #include "guest/inbox.h"
 #include "guest/keeper.h"
 #include "guest/kept.h"
+#include "guest/marks.h"
 #include "guest/options.h"
 #include "guest/state.h"
 
@@ -114,6 +115,18 @@ static int serve(struct backend *backend)
     return backend->gone ? 0 : -1;
 }
 
+/* The hook for the memory that a client hands over: a set for its pages, unless it ends too far up
+ * for one. */
+static bool admit(struct backend *backend)
+{
+    static uint64_t set[MOST_SET / 64];
+    static struct marks marks = {.set = set};
+    if (!marks_follow(backend, &marks,
+                      backend->balloon.state.device.settings.memory_end / BALLOON_PAGE))
+        backend->balloon.ballooned = NULL;
+    return true;
+}
+
 static const char help[] =
     "vhost_user_balloon SOCKET | --socket-path SOCKET | --fd FD [--features HEX] [--strict] "
     "[--keep] [--hints]\n"
@@ -173,6 +186,7 @@ int main(int count, char **words)
     if (!backend_start(&backend, &options) || !state_load(&backend))
         return 2;
     backend.tell = client_tell;
+    backend.admit = admit;
     if (take_socket(&backend, where.file)) {
         puts("listening");
         int status = backend_run(&backend, serve);

@@ -81,7 +81,15 @@ void backend_leave(struct backend *backend)
     if (backend->channel >= 0)
         file_close(backend->channel);
     backend->channel = -1;
+    backend_forget_migration(backend);
     memory_clear(&backend->memory);
+}
+
+void backend_forget_migration(struct backend *backend)
+{
+    transfer_forget(backend);
+    dirty_log_forget(&backend->log);
+    backend->balloon.on_written = NULL;
 }
 
 bool backend_is_ready(const struct backend *backend)
@@ -185,6 +193,9 @@ bool backend_finish(struct backend *backend, uint32_t kind, const struct balloon
                strerror(result->error));
     if (result->held && backend->held)
         backend->held(backend, result->held_pages);
+    if (backend->log.is_short)
+        return refuse("the log of %llu bytes has no bit for a page that was written",
+                      (unsigned long long)backend->log.bytes);
     if (!interrupt(backend, result))
         return false;
     if (result->code == VB_BROKEN)

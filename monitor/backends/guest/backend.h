@@ -3,18 +3,21 @@
 #define BACKEND_H
 #include "guest_memory.h"
 #include "counters.h"
+#include "dirty_log.h"
 #include "numbers.h"
 #include "process.h"
 #include "rings.h"
 #include "say.h"
 #include "tags.h"
+#include "transfer.h"
 
 /* The most chains of a notice: then the other queues and the client have their turn. */
 enum { MOST_TAGS = 16, MOST_REMARKS = 100, MOST_REMARK = 256, MOST_CHAINS = 64, MOST_PAGES = 1024 };
 
 /* Files that a client may have opened here: those of its memory and of a message, the events of its
- * queues, its channel, itself; and those of a process without one. */
-enum { FILES_OF_CLIENT = MOST_REGIONS + 8 + 3 * QUEUES + 2, FILES_OF_PROCESS = 8 };
+ * queues, its channel, itself, the pipe of its device's state; and those of a process without
+ * one. */
+enum { FILES_OF_CLIENT = MOST_REGIONS + 8 + 3 * QUEUES + 3, FILES_OF_PROCESS = 8 };
 
 /* What the handler of a message comes to: FAILED is for the client alone, and nothing has changed,
  * but that features that are refused leave none. UNHANDLED: it wasn't called yet. */
@@ -56,6 +59,9 @@ struct backend {
     int socket, channel;  /* the client's, and the one on which it is told things; -1: none */
     int listener;         /* where the client comes while `socket` is -1 */
     const struct options *options;
+    struct dirty_log log;     /* of what the device writes, while a client migrates its guest */
+    struct transfer transfer; /* of the device itself */
+    struct moved moved;       /* what has come by it */
     /* Tells the driver of a used buffer on a queue, or of a change of the configuration (queue
       * -1). */
     bool (*tell)(struct backend *backend, int queue);
@@ -113,6 +119,9 @@ void backend_leave(struct backend *backend);
  * gone; -1 where it can't be served. */
 int backend_run(struct backend *backend, int (*serve)(struct backend *backend));
 
+/* No client migrates its guest any longer. */
+void backend_forget_migration(struct backend *backend);
+
 /* The pages in the balloon that the host doesn't hold any longer. */
 uint32_t backend_given(const struct backend *backend);
 
@@ -121,6 +130,9 @@ bool backend_is_ready(const struct backend *backend);
 
 /* Grants the deflate that is held, and serves what is after it. */
 bool backend_give(struct backend *backend);
+
+/* Asks the guest for new statistics: `asked` where it could be; as backend_finish. */
+bool backend_ask(struct backend *backend, bool *asked);
 
 /* Serves the queue of this number. */
 bool backend_serve(struct backend *backend, unsigned number);

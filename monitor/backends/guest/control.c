@@ -35,21 +35,28 @@ static void print_statistics(const struct backend *backend)
     putchar('\n');
 }
 
-/* Asks the guest for new statistics; `counters` and `statistics` say when they have come. */
-static bool ask(struct backend *backend)
+bool backend_ask(struct backend *backend, bool *asked)
 {
     const VbDevice *device = &backend->balloon.state.device;
+    *asked = false;
     for (unsigned number = 0; number < QUEUES; number++) {
         if (vb_kind(device, number) != VB_STATISTICS || !backend_is_ready(backend))
             continue;
         audit_before(backend, number);
         struct balloon_result result = balloon_ask_statistics(&backend->balloon);
         audit_after(backend, number);
-        puts(result.code == VB_OK ? "asked" : "nothing");
+        *asked = result.code == VB_OK;
         return backend_finish(backend, VB_STATISTICS, &result);
     }
-    puts("nothing");
     return true;
+}
+
+/* `counters` and `statistics` say when what is asked for has come. */
+static bool ask(struct backend *backend)
+{
+    bool asked, served = backend_ask(backend, &asked);
+    puts(asked ? "asked" : "nothing");
+    return served;
 }
 
 static void set_target(struct backend *backend, const char *number)

@@ -152,6 +152,32 @@ bool event_take_call(struct event *event, int file)
                 (is_eventfd(file) || is_pipe(file) || is_stream(file)) && unblock(file));
 }
 
+bool pipe_take(int file)
+{
+    return (is_pipe(file) || is_stream(file)) && unblock(file);
+}
+
+ssize_t pipe_write(int file, const void *bytes, size_t length)
+{
+    if (!moment_begins())
+        return -1;
+    ssize_t put = write(file, bytes, length);
+    ssize_t outcome = put < 0 && would_wait() ? 0 : put;
+    moment_ends();
+    return outcome;
+}
+
+ssize_t pipe_read(int file, void *to, size_t length, bool *ended)
+{
+    if (!moment_begins())
+        return -1;
+    ssize_t got = read(file, to, length);
+    ssize_t outcome = got < 0 && would_wait() ? 0 : got;
+    moment_ends();
+    *ended = got == 0 && length > 0;
+    return outcome;
+}
+
 int event_read(const struct event *event)
 {
     uint64_t number;

@@ -4,6 +4,8 @@
 #ifndef EVENTS_H
 #define EVENTS_H
 #include <stdbool.h>
+#include <stddef.h>
+#include <sys/types.h>
 
 struct event {
     int file; /* -1: none */
@@ -33,5 +35,14 @@ int event_read(const struct event *event);
 /* Tells the other end; false where that has gone. Where it hasn't read what it was told before, and
  * no more can be told, it knows. */
 bool event_signal(const struct event *event);
+
+/* Whether a file is a pipe or a stream socket, which doesn't block from now on. */
+bool pipe_take(int file);
+
+/* Writes to such a file, or reads from it, without waiting, whatever the other end makes of its
+ * flags: how many bytes; 0 where none can be just now, or where the end has come, which is `ended`;
+ * -1 where none ever can. */
+ssize_t pipe_write(int file, const void *bytes, size_t length);
+ssize_t pipe_read(int file, void *to, size_t length, bool *ended);
 
 #endif

@@ -3,7 +3,7 @@
 
 #include <inttypes.h>
 
-enum { HEAD_OF_CONFIG = 12, IS_FEATURES_OK = 8 };
+enum { IS_FEATURES_OK = 8 };
 
 static VbDevice *device_of(struct backend *backend)
 {
@@ -13,23 +13,25 @@ static VbDevice *device_of(struct backend *backend)
 enum outcome get_features(struct backend *backend, struct message *message)
 {
     return answer_u64(backend, message,
-                      device_of(backend)->settings.offered | HAS_PROTOCOL_FEATURES);
+                      device_of(backend)->settings.offered | HAS_PROTOCOL_FEATURES |
+                          (may_migrate(backend) ? LOG_ALL : 0));
 }
 
 /* The features represent all that comes before them. A client may send them twice before its queues
- * run: the last ones count. */
+ * run: the last ones count. While queues run it may have what they write logged, or no longer. */
 enum outcome set_features(struct backend *backend, struct message *message)
 {
     uint64_t features = message_u64(message, 0);
-    if (rings_run(backend) && features != backend->told.features)
+    uint64_t logs = may_migrate(backend) ? LOG_ALL : 0;
+    if (rings_run(backend) && (features ^ backend->told.features) & ~logs)
         return refuse("the features 0x%" PRIx64 " while queues run", features), STOP;
     if (rings_run(backend))
-        return DONE;
+        return backend->told.features = features, DONE;
     uint32_t answer = rings_negotiate(backend, features);
     if (answer == 0)
         return DONE;
     remark(backend, "the features 0x%" PRIx64 " are answered %" PRIu32,
-           features & ~HAS_PROTOCOL_FEATURES, answer);
+           features_of_device(features), answer);
     return FAILED;
 }
 
@@ -38,6 +40,7 @@ static bool end_session(struct backend *backend)
 {
     rings_forget(backend);
     rings_close(backend);
+    backend_forget_migration(backend);
     return rings_reset(backend) && slots_forget(backend);
 }
 
@@ -57,6 +60,8 @@ static uint64_t protocol_features(const struct backend *backend)
 {
     uint64_t features = MQ_FEATURE | REPLY_ACK_FEATURE | BACKEND_REQ_FEATURE | CONFIG_FEATURE |
                         RESET_DEVICE_FEATURE | IN_BAND_FEATURE | MEM_SLOTS_FEATURE | STATUS_FEATURE;
+    if (may_migrate(backend))
+        features |= LOG_SHMFD_FEATURE | DEVICE_STATE_FEATURE;
     return backend->options->events ? features & ~IN_BAND_FEATURE : features;
 }
 
@@ -132,32 +137,4 @@ enum outcome reset_owner(struct backend *backend, struct message *message)
 {
     (void)message;
     return halt(backend);
-}
-
-/* Whether the message has room for the bytes that it says. */
-static bool has_bytes(const struct message *message, uint32_t size)
-{
-    return size == message->size - HEAD_OF_CONFIG ||
-           refuse("%u bytes of the configuration, in a message with %u", size,
-                  message->size - HEAD_OF_CONFIG);
-}
-
-enum outcome get_config(struct backend *backend, struct message *message)
-{
-    uint8_t body[MOST_BODY];
-    uint32_t offset = message_u32(message, 0), size = message_u32(message, 4);
-    if (!has_bytes(message, size))
-        return STOP;
-    memcpy(body, message->body, HEAD_OF_CONFIG);
-    balloon_read_config(&backend->balloon, offset, body + HEAD_OF_CONFIG, size);
-    return answer_bytes(backend, message, body, HEAD_OF_CONFIG + size);
-}
-
-enum outcome set_config(struct backend *backend, struct message *message)
-{
-    uint32_t offset = message_u32(message, 0), size = message_u32(message, 4);
-    if (!has_bytes(message, size))
-        return STOP;
-    const uint8_t *bytes = message->body + HEAD_OF_CONFIG;
-    return balloon_write_config(&backend->balloon, offset, bytes, size) == VB_OK ? DONE : FAILED;
 }

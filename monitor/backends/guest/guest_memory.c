@@ -101,6 +101,15 @@ static uint8_t *map(const struct region_place *place, int file, uint64_t *page_s
     return mmap(NULL, place->size, PROT_READ | PROT_WRITE, MAP_SHARED, file, (off_t)place->offset);
 }
 
+uint8_t *file_map(int file, uint64_t bytes, uint64_t offset)
+{
+    const struct region_place place = {.size = bytes, .offset = offset};
+    uint64_t page_size, end;
+    uint8_t *at =
+        __builtin_add_overflow(bytes, offset, &end) ? MAP_FAILED : map(&place, file, &page_size);
+    return at == MAP_FAILED ? NULL : at;
+}
+
 bool memory_add(struct guest_memory *memory, struct region_place place, int file)
 {
     uint8_t *at = MAP_FAILED;
@@ -176,6 +185,18 @@ bool memory_holds(const struct guest_memory *memory, uint64_t guest, uint64_t le
         length -= part;
     }
     return true;
+}
+
+void memory_discard(const struct guest_memory *memory, uint64_t guest, uint64_t length)
+{
+    for (unsigned i = 0; i < memory->count; i++) {
+        const struct balloon_region *region = &memory->regions[i];
+        uint64_t first = guest > region->guest ? guest : region->guest;
+        uint64_t end = guest + length, last = region->guest + region->length;
+        end = end < last ? end : last;
+        if (first < end && region->page_size <= BALLOON_PAGE)
+            balloon_discard_bytes(region, first - region->guest, end - first);
+    }
 }
 
 bool memory_word(const struct guest_memory *memory, uint64_t guest, uint16_t *word)

@@ -181,7 +181,7 @@ static unsigned deflates_of(const struct backend *backend)
 {
     unsigned number = 0;
     while (number < QUEUES - 1 &&
-           vb_kind_of(backend->told.features & ~HAS_PROTOCOL_FEATURES, number) != VB_DEFLATE)
+           vb_kind_of(features_of_device(backend->told.features), number) != VB_DEFLATE)
         number++;
     return number;
 }

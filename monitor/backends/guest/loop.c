@@ -81,6 +81,7 @@ static void waits(void *context, struct loop *loop)
     loop_wait_for(loop, client_of(it->backend), POLLIN, serve_client, it);
     loop_wait_for(loop, it->pipe, POLLIN, obey_pipe, it);
     rings_wait(it->backend, loop);
+    transfer_wait(it->backend, loop);
     wait_for_time(it, loop);
 }
 

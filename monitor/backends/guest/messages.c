@@ -28,6 +28,7 @@ static const struct rule rules[] = {
     [RESET_OWNER] = {"RESET_OWNER", reset_owner, 0, 0, 0, 0, 0},
     [SET_MEM_TABLE] = {"SET_MEM_TABLE", set_mem_table, TABLE_HEAD + REGION,
                        TABLE_HEAD + MOST_FILES *REGION, 1, MOST_FILES, 0},
+    [SET_LOG_BASE] = {"SET_LOG_BASE", set_log_base, 2 * WORD, 2 * WORD, 1, 1, LOG_SHMFD_FEATURE},
     [SET_VRING_NUM] = {"SET_VRING_NUM", set_vring_num, STATE, STATE, 0, 0, 0},
     [SET_VRING_ADDR] = {"SET_VRING_ADDR", set_vring_addr, ADDRESSES, ADDRESSES, 0, 0, 0},
     [SET_VRING_BASE] = {"SET_VRING_BASE", set_vring_base, STATE, STATE, 0, 0, 0},
@@ -53,6 +54,10 @@ static const struct rule rules[] = {
                      MEM_SLOTS_FEATURE},
     [SET_STATUS] = {"SET_STATUS", set_status, WORD, WORD, 0, 0, STATUS_FEATURE},
     [GET_STATUS] = {"GET_STATUS", get_status, 0, 0, 0, 0, STATUS_FEATURE},
+    [SET_DEVICE_STATE_FD] = {"SET_DEVICE_STATE_FD", set_device_state_fd, STATE, STATE, 1, 1,
+                             DEVICE_STATE_FEATURE},
+    [CHECK_DEVICE_STATE] = {"CHECK_DEVICE_STATE", check_device_state, 0, 0, 0, 0,
+                            DEVICE_STATE_FEATURE},
 };
 
 enum outcome answer_bytes(struct backend *backend, const struct message *message, const void *body,

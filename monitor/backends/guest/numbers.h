@@ -8,6 +8,9 @@
  * is another word, or where the number is more than `most`. */
 bool read_number(const char *word, int base, uint64_t most, uint64_t *number);
 
+/* A feature: the driver takes no page of the balloon into use before it has told. */
+enum { MUST_TELL_HOST = 1 };
+
 /* What a device offers where nothing is said: MUST_TELL_HOST, STATS_VQ, DEFLATE_ON_OOM, REPORTING
  * and VERSION_1. */
 #define USUAL_FEATURES UINT64_C(0x100000027)

@@ -4,6 +4,9 @@
 
 enum { NUMBER_OF_EVENT = 0xff, NO_FILE = 0x100 };
 
+/* A bit of a ring's flags: what is written to it is logged. */
+enum { LOGGED = 1 };
+
 /* The ring that a message names, or NULL, which is said. */
 static struct ring *ring_of(struct backend *backend, uint64_t number)
 {
@@ -42,6 +45,18 @@ enum outcome set_vring_base(struct backend *backend, struct message *message)
     return DONE;
 }
 
+/* Whether the client has writes to a used ring logged at the addresses of the guest that the ring
+ * has; or not at all. */
+static bool is_logged_where_it_is(const struct backend *backend, const struct message *message)
+{
+    uint64_t used = message_u64(message, 16), log = message_u64(message, 32), guest;
+    if (!(message_u32(message, 4) & LOGGED))
+        return true;
+    return (memory_of_user(&backend->memory, used, &guest) && guest == log) ||
+           refuse("queue %u is to be logged at 0x%llx, where its used ring isn't",
+                  message_u32(message, 0), (unsigned long long)log);
+}
+
 enum outcome set_vring_addr(struct backend *backend, struct message *message)
 {
     uint32_t number = message_u32(message, 0);
@@ -52,10 +67,13 @@ enum outcome set_vring_addr(struct backend *backend, struct message *message)
         return STOP;
     if (ring->runs && (table != ring->table || used != ring->used || avail != ring->avail))
         return refuse("queue %u runs, and can't move", number), STOP;
+    if (!is_logged_where_it_is(backend, message))
+        return STOP;
     ring->table = table;
     ring->used = used;
     ring->avail = avail;
     ring->placed = true;
+    ring->logged = message_u32(message, 4) & LOGGED;
     return DONE;
 }
 

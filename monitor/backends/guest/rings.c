@@ -12,7 +12,7 @@ enum { ACKNOWLEDGE = 1, DRIVER = 3, FEATURES_OK = 11, DRIVER_OK = 15, FAILED_BIT
  * they have none. */
 static uint32_t kind_of(const struct backend *backend, unsigned number)
 {
-    return vb_kind_of(backend->told.features & ~HAS_PROTOCOL_FEATURES, number);
+    return vb_kind_of(features_of_device(backend->told.features), number);
 }
 
 /* The device's own queue of this kind, or NULL. */
@@ -22,6 +22,14 @@ static const VbQueue *queue_of(const struct backend *backend, uint32_t kind)
     const VbQueue *queues[] = {&device->inflate, &device->deflate, &device->statistics,
                                &device->report, &device->hint};
     return kind < VB_NO_KIND ? queues[kind] : NULL;
+}
+
+const struct ring *ring_of_kind(const struct backend *backend, uint32_t kind)
+{
+    for (unsigned number = 0; number < QUEUES; number++)
+        if (kind_of(backend, number) == kind)
+            return &backend->rings[number];
+    return NULL;
 }
 
 bool ring_describes(const struct backend *backend, uint32_t kind, uint64_t guest)
@@ -81,6 +89,7 @@ static bool rest(struct backend *backend)
 
 bool rings_reset(struct backend *backend)
 {
+    backend->moved.awaits = false;
     backend->told.goes_on = backend->told.negotiated = false;
     backend->told.status = 0;
     return write_status(backend, 0, VB_NO_KIND);
@@ -93,7 +102,7 @@ uint32_t rings_negotiate(struct backend *backend, uint64_t features)
         !write_status(backend, DRIVER, VB_NO_KIND))
         return UINT32_MAX;
     backend->told.features = features;
-    uint32_t answer = balloon_negotiate(&backend->balloon, features & ~HAS_PROTOCOL_FEATURES);
+    uint32_t answer = balloon_negotiate(&backend->balloon, features_of_device(features));
     if (answer == 0)
         answer = balloon_write_status(&backend->balloon, FEATURES_OK, &result);
     backend->told.negotiated = answer == 0;
@@ -145,16 +154,21 @@ static bool find_start(struct backend *backend, unsigned number, VbQueueStart *a
 }
 
 /* The queue of inflates starts anew: at 0 a new life begins, with nothing in the balloon; else the
- * last one goes on. */
+ * last one goes on. Where a device was loaded that says at which index it goes on, so does its
+ * driver at that one, and at another one a new life begins. */
 static bool begin_life(struct backend *backend, uint16_t position)
 {
     struct balloon *balloon = &backend->balloon;
+    bool is_loaded = backend->moved.awaits;
+    bool goes_on = is_loaded ? position == backend->moved.index : position > 0;
     if (!backend->told.goes_on)
         return true;
-    if (position == 0 && !may_empty(backend))
+    if (!goes_on && !may_empty(backend))
         return false;
-    backend->told.goes_on = false;
-    if (position > 0)
+    backend->told.goes_on = backend->moved.awaits = false;
+    if (goes_on && is_loaded)
+        return moved_begin(backend);
+    if (goes_on)
         configuration_write(&balloon->state.device, ACTUAL_AT, backend->told.actual);
     else if (balloon->ballooned)
         memset(balloon->ballooned, 0, balloon->ballooned_words * sizeof balloon->ballooned[0]),

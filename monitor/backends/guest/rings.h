@@ -22,6 +22,7 @@ struct ring {
     bool enabled, started;
     bool polled; /* it is looked at now and then, without a kick */
     bool runs;
+    bool logged; /* what is written to its used ring is logged, where the features have it */
 };
 
 /* What a client has told of the whole device. */
@@ -59,6 +60,9 @@ bool rings_settle(struct backend *backend);
 /* Whether any ring runs, and whether this one does. */
 bool rings_run(const struct backend *backend);
 bool ring_runs(const struct backend *backend, unsigned number);
+
+/* The ring of this kind of queue, or NULL. */
+const struct ring *ring_of_kind(const struct backend *backend, uint32_t kind);
 
 /* Whether an address of the guest lies in the descriptors of the queue of this kind. */
 bool ring_describes(const struct backend *backend, uint32_t kind, uint64_t guest);

@@ -1,3 +1,4 @@
+#define _GNU_SOURCE
 #include "state.h"
 #include "backend.h"
 #include "hints.h"
@@ -28,11 +29,19 @@ static int open_state(const char *path)
     return errno = EINVAL, -1;
 }
 
+void state_take(struct backend *backend, VbBalloon saved)
+{
+    hints_go_on(backend, saved);
+    balloon_set_target(&backend->balloon, saved.device.target);
+    configuration_write(&backend->balloon.state.device, POISON_AT, saved.device.poison);
+    backend->told.actual = saved.device.actual;
+    backend->told.goes_on = true;
+}
+
 bool state_load(struct backend *backend)
 {
     const char *path = backend->options->state;
     VbBalloon before = backend->balloon.state;
-    const VbDevice *device = &before.device;
     uint8_t bytes[VB_STATE_BYTES + 1];
     int file = path ? open_state(path) : -1;
     if (file < 0)
@@ -45,16 +54,11 @@ bool state_load(struct backend *backend)
     uint32_t code = vb_restore(&before.device, &before.held, bytes, (size_t)length);
     if (code != VB_OK)
         return refuse("%s is no saved state: it is answered %u", path, code);
-    hints_go_on(backend, before);
-    balloon_set_target(&backend->balloon, device->target);
-    configuration_write(&backend->balloon.state.device, POISON_AT, device->poison);
-    backend->told.actual = device->actual;
-    backend->told.goes_on = true;
+    state_take(backend, before);
     return true;
 }
 
-/* The device as it is to be found: rings that have stopped go on. */
-static uint32_t make_bytes(const struct backend *backend, uint8_t bytes[VB_STATE_BYTES])
+uint32_t state_bytes(const struct backend *backend, uint8_t bytes[VB_STATE_BYTES])
 {
     VbDevice device = backend->balloon.state.device;
     if (backend->told.goes_on)
@@ -113,7 +117,7 @@ bool state_save(struct backend *backend, bool again)
     uint8_t bytes[VB_STATE_BYTES];
     if (!path)
         return true;
-    uint32_t code = make_bytes(backend, bytes);
+    uint32_t code = state_bytes(backend, bytes);
     if (code != VB_OK)
         return refuse("the device can't be saved: it is answered %u", code);
     bool changed = memcmp(bytes, state.wanted, sizeof bytes) != 0;

@@ -1,9 +1,19 @@
 /* A file that keeps what a device is beyond its process. */
 #ifndef STATE_H
 #define STATE_H
+#include "vb.h"
+
 #include <stdbool.h>
 
 struct backend;
+
+/* Puts the device as it is to be found, whose rings go on, into VB_STATE_BYTES bytes: as
+ * vb_save. */
+uint32_t state_bytes(const struct backend *backend, uint8_t bytes[VB_STATE_BYTES]);
+
+/* Takes the target, `actual` and the last round of hints of a device that was saved: its rings go on
+ * once a client tells of them anew. */
+void state_take(struct backend *backend, VbBalloon saved);
 
 /* Takes the target, `actual` and the last round of hints of the device that its options' file has,
  * if there is one: its rings go on once a client tells of them anew. False, which is said, where

@@ -11,6 +11,7 @@ enum { /* requests of the client */
        SET_OWNER = 3,
        RESET_OWNER = 4,
        SET_MEM_TABLE = 5,
+       SET_LOG_BASE = 6,
        SET_VRING_NUM = 8,
        SET_VRING_ADDR = 9,
        SET_VRING_BASE = 10,
@@ -32,6 +33,8 @@ enum { /* requests of the client */
        REM_MEM_REG = 38,
        SET_STATUS = 39,
        GET_STATUS = 40,
+       SET_DEVICE_STATE_FD = 42,
+       CHECK_DEVICE_STATE = 43,
 };
 
 enum { /* messages of the backend */
@@ -45,6 +48,7 @@ enum { MOST_BODY = 512 };
  * has. */
 #define HAS_PROTOCOL_FEATURES (UINT64_C(1) << 30)
 #define MQ_FEATURE (UINT64_C(1) << 0)
+#define LOG_SHMFD_FEATURE (UINT64_C(1) << 1)
 #define REPLY_ACK_FEATURE (UINT64_C(1) << 3)
 #define BACKEND_REQ_FEATURE (UINT64_C(1) << 5)
 #define CONFIG_FEATURE (UINT64_C(1) << 9)
@@ -52,6 +56,16 @@ enum { MOST_BODY = 512 };
 #define IN_BAND_FEATURE (UINT64_C(1) << 14)
 #define MEM_SLOTS_FEATURE (UINT64_C(1) << 15)
 #define STATUS_FEATURE (UINT64_C(1) << 16)
+#define DEVICE_STATE_FEATURE (UINT64_C(1) << 19)
+
+/* The bit of the features by which a client asks that what the device writes is logged. */
+#define LOG_ALL (UINT64_C(1) << 26)
+
+/* Of a client's features, the device's. */
+static inline uint64_t features_of_device(uint64_t told)
+{
+    return told & ~(HAS_PROTOCOL_FEATURES | LOG_ALL);
+}
 
 struct message {
     uint32_t request, flags, size;

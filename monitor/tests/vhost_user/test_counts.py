@@ -37,8 +37,8 @@ def test_what_each_counter_counts(start):
         assert client.told() == REPORT
     client.accepted(SET_CONFIG, struct.pack("<IIII", 4, 4, 0, 6))
     assert (client.backend.ask("target 6"), client.backend.ask("ask")) == ("ok", "asked")
-    # 128 pages less 3 and 7; 24 messages until the queues run, 5 kicks and a write; a question
-    # gives one more buffer back.
+    # 4 pages come into the set, and 2 leave it. 128 pages less 3 and 7; 24 messages until the
+    # queues run, 5 kicks and a write; a question gives one more buffer back.
     assert client.backend.counters() == {
         "target": 6,
         "actual": 6,
@@ -56,7 +56,7 @@ def test_what_each_counter_counts(start):
         "skipped": 1,
         "in_holes": 1,
         "kept": 0,
-        "marked": 0,
+        "marked": 6,
         "unmarked": 0,
         "inflated": 4,
         "deflated": 2,

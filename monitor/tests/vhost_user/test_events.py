@@ -20,6 +20,7 @@ from vhost_client import (
     NO_FILE,
     PAGE,
     PAGES_OF_REGION,
+    MIGRATION,
     QEMU_PROTOCOL,
     REGIONS,
     REM_MEM_REG,
@@ -56,7 +57,7 @@ def test_no_call_is_wanted(start_by_events):
 
 def test_messages_are_not_offered(serve_well):
     client = serve_well("--events")
-    assert client.send(vhost_client.GET_PROTOCOL_FEATURES) == word(QEMU_PROTOCOL)
+    assert client.send(vhost_client.GET_PROTOCOL_FEATURES) == word(QEMU_PROTOCOL | MIGRATION)
 
 
 def test_a_ring_goes_on_where_it_was(start_by_events):

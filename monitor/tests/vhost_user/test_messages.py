@@ -6,11 +6,12 @@ import re
 import linux_kit
 import pytest
 import vhost_client
-from vhost_client import OFFERED, SET_PROTOCOL_FEATURES
+from vhost_client import MIGRATION, OFFERED, SET_PROTOCOL_FEATURES
 from vhost_demands import demand_refused, word
 
 # Numbers of protocol features.
-MQ, BACKEND_REQ, CONFIG, RESET_DEVICE, INBAND, MEM_SLOTS, STATUS = 0, 5, 9, 13, 14, 15, 16
+MQ, LOG_SHMFD, BACKEND_REQ, CONFIG, RESET_DEVICE, INBAND, MEM_SLOTS = 0, 1, 5, 9, 13, 14, 15
+STATUS, DEVICE_STATE = 16, 19
 
 # Bytes of a table of memory by its regions, and of a configuration by its own; and both of one
 # region.
@@ -36,6 +37,9 @@ MESSAGES = {
     "REM_MEM_REG": (SLOT, (0, 1), MEM_SLOTS),
     "SET_STATUS": (8, 0, STATUS),
     "GET_STATUS": (0, 0, STATUS),
+    "SET_LOG_BASE": (16, 1, LOG_SHMFD),
+    "SET_DEVICE_STATE_FD": (8, 1, DEVICE_STATE),
+    "CHECK_DEVICE_STATE": (0, 0, DEVICE_STATE),
 }
 
 
@@ -78,7 +82,7 @@ def test_the_fewest_and_the_most_bytes_and_files(serve, name):
     sizes, files, _ = rule_of(name)
     for size, count in {(sizes[0], files[0]), (sizes[1], files[1])}:
         client = serve()
-        client.accepted(SET_PROTOCOL_FEATURES, word(OFFERED))
+        client.accepted(SET_PROTOCOL_FEATURES, word(OFFERED | MIGRATION))
         send(client, name, size, count)
         said = client.close()[1]
         assert f"{name} has" not in said and "negotiated" not in said, said
@@ -88,6 +92,6 @@ def test_the_fewest_and_the_most_bytes_and_files(serve, name):
 def test_a_message_wants_its_feature(serve, name):
     sizes, files, feature = rule_of(name)
     client = serve()
-    client.accepted(SET_PROTOCOL_FEATURES, word(OFFERED & ~(1 << feature)))
+    client.accepted(SET_PROTOCOL_FEATURES, word((OFFERED | MIGRATION) & ~(1 << feature)))
     send(client, name, sizes[0], files[0])
     demand_refused(client, f"{name} isn't negotiated")

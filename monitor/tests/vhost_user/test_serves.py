@@ -18,10 +18,12 @@ from vhost_client import (
     GET_PROTOCOL_FEATURES,
     GET_QUEUE_NUM,
     HAS_PROTOCOL,
+    LOG_ALL,
     INFLATE,
     NEXT,
     NO_LINES,
     NO_NUMBERS,
+    MIGRATION,
     OFFERED,
     PAGE,
     PAGES_OF_REGION,
@@ -42,8 +44,8 @@ FUTURE_WRITE = 0x10
 def test_start(serve_well):
     client = serve_well()
     client.begin(OFFERED)
-    assert client.send(GET_FEATURES) == struct.pack("<Q", FEATURES | HAS_PROTOCOL)
-    assert client.send(GET_PROTOCOL_FEATURES) == struct.pack("<Q", OFFERED)
+    assert client.send(GET_FEATURES) == struct.pack("<Q", FEATURES | HAS_PROTOCOL | LOG_ALL)
+    assert client.send(GET_PROTOCOL_FEATURES) == struct.pack("<Q", OFFERED | MIGRATION)
     assert client.send(GET_QUEUE_NUM) == struct.pack("<Q", 5)
     client.start()
     assert client.counter("status") == 15
@@ -283,7 +285,7 @@ def test_features_twice_and_lives(serve_well):
     client.negotiate(0x100000021)
     client.start()
     assert client.counter("status") == 15
-    client.accepted(SET_FEATURES, struct.pack("<Q", FEATURES | HAS_PROTOCOL))
+    client.accepted(SET_FEATURES, struct.pack("<Q", FEATURES | HAS_PROTOCOL | LOG_ALL))
     client.accepted(SET_CONFIG, struct.pack("<IIII", 4, 4, 0, 3))
     assert (client.counter("status"), client.counter("actual")) == (15, 3)
     for number in (3, 2, 1, 0):

@@ -58,7 +58,7 @@ MESSAGES = (
     ("a file of queue 1 is no event", SET_VRING_CALL, struct.pack("<Q", 1), 1),
     ("the channel is no socket", SET_BACKEND_REQ_FD, b"", 1),
     ("features 0x100000021 while queues run", SET_FEATURES, struct.pack("<Q", 0x100000021), 0),
-    ("protocol features 0x2 aren't offered", SET_PROTOCOL_FEATURES, struct.pack("<Q", 2), 0),
+    ("protocol features 0x4 aren't offered", SET_PROTOCOL_FEATURES, struct.pack("<Q", 4), 0),
     ("SET_MEM_TABLE has 0 files", SET_MEM_TABLE, struct.pack("<II", 2, 0) + bytes(64), 0),
     ("SET_MEM_TABLE has 39 bytes", SET_MEM_TABLE, struct.pack("<II", 1, 0) + bytes(31), 1),
     ("SET_MEM_TABLE has 296 bytes", SET_MEM_TABLE, struct.pack("<II", 9, 0) + bytes(288), 8),

@@ -1,0 +1,136 @@
+/* The configuration, as the driver reads and writes it, and after it an area for the client's own
+ * use (docs/LINUX.md, "The control area"): what vhost-user has no message for. */
+#include "handlers.h"
+
+#include <inttypes.h>
+
+enum { HEAD_OF_CONFIG = 12 };
+
+/* Whose write of the configuration it is. */
+enum { OF_DRIVER = 0, OF_CLIENT = 1 };
+
+/* Where things are in the area, whose first byte follows the driver's configuration. */
+enum {
+    NAME_AT = 16,
+    VERSION_AT = 20,
+    TARGET_AT = 24,
+    BALLOONED_AT = 28,
+    REPORTS_AT = 32,
+    MODES_AT = 40,
+    FIGURE_COUNT_AT = 44,
+    FIGURES_AT = 48,
+    FIGURE_BYTES = 10,
+    AREA_END = FIGURES_AT + MOST_TAGS * FIGURE_BYTES
+};
+
+enum { AREA_VERSION = 1, KEEPS_PAGES = 1 };
+
+/* Commands, each written with the version. */
+enum { ASK_STATISTICS = 1, KEEP_PAGES = 2, DISCARD_PAGES = 3, COMMAND_BYTES = 8 };
+
+/* Whether the message has room for the bytes that it says. */
+static bool has_bytes(const struct message *message, uint32_t size)
+{
+    return size == message->size - HEAD_OF_CONFIG ||
+           refuse("%u bytes of the configuration, in a message with %u", size,
+                  message->size - HEAD_OF_CONFIG);
+}
+
+static void put_u32(uint8_t *bytes, unsigned at, uint32_t number)
+{
+    memcpy(bytes + at, &number, sizeof number);
+}
+
+static void put_figures(const struct backend *backend, uint8_t area[AREA_END])
+{
+    put_u32(area, FIGURE_COUNT_AT, backend->figure_count);
+    for (uint32_t i = 0; i < backend->figure_count; i++) {
+        uint8_t *to = area + FIGURES_AT + i * FIGURE_BYTES;
+        memcpy(to, &backend->figures[i].tag, sizeof backend->figures[i].tag);
+        memcpy(to + sizeof backend->figures[i].tag, &backend->figures[i].value,
+               sizeof backend->figures[i].value);
+    }
+}
+
+/* The area, after the driver's configuration. */
+static void put_area(const struct backend *backend, uint8_t area[AREA_END])
+{
+    const VbDevice *device = &backend->balloon.state.device;
+    memcpy(area + NAME_AT, "VBCA", 4);
+    put_u32(area, VERSION_AT, AREA_VERSION);
+    put_u32(area, TARGET_AT, device->target);
+    put_u32(area, BALLOONED_AT, backend->told.goes_on ? backend->told.actual : device->actual);
+    memcpy(area + REPORTS_AT, &backend->counters.statistics, sizeof(uint64_t));
+    put_u32(area, MODES_AT, backend->balloon.keeps_pages ? KEEPS_PAGES : 0);
+    put_figures(backend, area);
+}
+
+enum outcome get_config(struct backend *backend, struct message *message)
+{
+    uint8_t body[MOST_BODY], area[AREA_END] = {0};
+    uint32_t offset = message_u32(message, 0), size = message_u32(message, 4);
+    if (!has_bytes(message, size))
+        return STOP;
+    memcpy(body, message->body, HEAD_OF_CONFIG);
+    balloon_read_config(&backend->balloon, offset, body + HEAD_OF_CONFIG, size);
+    put_area(backend, area);
+    for (uint64_t at = offset; at < (uint64_t)offset + size && at < AREA_END; at++)
+        if (at >= NAME_AT)
+            body[HEAD_OF_CONFIG + at - offset] = area[at];
+    return answer_bytes(backend, message, body, HEAD_OF_CONFIG + size);
+}
+
+/* The client's own target: it notifies the driver itself. */
+static enum outcome take_target(struct backend *backend, const uint8_t *bytes)
+{
+    uint32_t pages;
+    memcpy(&pages, bytes, sizeof pages);
+    balloon_set_target(&backend->balloon, pages);
+    backend->seen = backend->balloon.state.device.actual;
+    return DONE;
+}
+
+/* Obeys a command of the area's version. */
+static enum outcome obey(struct backend *backend, uint32_t version, uint32_t command)
+{
+    bool asked;
+    if (version == AREA_VERSION && command == ASK_STATISTICS)
+        return backend_ask(backend, &asked) ? DONE : STOP;
+    if (version == AREA_VERSION && (command == KEEP_PAGES || command == DISCARD_PAGES)) {
+        backend->balloon.keeps_pages = command == KEEP_PAGES || backend->options->keep;
+        return DONE;
+    }
+    remark(backend, "command %" PRIu32 " of version %" PRIu32 " of the control area is unknown",
+           command, version);
+    return FAILED;
+}
+
+/* What the client writes in its own name. */
+static enum outcome take_own(struct backend *backend, uint32_t offset, const uint8_t *bytes,
+                             uint32_t size)
+{
+    uint32_t words[2];
+    bool is_target = offset == 0 && size == sizeof words[0];
+    bool is_command = offset == VERSION_AT && size == COMMAND_BYTES;
+    if (backend->options->is_lent || (!is_target && !is_command)) {
+        remark(backend, "%s: a write of %" PRIu32 " bytes at %" PRIu32,
+               backend->options->is_lent ? "the lender alone has control" : "no control area", size,
+               offset);
+        return FAILED;
+    }
+    if (is_target)
+        return take_target(backend, bytes);
+    memcpy(words, bytes, sizeof words);
+    return obey(backend, words[0], words[1]);
+}
+
+enum outcome set_config(struct backend *backend, struct message *message)
+{
+    uint32_t offset = message_u32(message, 0), size = message_u32(message, 4);
+    if (!has_bytes(message, size))
+        return STOP;
+    const uint8_t *bytes = message->body + HEAD_OF_CONFIG;
+    if (message_u32(message, 8) == OF_CLIENT)
+        return take_own(backend, offset, bytes, size);
+    return balloon_write_config(&backend->balloon, offset, bytes, size) == VB_OK ? DONE : FAILED;
+}

@@ -1,0 +1,24 @@
+/* A client's log of the pages that the device has written, as it migrates its guest: a bit for each
+ * page of the guest, from page 0 on, in a file that the client reads meanwhile. */
+#ifndef DIRTY_LOG_H
+#define DIRTY_LOG_H
+#include <stdbool.h>
+#include <stdint.h>
+
+struct dirty_log {
+    uint8_t *bits; /* NULL: there is none */
+    uint64_t bytes;
+    bool is_short; /* a page was written that it has no bit for */
+};
+
+/* Maps so many bytes of a file, in place of the log before, which stays where that fails. Takes the
+ * file; false where it can't be mapped, as memory of the guest (guest_memory.h). */
+bool dirty_log_take(struct dirty_log *log, int file, uint64_t bytes, uint64_t offset);
+
+/* There is no log any longer. */
+void dirty_log_forget(struct dirty_log *log);
+
+/* Marks the pages of these bytes of the guest, which were written. */
+void dirty_log_mark(struct dirty_log *log, uint64_t guest, uint64_t length);
+
+#endif

@@ -1,0 +1,42 @@
+/* A device that moves to another process, as its guest migrates: bytes (docs/LINUX.md, "Migration")
+ * with the library's saved state and the set of the pages in the balloon. */
+#ifndef MOVED_H
+#define MOVED_H
+#include "vb.h"
+
+#include <stdbool.h>
+#include <stddef.h>
+#include <stdint.h>
+
+/* MOVED_HEAD: bytes before the set. MOST_MOVED_PAGES: of a set, 64 GiB. */
+enum {
+    MOVED_VERSION = 1,
+    MOVED_HEAD = 32 + VB_STATE_BYTES,
+    MOVED_SUM = 8,
+    MOST_MOVED_PAGES = 1 << 24,
+    MOST_MOVED = MOVED_HEAD + MOST_MOVED_PAGES / 8 + MOVED_SUM
+};
+
+/* Where a device that was loaded goes on. */
+struct moved {
+    bool awaits;         /* its queue of inflates hasn't started since */
+    uint16_t index;      /* at which that goes on; at another one a new driver begins */
+    uint64_t memory_end; /* where the guest's memory ended */
+    uint32_t actual, words;
+    uint64_t set[MOST_MOVED_PAGES / 64];
+};
+
+struct backend;
+
+/* Puts a device whose queues are stopped into bytes; how many; 0 where it can't, which is said. */
+size_t moved_save(const struct backend *backend, uint8_t bytes[MOST_MOVED]);
+
+/* Takes a device of so many bytes: its queues go on once the client starts them. False where they
+ * are none, which is said; then nothing has changed. */
+bool moved_load(struct backend *backend, const uint8_t *bytes, size_t length);
+
+/* The driver of the device that was loaded goes on: its balloon is what it was. False where that is
+ * another guest's, which is said. */
+bool moved_begin(struct backend *backend);
+
+#endif

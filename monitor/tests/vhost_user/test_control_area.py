@@ -1,0 +1,123 @@
+"""Tests of the area after the configuration, by which a client that is a VMM has control of its
+balloon (docs/LINUX.md, "The control area")."""
+
+import struct
+
+import pytest
+from vhost_client import GET_CONFIG, INFLATE, QEMU_PROTOCOL, SET_CONFIG
+from vhost_demands import FIRST, demand_served, post_statistics
+from waiting import eventually
+
+OF_DRIVER, OF_CLIENT = 0, 1
+VERSION, ASK_STATISTICS, KEEP_PAGES, DISCARD_PAGES = 1, 1, 2, 3
+COMMAND_AT = 20
+FAILED = struct.pack("<Q", 1)
+
+
+def area(client, size=256):
+    """Returns what is read from the configuration's first byte on."""
+    answer = client.send(GET_CONFIG, struct.pack("<III", 0, size, 0) + bytes(size))
+    assert len(answer) == 12 + size
+    return answer[12:]
+
+
+def write(client, at, data, whose=OF_CLIENT):
+    """Writes; returns the answer."""
+    return client.send(SET_CONFIG, struct.pack("<III", at, len(data), whose) + data)
+
+
+def command(client, number, version=VERSION):
+    """Writes a command; returns the answer."""
+    return write(client, COMMAND_AT, struct.pack("<II", version, number))
+
+
+def test_what_the_area_says(start_by_events):
+    client = start_by_events()
+    post_statistics(client, 11, 12)
+    eventually(lambda: client.backend.statistics()[0] == 1, client.why)
+    demand_served(client, INFLATE, [FIRST])
+    assert write(client, 0, struct.pack("<I", 5)) == bytes(8)
+    client.accepted(SET_CONFIG, struct.pack("<IIII", 4, 4, OF_DRIVER, 1))
+    said = area(client)
+    assert struct.unpack_from("<IIII", said) == (5, 1, 0, 0)
+    assert struct.unpack_from("<4sIIIQII", said, 16) == (b"VBCA", VERSION, 5, 1, 1, 0, 2)
+    assert struct.unpack_from("<HQHQ", said, 48) == (4, 11, 5, 12)
+    assert said[68:] == bytes(256 - 68)
+
+
+@pytest.mark.parametrize("size", (4, 16, 17, 20, 47, 58, 255))
+def test_a_part_of_the_area(start_by_events, size):
+    client = start_by_events()
+    assert area(client, size) == area(client)[:size]
+
+
+def test_a_read_that_begins_elsewhere(start_by_events):
+    client = start_by_events()
+    whole = area(client)
+    for at in (12, 16, 20, 200, 255):
+        answer = client.send(GET_CONFIG, struct.pack("<III", at, 8, 0) + bytes(8))
+        assert answer[12:] == (whole + bytes(8))[at : at + 8]
+    for at in (256, 2**32 - 8):
+        assert client.send(GET_CONFIG, struct.pack("<III", at, 8, 0) + bytes(8))[12:] == bytes(8)
+
+
+def test_statistics_are_asked_for(start_by_events):
+    client = start_by_events()
+    post_statistics(client, 11)
+    eventually(lambda: client.backend.statistics()[0] == 1, client.why)
+    before = client.counter("interrupts")
+    assert command(client, ASK_STATISTICS) == bytes(8)
+    assert client.counter("interrupts") == before + 1
+    assert command(client, ASK_STATISTICS) == bytes(8)
+    assert client.counter("interrupts") == before + 1
+
+
+def test_pages_are_kept_as_long_as_the_client_wants(start_by_events):
+    client = start_by_events()
+    assert command(client, KEEP_PAGES) == bytes(8)
+    assert struct.unpack_from("<I", area(client), 40) == (1,)
+    demand_served(client, INFLATE, [FIRST])
+    assert (client.counter("kept"), client.holes()) == (1, [])
+    assert command(client, DISCARD_PAGES) == bytes(8)
+    demand_served(client, INFLATE, [FIRST + 1])
+    assert client.holes() == [FIRST + 1]
+
+
+def test_an_option_to_keep_pages_stays(serve_well):
+    client = serve_well("--keep")
+    client.start_by_events(protocol=QEMU_PROTOCOL)
+    assert command(client, DISCARD_PAGES) == bytes(8)
+    demand_served(client, INFLATE, [FIRST])
+    assert client.holes() == []
+
+
+# Bytes of the client's own that are no target and no command of the version.
+WRONG = (
+    (0, bytes(3)),
+    (0, bytes(8)),
+    (4, bytes(4)),
+    (COMMAND_AT, bytes(4)),
+    (COMMAND_AT, struct.pack("<II", 1, 0)),
+    (COMMAND_AT, struct.pack("<II", 1, 4)),
+    (COMMAND_AT, struct.pack("<II", 2, ASK_STATISTICS)),
+    (24, bytes(8)),
+    (2**32 - 4, bytes(8)),
+)
+
+
+@pytest.mark.parametrize("at, data", WRONG)
+def test_what_is_no_command(serve, at, data):
+    client = serve()
+    client.start_by_events(protocol=QEMU_PROTOCOL)
+    before = area(client)
+    assert write(client, at, data) == FAILED
+    assert "control area" in client.why()
+    assert area(client) == before
+
+
+def test_a_driver_writes_no_target(start_by_events):
+    client = start_by_events()
+    write(client, 0, struct.pack("<I", 9), OF_DRIVER)
+    write(client, COMMAND_AT, struct.pack("<II", 1, KEEP_PAGES), OF_DRIVER)
+    assert struct.unpack_from("<IIIQI", area(client), 24)[0] == 0
+    assert struct.unpack_from("<I", area(client), 40) == (0,)

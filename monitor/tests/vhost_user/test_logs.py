@@ -1,0 +1,233 @@
+"""Tests of the log of what a device writes, which a client reads that migrates its guest."""
+
+import fcntl
+import os
+import struct
+
+import pytest
+from vhost_client import (
+    DEFLATE,
+    FEATURES,
+    HAS_PROTOCOL,
+    INFLATE,
+    LOG_ALL,
+    MIGRATION,
+    PAGE,
+    QEMU_PROTOCOL,
+    REGIONS,
+    SET_FEATURES,
+    SET_LOG_BASE,
+    SET_VRING_ADDR,
+    STATISTICS,
+)
+from vhost_demands import FIRST, demand_refused, demand_served, post_statistics, word
+from waiting import eventually
+
+# A bit for each page up to the end of memory, in one page; where a log begins in its file.
+LOG_BYTES, LOG_OFFSET = 4096, 8192
+LOGGED = 1
+
+# Flags of seals (linux/fcntl.h).
+SEAL_WRITE = 8
+
+
+def log_file(size=LOG_OFFSET + LOG_BYTES):
+    """Returns a log's file, which lets itself be sealed."""
+    file = os.memfd_create("log", os.MFD_ALLOW_SEALING)
+    os.truncate(file, size)
+    return file
+
+
+def address_body(client, number, flags, log=None):
+    """Returns the body that says where a queue is, and where writes to it are logged."""
+    user = client.regions[client.region][1] + 3 * number * PAGE
+    guest = client.table(number) + 2 * PAGE
+    return struct.pack(
+        "<IIQQQQ", number, flags, user, user + 2 * PAGE, user + PAGE, guest if log is None else log
+    )
+
+
+def log_base(client, file, size=LOG_BYTES, offset=LOG_OFFSET):
+    """Hands a log over; returns the answer."""
+    return client.send(SET_LOG_BASE, struct.pack("<QQ", size, offset), [file])
+
+
+def set_logging(client, on, queues=range(4)):
+    """Has what the device writes to these queues logged, or no longer, as QEMU does."""
+    client.accepted(SET_FEATURES, word(FEATURES | HAS_PROTOCOL | (LOG_ALL if on else 0)))
+    for number in queues:
+        client.accepted(SET_VRING_ADDR, address_body(client, number, LOGGED if on else 0))
+
+
+def logged(file):
+    """Returns the pages that a log has, and clears it."""
+    bits = os.pread(file, LOG_BYTES, LOG_OFFSET)
+    os.pwrite(file, bytes(LOG_BYTES), LOG_OFFSET)
+    return [it for it in range(8 * LOG_BYTES) if bits[it // 8] >> it % 8 & 1]
+
+
+def page_of_used(client, number):
+    """Returns the page of a queue's used ring."""
+    return client.table(number) // PAGE + 2
+
+
+@pytest.fixture
+def begin(start_by_events):
+    """Returns a client whose queues run, and a log that it has handed over."""
+
+    def make():
+        client, file = start_by_events(protocol=QEMU_PROTOCOL | MIGRATION), log_file()
+        assert log_base(client, file) == bytes(8)
+        return client, file
+
+    return make
+
+
+def test_each_used_ring_that_is_written(begin):
+    client, file = begin()
+    set_logging(client, True)
+    demand_served(client, INFLATE, [FIRST])
+    assert logged(file) == [page_of_used(client, INFLATE)]
+    demand_served(client, DEFLATE, [FIRST])
+    assert logged(file) == [page_of_used(client, DEFLATE)]
+    post_statistics(client, 11)
+    eventually(lambda: client.backend.statistics()[0] == 1, client.why)
+    assert logged(file) == []
+    assert client.backend.ask("ask") == "asked"
+    assert logged(file) == [page_of_used(client, STATISTICS)]
+
+
+def test_what_is_not_to_be_logged(begin):
+    client, file = begin()
+    demand_served(client, INFLATE, [FIRST])
+    assert logged(file) == []
+    set_logging(client, True, [DEFLATE])
+    demand_served(client, INFLATE, [FIRST + 1])
+    assert logged(file) == []
+    set_logging(client, True)
+    set_logging(client, False)
+    demand_served(client, INFLATE, [FIRST + 2])
+    assert logged(file) == []
+
+
+def test_a_log_in_place_of_another(begin):
+    client, file = begin()
+    set_logging(client, True)
+    files = client.open_files()
+    other = log_file()
+    assert log_base(client, other) == bytes(8)
+    demand_served(client, INFLATE, [FIRST])
+    assert (logged(file), logged(other)) == ([], [page_of_used(client, INFLATE)])
+    assert client.open_files() == files
+
+
+def test_a_ring_over_two_pages(serve_well):
+    """A used element lies on another page than the index before it."""
+    client = serve_well()
+    client.negotiate(protocol=QEMU_PROTOCOL | MIGRATION)
+    client.add_memory()
+    file, size = log_file(), 1024
+    assert log_base(client, file) == bytes(8)
+    user, table = REGIONS[0][1], REGIONS[0][0]
+    client.write(table, bytes(10 * PAGE))
+    set_logging(client, True, [])
+    # The used ring begins 8 bytes before a page's end: index and no element are on the first.
+    used = table + 8 * PAGE - 8
+    client.tell_place(INFLATE, size)
+    body = struct.pack("<IIQQQQ", INFLATE, LOGGED, user, user + used - table, user + 5 * PAGE, used)
+    client.accepted(SET_VRING_ADDR, body)
+    client.give_events(INFLATE)
+    client.enable(INFLATE)
+    client.write(table + 40 * PAGE, struct.pack("<I", FIRST))
+    client.write(table, struct.pack("<QIHH", table + 40 * PAGE, 4, 0, 0))
+    client.write(table + 5 * PAGE, struct.pack("<HHH", 0, 1, 0))
+    client.kick(INFLATE)
+    assert client.called(INFLATE) == 1
+    assert logged(file) == [used // PAGE, used // PAGE + 1]
+
+
+# What is said, how large the log's file is, and what the message says of it: size and offset.
+WRONG = (
+    ("the log of 0 bytes from 0 on can't be mapped", LOG_BYTES, 0, 0),
+    ("can't be mapped", LOG_BYTES, LOG_BYTES + 1, 0),
+    ("can't be mapped", LOG_BYTES, LOG_BYTES, PAGE),
+    ("can't be mapped", LOG_BYTES, 1, 1),
+    ("can't be mapped", LOG_BYTES, 2**64 - 1, 0),
+    ("can't be mapped", LOG_BYTES, 8, 2**64 - 4096),
+    ("can't be mapped", LOG_BYTES, 2**63, 2**63),
+    ("can't be mapped", 0, 8, 0),
+)
+
+
+@pytest.mark.parametrize("words, length, size, offset", WRONG)
+def test_a_log_that_is_none(serve, words, length, size, offset):
+    client = serve()
+    client.start_by_events(protocol=QEMU_PROTOCOL | MIGRATION)
+    file = log_file(length)
+    client.send(SET_LOG_BASE, struct.pack("<QQ", size, offset), [file], flags=1)
+    demand_refused(client, words)
+
+
+def test_a_log_that_nobody_may_write(serve):
+    client = serve()
+    client.start_by_events(protocol=QEMU_PROTOCOL | MIGRATION)
+    file = log_file()
+    fcntl.fcntl(file, fcntl.F_ADD_SEALS, SEAL_WRITE)
+    client.send(SET_LOG_BASE, struct.pack("<QQ", LOG_BYTES, LOG_OFFSET), [file], flags=1)
+    demand_refused(client, "can't be mapped")
+
+
+def test_a_log_that_is_a_pipe(serve):
+    client = serve()
+    client.start_by_events(protocol=QEMU_PROTOCOL | MIGRATION)
+    file = os.pipe()[1]
+    client.send(SET_LOG_BASE, struct.pack("<QQ", LOG_BYTES, LOG_OFFSET), [file], flags=1)
+    demand_refused(client, "can't be mapped")
+
+
+def test_a_log_cannot_be_cut_off(begin):
+    client, file = begin()
+    with pytest.raises(PermissionError):
+        os.truncate(file, LOG_OFFSET)
+    set_logging(client, True)
+    demand_served(client, INFLATE, [FIRST])
+
+
+def test_a_log_that_is_cut_off(serve):
+    """A file that takes no seal may be cut off: that ends its client alone."""
+    client = serve()
+    client.start_by_events(protocol=QEMU_PROTOCOL | MIGRATION)
+    file = os.open(client.folder.name, os.O_TMPFILE | os.O_RDWR)
+    os.truncate(file, LOG_OFFSET + LOG_BYTES)
+    if log_base(client, file) != bytes(8):
+        pytest.skip("no file system of a known sort is there")
+    set_logging(client, True)
+    os.truncate(file, 0)
+    client.post_pages(INFLATE, [FIRST])
+    demand_refused(client, "has been cut off")
+
+
+def test_a_log_without_a_bit_for_the_ring(serve):
+    client, file = serve(), log_file()
+    client.start_by_events(protocol=QEMU_PROTOCOL | MIGRATION)
+    # The used ring of inflates is on page 0x102, whose bit is in byte 32.
+    assert log_base(client, file, 32, LOG_OFFSET) == bytes(8)
+    set_logging(client, True)
+    client.post_pages(INFLATE, [FIRST])
+    demand_refused(client, "the log of 32 bytes has no bit for a page that was written")
+
+
+def test_a_ring_that_is_logged_elsewhere(serve):
+    client = serve()
+    client.start_by_events(protocol=QEMU_PROTOCOL | MIGRATION)
+    body = address_body(client, INFLATE, LOGGED, log=client.table(INFLATE))
+    client.send(SET_VRING_ADDR, body, flags=1)
+    demand_refused(client, "queue 0 is to be logged at 0x100000, where its used ring isn't")
+
+
+def test_other_features_while_queues_run(serve):
+    client = serve()
+    client.start_by_events(protocol=QEMU_PROTOCOL | MIGRATION)
+    features = FEATURES & ~2 | HAS_PROTOCOL | LOG_ALL
+    client.send(SET_FEATURES, word(features), flags=1)
+    demand_refused(client, "while queues run")
