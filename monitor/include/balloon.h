@@ -59,6 +59,9 @@ struct balloon {
                      * many numbers, at the end of a portion: at first 256, and any number */
     bool keeps_pages; /* no page is discarded (counted: kept), as under a passed-through device; may
                          be set at any time */
+    /* Each part is discarded by a call of its own: set once the kernel didn't take several, as one
+     * before Linux 6.13. */
+    bool discards_apart;
     void *context;
     /* These pages are given up (VB_INFLATE) or free (VB_REPORT, VB_HINT), before any of them is
      * discarded; or requested back (VB_DEFLATE). A driver may take hinted pages back at any time,
@@ -160,44 +163,7 @@ static inline void balloon_copy(struct balloon *balloon)
         balloon_read_once(to, balloon_at(balloon, notice->at), notice->length);
 }
 
-/* Gives bytes back to the machine: they read as zeros then (as the file's where a private mapping
- * has one). 0 or an errno. */
-static inline int balloon_drop(const struct balloon_region *region, const VbCut *cut)
-{
-    int status, advice = region->fd == BALLOON_SHARED ? MADV_REMOVE : MADV_DONTNEED;
-    if (region->fd < 0)
-        return madvise(region->host + cut->offset, cut->length, advice) ? errno : 0;
-    do
-        status = fallocate(region->fd, FALLOC_FL_PUNCH_HOLE | FALLOC_FL_KEEP_SIZE,
-                           (off_t)cut->in_file, (off_t)cut->length);
-    while (status != 0 && errno == EINTR);
-    return status ? errno : 0;
-}
-
-/* Discards a part; where the machine's pages are large, those that are given up whole, and the
- * others wait. */
-static inline void balloon_discard(const struct balloon *balloon, const VbCut *part,
-                                   struct balloon_result *result)
-{
-    const struct balloon_region *region = &balloon->regions[part->region];
-    uint64_t pages = part->length / BALLOON_PAGE;
-    VbLarge large;
-    if (region->page_size) {
-        large = vb_large_pages(&balloon->state.device, &balloon->places[part->region],
-                               region->page_size, part, balloon->ballooned,
-                               balloon->ballooned ? balloon->ballooned_words : 0);
-        result->waiting += large.waiting;
-        if (large.cut.length == 0)
-            return;
-        pages -= large.waiting;
-        part = &large.cut;
-    }
-    int error = balloon->discard
-                    ? balloon->discard(balloon->context, region, part->offset, part->length)
-                    : balloon_drop(region, part);
-    *(error ? &result->kept : &result->discarded) += pages;
-    result->error = error ? error : result->error;
-}
+#include "balloon_discards.h"
 
 /* After a hook, which may have called the balloon: what is still to be done of `what`. What isn't
  * discarded then is kept. */
@@ -270,8 +236,9 @@ static inline uint32_t balloon_serve(struct balloon *balloon, uint32_t what,
         balloon->on_hint_id(balloon->context, balloon->notice.hint_id);
         what = balloon_recheck(balloon, what, result);
     }
-    const VbCut *part = balloon->room.cuts;
-    for (uint32_t i = 0; what & VB_DISCARD && i < balloon->notice.cuts; i++, part++) {
+    uint32_t together = what & VB_DISCARD ? balloon_discard_together(balloon, result) : 0;
+    const VbCut *part = balloon->room.cuts + together;
+    for (uint32_t i = together; what & VB_DISCARD && i < balloon->notice.cuts; i++, part++) {
         balloon_discard(balloon, part, result);
         what = balloon->discard ? balloon_recheck(balloon, what, result) : what;
     }

@@ -22,6 +22,7 @@ int main(void)
     test_pauses();
     test_notices();
     test_discards();
+    test_together();
     test_regions();
     test_set();
     test_statistics();

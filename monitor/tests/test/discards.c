@@ -19,6 +19,7 @@ static int fail_to_discard(void *context, const struct balloon_region *region, u
 /* The machine's calls, after as many interruptions as a test wants, and failing where one wants
  * that. */
 static int interruptions, failure;
+uint32_t advices;
 
 int fallocate(int file, int how, off_t from, off_t length)
 {
@@ -31,6 +32,7 @@ int fallocate(int file, int how, off_t from, off_t length)
 int madvise(void *from, size_t length, int advice)
 {
     errno = failure;
+    advices++;
     return failure ? -1 : (int)syscall(SYS_madvise, from, length, advice);
 }
 
@@ -57,6 +59,7 @@ static void the_machine_is_asked_again(int low)
     EXPECT(interruptions == 0 && result.discarded == 2 && result.kept == 0 && result.error == 0 &&
            !resident(&guest, 700));
     failure = ENOSPC;
+    guest.balloon.discards_apart = true; /* together.c is of parts that aren't */
     name_pages(&guest, VB_INFLATE, pages, 2);
     result = balloon_notify(&guest.balloon, VB_INFLATE);
     failure = 0;

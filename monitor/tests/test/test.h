@@ -26,6 +26,9 @@ void see_pages(void *context, uint32_t kind, const VbRun *runs, uint32_t count);
 /* A discard that fails where it begins with page 700, and else does nothing. */
 int fail_at_700(void *context, const struct balloon_region *region, uint64_t from, uint64_t length);
 
+/* How often the machine was asked to discard a part that lies in no file. */
+extern uint32_t advices;
+
 void test_steps(void);
 void test_settings(void);
 void test_queues(void);
@@ -35,6 +38,7 @@ void test_portions(void);
 void test_pauses(void);
 void test_notices(void);
 void test_discards(void);
+void test_together(void);
 void test_regions(void);
 void test_set(void);
 void test_statistics(void);
