@@ -11,7 +11,7 @@ struct dirty_log {
     bool is_short; /* a page was written that it has no bit for */
 };
 
-/* Maps so many bytes of a file, in place of the log before, which stays where that fails. Takes the
+/* Maps `bytes` bytes of a file, in place of the log before, which stays where that fails. Takes the
  * file; false where it can't be mapped, as memory of the guest (guest_memory.h). */
 bool dirty_log_take(struct dirty_log *log, int file, uint64_t bytes, uint64_t offset);
 

@@ -31,7 +31,7 @@ struct backend;
 /* Puts a device whose queues are stopped into bytes; how many; 0 where it can't, which is said. */
 size_t moved_save(const struct backend *backend, uint8_t bytes[MOST_MOVED]);
 
-/* Takes a device of so many bytes: its queues go on once the client starts them. False where they
+/* Takes a device of `length` bytes: its queues go on once the client starts them. False where they
  * are none, which is said; then nothing has changed. */
 bool moved_load(struct backend *backend, const uint8_t *bytes, size_t length);
 

@@ -11,8 +11,8 @@ struct backend;
  * vb_save. */
 uint32_t state_bytes(const struct backend *backend, uint8_t bytes[VB_STATE_BYTES]);
 
-/* Takes the target, `actual` and the last round of hints of a device that was saved: its rings go on
- * once a client tells of them anew. */
+/* Takes the target, `actual` and the last round of hints of a device that was saved: its rings
+ * continue once a client tells of them again. */
 void state_take(struct backend *backend, VbBalloon saved);
 
 /* Takes the target, `actual` and the last round of hints of the device that its options' file has,

@@ -4,7 +4,7 @@ import os
 
 import linux_kit
 import pytest
-from vhost_client import QEMU_PROTOCOL
+from vhost_client import MIGRATION, QEMU_PROTOCOL
 from vhost_served import Served
 
 PROGRAMS = (
@@ -90,6 +90,18 @@ def start_by_events(serve_well):
     def make(*options, protocol=QEMU_PROTOCOL):
         client = serve_well(*options)
         client.start_by_events(protocol=protocol)
+        return client
+
+    return make
+
+
+@pytest.fixture
+def ready(serve):
+    """Returns a client whose queues run and that may migrate."""
+
+    def make(*options):
+        client = serve(*options)
+        client.start_by_events(protocol=QEMU_PROTOCOL | MIGRATION)
         return client
 
     return make
