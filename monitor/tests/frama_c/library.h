@@ -23,8 +23,8 @@ static VbCut any_cut(uint64_t region, uint64_t size, uint64_t pages)
 static uint32_t any_notice(VbNotice *notice, const VbBalloon *of, const VbRegion *places,
                            size_t count, VbRoom *room)
 {
-    //@ assert the_balloon: notice == &balloon.notice && of == &balloon.state && room ==
-    //&balloon.room;
+    //@ assert the_balloon: notice == &balloon.notice && of == &balloon.state;
+    //@ assert the_room: room == &balloon.room;
     //@ assert the_regions: places == (VbRegion *)balloon.places && count == REGIONS;
     Frama_C_make_unknown((char *)room, sizeof *room); /* what is discarded: below */
     Frama_C_make_unknown((char *)notice, sizeof *notice);
@@ -74,8 +74,8 @@ uint32_t vb_go_on(VbNotice *notice, VbBalloon *of, const VbRegion *places, size_
 
 VbMarked vb_mark(uint32_t kind, const VbRun *runs, size_t count, uint64_t *set, size_t set_words)
 {
-    //@ assert the_set: (set == (uint64_t *)words || set == (uint64_t *)waiting) && set_words ==
-    //WORDS;
+    //@ assert the_set: set == (uint64_t *)words || set == (uint64_t *)waiting;
+    //@ assert its_words: set_words == WORDS;
     //@ assert the_runs: runs == (VbRun *)balloon.room.runs && count <= VB_MAX_RUNS;
     Frama_C_make_unknown((char *)set, WORDS * sizeof *set);
     VbMarked marked = {any_u32(), ANY_UP_TO(UINT32_MAX)};
@@ -90,8 +90,8 @@ uint64_t vb_count_ballooned(const uint64_t *set, size_t set_words)
 
 uint64_t vb_unmark(const uint64_t *pages, size_t count, uint64_t *set, size_t set_words)
 {
-    //@ assert the_sets: set == (uint64_t *)words && pages == (uint64_t *)waiting && count == WORDS
-    //&& set_words == WORDS;
+    //@ assert the_sets: set == (uint64_t *)words && pages == (uint64_t *)waiting;
+    //@ assert their_words: count == WORDS && set_words == WORDS;
     Frama_C_make_unknown((char *)set, WORDS * sizeof *set);
     return ANY_UP_TO(UINT32_MAX);
 }
@@ -218,8 +218,8 @@ VbLarge vb_large_pages(const VbDevice *device, const VbRegion *region, uint64_t 
                        const VbCut *part, const uint64_t *set, size_t set_words)
 {
     //@ assert the_device: device == &balloon.state.device;
-    //@ assert its_region: region == &balloon.places[cut_region] && page_size ==
-    //regions[cut_region].page_size;
+    //@ assert its_region: region == &balloon.places[cut_region];
+    //@ assert its_pages: page_size == regions[cut_region].page_size;
     //@ assert the_part: part->region == cut_region && part->length == cut_pages * 4096;
     //@ assert large_set: set_words == 0 || (set == (uint64_t *)words && set_words == WORDS);
     VbLarge large = {{part->region, 0, 0, 0}, part->length / BALLOON_PAGE};
