@@ -5,12 +5,13 @@
  * they allow, and what they promise is named where it is used. What is copied, written, told and
  * discarded is looked at by the analysis itself, and by the assertions of the monitor's hooks and
  * of the machine's calls below. There are four analyses, each from a function of its own: `main`,
- * all but the copies, by the contract of balloon_discard; `discards`, that contract; `copies`, each
- * copy that a notice may ask for, by the contract of balloon_read_once; `lengths`, that
-  * contract. */
+ * all but the copies, by the contracts of balloon_discard and balloon_discard_together; `discards`,
+ * those contracts; `copies`, each copy that a notice may ask for, by the contract of
+ * balloon_read_once; `lengths`, that contract. */
 #include <__fc_builtin.h>
 #include <stdint.h>
 #include <sys/types.h>
+#include <sys/uio.h>
 
 int fallocate(int fd, int how, off_t from, off_t length);
 int madvise(void *from, size_t length, int advice);
@@ -23,6 +24,15 @@ uint32_t htole32(uint32_t word);
     requires writes: \valid(to + (0 .. length - 1));
     assigns to[0 .. length - 1] \from from[0 .. length - 1]; */
 static inline void balloon_read_once(uint8_t *to, const uint8_t *from, size_t length);
+
+/* What is given up together is memory, in parts that aren't empty. */
+/*@ requires some: count >= 2;
+    requires parts: \valid_read(parts + (0 .. count - 1));
+    requires within_memory: \forall integer i; 0 <= i < count ==> parts[i].iov_len > 0
+        && \valid((char *)parts[i].iov_base + (0 .. parts[i].iov_len - 1));
+    assigns \result \from count;
+    ensures -1 <= \result; */
+static inline ssize_t balloon_drop_all(const struct iovec *parts, uint32_t count);
 #include "balloon.h"
 
 enum { PAGES = 4, LENGTH = PAGES * BALLOON_PAGE, REGIONS = 3, WORDS = 3, SOME_FD = 3 };
@@ -58,6 +68,15 @@ static uint64_t cut_region, cut_size, cut_pages, cut_large;
     assigns *result, errno \from *part; */
 static inline void balloon_discard(const struct balloon *the_one, const VbCut *part,
                                    struct balloon_result *result);
+
+/* No more parts are discarded together than the notice has. */
+/*@ requires the_balloon:
+        the_one == &balloon && the_one->regions == (struct balloon_region *)regions;
+    requires counts: \valid(result);
+    assigns *result, the_one->discards_apart, \result \from the_one->notice.cuts;
+    ensures some: 0 <= \result <= the_one->notice.cuts; */
+static inline uint32_t balloon_discard_together(struct balloon *the_one,
+                                                struct balloon_result *result);
 
 #define ANY_UP_TO(most) Frama_C_unsigned_long_long_interval(0, most)
 static uint32_t any_u32(void)
@@ -266,6 +285,11 @@ void discards(void)
     //@ split cut_pages;
     VbCut part = any_cut(cut_region, BALLOON_PAGE, cut_pages);
     if (maybe()) {
+        balloon.notice.cuts = 2;
+        balloon.room.cuts[0] = balloon.room.cuts[1] = part;
+        uint32_t together = balloon_discard_together(&balloon, &result);
+        //@ assert no_more: together <= 2;
+    } else if (maybe()) {
         cut_size = BALLOON_PAGE;
         balloon_discard_bytes(&regions[cut_region], part.offset, part.length);
     } else {

@@ -67,23 +67,23 @@ def wrong_shims(*paths):
 
 
 SHIM, CALLS, OBEY = (
-    "monitor/include/balloon.h",
+    ("monitor/include/balloon.h", "monitor/include/balloon_discards.h"),
     ("monitor/include/balloon_calls.h", "monitor/include/balloon_notices.h"),
     "monitor/rust/src/obey.rs",
 )
 
 # A page, the pattern of a number in it, and what the number has to be.
 COUNTS = (
-    ("README.md", r"the shims \((\w+) lines of C", lines_of(SHIM)),
+    ("README.md", r"the shims \((\w+) lines of C", lines_of(*SHIM)),
     ("README.md", r"lines of C, (\w+) of Rust\)", lines_of(OBEY)),
-    ("CHANGELOG.md", r"shims in C and Rust obey it:\s+(\w+) and \w+ lines", lines_of(SHIM)),
+    ("CHANGELOG.md", r"shims in C and Rust obey it:\s+(\w+) and \w+ lines", lines_of(*SHIM)),
     ("CHANGELOG.md", r"shims in C and Rust obey it:\s+\w+ and (\w+) lines", lines_of(OBEY)),
     (
         "CHANGELOG.md",
         r"\(`tools/conform`\):\s+(\w+), by topic",
         scripts("crates/vb_conformance/data/*"),
     ),
-    ("monitor/README.md", r"`balloon\.h` \((\w+) lines\)", lines_of(SHIM)),
+    ("monitor/README.md", r"`balloon_discards\.h` \((\w+) lines\)", lines_of(*SHIM)),
     ("monitor/README.md", r"`balloon_notices\.h`, (\w+) lines", lines_of(*CALLS)),
     ("monitor/README.md", r"by (\w+) wrong shims in C", wrong_shims("include/")),
     ("monitor/README.md", r"wrong shims in C and (\w+) in Rust", wrong_shims("rust/")),

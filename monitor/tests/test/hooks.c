@@ -203,7 +203,7 @@ static void a_hook_may_copy(void)
     free_memory(&amid);
 }
 
-/* The stretches that a hook was told of: their addresses, their lengths, and what was there then. */
+/* The stretches that a hook was told of: their addresses, lengths, and what was there then. */
 static struct stretch {
     uint64_t at, length, there;
 } stretches[8];
