@@ -1,7 +1,8 @@
 """Days of a strict host whose guests are simulated (days/): each of their steps takes a moment, at
 random a long one, in a time of their own, so that a day takes a second. The lender is the program
 as it is. At no step have guests more than the budget; and where what they want fits, nobody waits
-for good. DAYS in the environment is how many days of each kind there are."""
+for good. DAYS in the environment is how many days of each kind there are, and SEED how many of each
+come before them, which aren't played."""
 
 import os
 import subprocess
@@ -10,8 +11,10 @@ from typing import NamedTuple
 import linux_kit
 import pytest
 
-# How many days of each kind, and the seconds of each, of its time and of a processor's at most.
-DAYS, SECONDS, LIMIT = int(os.environ.get("DAYS", "10")), 600, 60
+# How many days of each kind, and before them; the seconds of each, of its time and of a processor's
+# at most.
+DAYS, SEED = (int(os.environ.get(*it)) for it in (("DAYS", "10"), ("SEED", "0")))
+SECONDS, LIMIT = 600, 60
 
 # Pages of a MiB.
 MIB = 256
@@ -115,7 +118,7 @@ def host():
 @pytest.mark.parametrize("kind", KINDS)
 def test_nobody_waits_for_good(host, kind, tmp_path_factory):
     day, least, first = KINDS[kind]
-    for number in range(first, first + DAYS):
+    for number in range(first + SEED, first + SEED + DAYS):
         status, said = live(host, str(tmp_path_factory.mktemp("d")), number, day)
         assert status == 0, f"day {number}: {said}"
         found = numbers_of(said)

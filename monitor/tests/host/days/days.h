@@ -95,8 +95,9 @@ uint32_t chance(uint32_t least, uint32_t most);
 void process_begins(struct guest *guest, const char *folder);
 void process_is_alone(struct guest *guest);
 
-/* Takes a lender that comes, and has a turn where something is to be read. */
-void process_hears(struct guest *guest);
+/* Takes a lender that comes, and has a turn where something is to be read, if a lender may have
+ * come or sent something; or where it has something to report. */
+void process_hears(struct guest *guest, bool may_be_sent);
 
 /* Its driver reads its target. */
 void process_is_read(struct guest *guest);

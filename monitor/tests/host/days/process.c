@@ -193,16 +193,16 @@ void process_kicked(struct guest *guest)
     has_turn(guest);
 }
 
-void process_hears(struct guest *guest)
+void process_hears(struct guest *guest, bool may_be_sent)
 {
     char byte;
-    if (guest->channel < 0) {
+    if (may_be_sent && guest->channel < 0) {
         guest->channel = accept4(guest->listener, NULL, NULL, SOCK_NONBLOCK);
         guest->news |= guest->channel >= 0;
         guest->answers = 0;
     }
-    if (guest->channel >= 0 &&
-        (guest->news || recv(guest->channel, &byte, 1, MSG_PEEK | MSG_DONTWAIT) > 0))
+    if (guest->channel >= 0 && (guest->news || (may_be_sent && recv(guest->channel, &byte, 1,
+                                                                    MSG_PEEK | MSG_DONTWAIT) > 0)))
         has_turn(guest);
 }
 

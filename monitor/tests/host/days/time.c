@@ -145,17 +145,17 @@ int __real_poll_some(struct pollfd *files, nfds_t number, int limit);
 int __wrap_poll_some(struct pollfd *files, nfds_t number, int limit);
 int __wrap_clock_gettime(clockid_t clock, struct timespec *time);
 
-/* Time passes until something comes. */
+/* Time passes until something comes. The lender sends nothing meanwhile. */
 int __wrap_poll_some(struct pollfd *files, nfds_t number, int limit)
 {
     int64_t end = limit < 0 ? INT64_MAX : day->now + limit * INT64_C(1000);
     if (day->lender_ends <= day->now)
         plan_end();
-    for (;;) {
+    for (bool first = true;; first = false) {
         happen();
         int came = __real_poll_some(files, number, 0);
         for (unsigned i = 0; i < day->size; i++)
-            process_hears(&day->guests[i]);
+            process_hears(&day->guests[i], first);
         if (came != 0)
             return came;
         int64_t at = next_at(), next = at < end ? at : end;
