@@ -11,7 +11,7 @@ use Rattle.vb_model.specs.declared.replies.Reply.TheVariants.{Done, Frames, Plug
 use Rattle.vb_model.specs.Guest.{Guest, backed_count, fresh}
 use Rattle.vb_model.specs.HostEvents.{WorldStep}
 use Rattle.vb_model.specs.World.{World}
-use Rattle.vb_host.specs.declared.event.Event.TheVariants.{Arrives, Budget, Grants, Hears, Joins, Overdraws, Prefers, TakesOver, Targets, Uncounts, Wants}
+use Rattle.vb_host.specs.declared.event.Event.TheVariants.{Arrives, Budget, Defers, Grants, Hears, Joins, Overdraws, Prefers, TakesOver, Targets, Uncounts, Wants}
 use Rattle.vb_host.specs.declared.report.Report.{Report}
 use Rattle.vb_host.specs.declared.seat.Seat.{Seat}
 use Rattle.vb_host.specs.Lending.{Lending, pages_at}
@@ -180,8 +180,8 @@ budgets : LoanIsAsked none (Budget 195) (both [] 64 []) × (LoanIsAsked none (Bu
 budgets = (omega arith, λ a. let l : 201 ≤ 200 = a in absurd (omega arith))
 
 free_to_lend : LoanIsAsked none (Grants 0) (both [] 0 []) × LoanIsAsked none (Overdraws 0) (both [] 0 []) × LoanIsAsked none (Wants 0 1) (both [] 0 [])
-    × LoanIsAsked none (Targets 0) (both [] 0 []) × LoanIsAsked none (Prefers 0) (both [] 0 [])
-free_to_lend = (tt, tt, tt, tt, tt)
+    × LoanIsAsked none (Targets 0) (both [] 0 []) × LoanIsAsked none (Prefers 0) (both [] 0 []) × LoanIsAsked none (Defers 0) (both [] 0 [])
+free_to_lend = (tt, tt, tt, tt, tt, tt)
 
 -- each is asked of its own kind
 asks : AsksFirst none (both [] 9 (seat 64 40 ∷ [])) (Plays CountFrames Done) (both [] 9 [])

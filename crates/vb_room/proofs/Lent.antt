@@ -12,7 +12,7 @@ use Rattle.vb_model.specs.declared.calls.Event.TheVariants.{Plug}
 use Rattle.vb_model.specs.declared.replies.Reply.{Reply}
 use Rattle.vb_virtio.proofs.Tables.{count_by-cons}
 use Rattle.vb_host.specs.declared.event.Event.{Event as SeatEvent}
-use Rattle.vb_host.specs.declared.event.Event.TheVariants.{Hears, Grants, Overdraws, Wants, Targets, Arrives, Joins, TakesOver, Uncounts, Budget, Prefers}
+use Rattle.vb_host.specs.declared.event.Event.TheVariants.{Hears, Grants, Overdraws, Wants, Targets, Arrives, Joins, TakesOver, Uncounts, Budget, Prefers, Defers}
 use Rattle.vb_host.specs.declared.seat.Seat.{Seat}
 use Rattle.vb_host.specs.Lending.{each_at, happens, may_join_at, next_turn, pages_at, value_at}
 use Rattle.vb_host.specs.Seats.{grown, heard, lent, newcomer, queued, reclaimed, starting, taken_over}
@@ -84,6 +84,7 @@ lends_have limited b (TakesOver n pages r) asked have =
 lends_have limited b (Uncounts n) asked have = seat_events_leave_seats limited b.lending (Uncounts n) b.world tt have
 lends_have limited b (Budget frames) asked have = seat_events_leave_seats limited b.lending (Budget frames) b.world tt have
 lends_have limited b (Prefers n) asked have = seat_events_leave_seats limited b.lending (Prefers n) b.world tt have
+lends_have limited b (Defers n) asked have = seat_events_leave_seats limited b.lending (Defers n) b.world tt have
 
 pub stays_within : (limited : ℕ → Bool) (b : Both) (e : SeatEvent) → LoanIsAsked limited e b → IsWithin b.lending b.world.frames
     → IsWithin (happens b.lending e) b.world.frames
@@ -98,6 +99,7 @@ stays_within limited b (TakesOver n pages r) asked h = record { owed = asked.1; 
 stays_within limited b (Uncounts n) asked h = record { owed = asked; budget = h.budget }
 stays_within limited b (Budget frames) asked h = record { owed = h.owed; budget = asked }
 stays_within limited b (Prefers n) asked h = lends_within b.lending (Prefers n) b.world.frames h tt
+stays_within limited b (Defers n) asked h = lends_within b.lending (Defers n) b.world.frames h tt
 
 -- ---- events of the host
 

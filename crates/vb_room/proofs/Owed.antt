@@ -7,12 +7,12 @@ use Rattle.vb_host.proofs.Grants.{draw_waits, in_turn, may_waits}
 use Rattle.vb_host.proofs.LentBy.{asks_lend, covered_lends, hears_lend, targets_lend}
 use Rattle.vb_host.proofs.Lists.{waits_at}
 use Rattle.vb_host.proofs.Places.{value_elsewhere}
-use Rattle.vb_host.proofs.Sound.{and_left, and_right, eq_false, eq_true, le_true}
+use Rattle.vb_host.proofs.Sound.{and_left, and_right, either, eq_false, eq_true, le_true}
 use Rattle.vb_host.specs.declared.event.Event.{Event}
-use Rattle.vb_host.specs.declared.event.Event.TheVariants.{Hears, Grants, Overdraws, Wants, Targets, Arrives, Joins, TakesOver, Uncounts, Budget, Prefers}
+use Rattle.vb_host.specs.declared.event.Event.TheVariants.{Hears, Grants, Overdraws, Wants, Targets, Arrives, Joins, TakesOver, Uncounts, Budget, Prefers, Defers}
 use Rattle.vb_host.specs.declared.seat.Seat.{Seat}
 use Rattle.vb_host.specs.Lending.{Lending, each_at, happens, is_first, may_grant, may_join_at, may_overdraw, next_turn, owed, pages_at, room, test_at, value_at}
-use Rattle.vb_host.specs.Seats.{asked, covers, granting, grown, heard, is_done, lent, newcomer, preferring, reclaimed, retargeted, starting, waits}
+use Rattle.vb_host.specs.Seats.{asked, covers, deferring, granting, grown, heard, is_done, lent, may_defer, newcomer, preferring, reclaimed, retargeted, starting, waits}
 
 -- what is lent, what may be, and the frames there are
 pub record IsWithin (l : Lending) (frames : ℕ) : Type 0 where
@@ -99,6 +99,9 @@ joins_owe l n m e =
 
 -- ---- an event of the lender
 
+defers_lend : (turn : ℕ) (s : Seat) → lent (deferring turn s) ≤ lent s + 0
+defers_lend turn s = either (λ (x : Seat). lent x ≤ lent s + 0) (may_defer s) _ s (λ _. omega arith) (λ _. omega arith)
+
 targets_owe : (l : Lending) (n frames : ℕ) → IsWithin l frames → owed (each_at n (retargeted (room l)) l.seats) ≤ frames
 targets_owe l n frames h = omega (arith, owed_less n (room l) (retargeted (room l)) l.seats (targets_lend (room l)), h.owed, h.budget)
 
@@ -132,3 +135,4 @@ lends_within l (Prefers n) frames h o = record {
   );
   budget = h.budget;
 }
+lends_within l (Defers n) frames h o = record { owed = omega (arith, owed_less n 0 (deferring (next_turn l.seats)) l.seats (defers_lend (next_turn l.seats)), h.owed); budget = h.budget }

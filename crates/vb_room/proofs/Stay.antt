@@ -5,10 +5,11 @@ use Rattle.vb_model.proofs.Fates.{configurations_kept}
 use Rattle.vb_model.specs.Guest.{Config, Guest}
 use Rattle.vb_model.specs.World.{World}
 use Rattle.vb_host.proofs.LentBy.{retargets}
+use Rattle.vb_host.proofs.Sound.{either}
 use Rattle.vb_host.specs.declared.seat.Seat.{Seat}
-use Rattle.vb_host.specs.declared.event.Event.TheVariants.{Hears, Grants, Overdraws, Wants, Targets, Arrives, Joins, TakesOver, Uncounts, Budget, Prefers}
-use Rattle.vb_host.specs.Lending.{each_at, may_grant, may_overdraw, room}
-use Rattle.vb_host.specs.Seats.{granting, preferring, reclaimed, retargeted, uncounting}
+use Rattle.vb_host.specs.declared.event.Event.TheVariants.{Hears, Grants, Overdraws, Wants, Targets, Arrives, Joins, TakesOver, Uncounts, Budget, Prefers, Defers}
+use Rattle.vb_host.specs.Lending.{each_at, may_grant, may_overdraw, next_turn, room}
+use Rattle.vb_host.specs.Seats.{deferring, granting, may_defer, preferring, reclaimed, retargeted, uncounting}
 use Rattle.vb_room.specs.Tie.{EventsLeaveSeats, HaveSeats, IsSeatOf, SeatEventsLeaveSeats}
 
 pub events_leave_seats : EventsLeaveSeats
@@ -83,6 +84,9 @@ targets_less room s = retargets (λ (x : Seat). Less s x) room s (less_same s) (
 prefers_less : (preferred : ℕ) (s : Seat) → Less s (preferring preferred s)
 prefers_less preferred s = record { pages = refl; reclaimed = omega arith }
 
+defers_less : (turn : ℕ) (s : Seat) → Less s (deferring turn s)
+defers_less turn s = either (Less s) (may_defer s) _ s (λ _. record { pages = refl; reclaimed = omega arith }) (λ _. less_same s)
+
 pub seat_events_leave_seats : SeatEventsLeaveSeats
 seat_events_leave_seats limited l (Hears n r) w o h = absurd o
 seat_events_leave_seats limited l (Grants n) w o h = have_if limited (may_grant l n) l.seats _ w (have_at limited n granting l.seats w granting_less h) h
@@ -96,3 +100,4 @@ seat_events_leave_seats limited l (Uncounts n) w o h = have_at limited n uncount
 seat_events_leave_seats limited l (Budget frames) w o h = h
 seat_events_leave_seats limited l (Prefers n) w o h =
     have_at limited n (preferring 1) (map (preferring 0) l.seats) w (prefers_less 1) (have_all limited (preferring 0) l.seats w (prefers_less 0) h)
+seat_events_leave_seats limited l (Defers n) w o h = have_at limited n (deferring (next_turn l.seats)) l.seats w (defers_less (next_turn l.seats)) h

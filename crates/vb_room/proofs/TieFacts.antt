@@ -4,7 +4,7 @@ use Rattle.std.specs.Prelude.{None, Option, Some}
 use Rattle.vb_model.specs.declared.calls.Call.TheVariants.{Reset, Scribble, Write}
 use Rattle.vb_model.specs.Guest.{Config, Guest, backed_count, fresh}
 use Rattle.vb_model.specs.World.{World}
-use Rattle.vb_host.specs.declared.event.Event.TheVariants.{Arrives, Budget, Grants, Hears, Joins, Overdraws, Prefers, TakesOver, Targets, Uncounts, Wants}
+use Rattle.vb_host.specs.declared.event.Event.TheVariants.{Arrives, Budget, Defers, Grants, Hears, Joins, Overdraws, Prefers, TakesOver, Targets, Uncounts, Wants}
 use Rattle.vb_host.specs.declared.report.Report.{Report}
 use Rattle.vb_host.specs.declared.seat.Seat.{Seat}
 use Rattle.vb_host.specs.Seats.{newcomer}
@@ -160,8 +160,8 @@ lowers = (
 )
 
 reclaims_none : ReclaimsNone (Grants 0) × ReclaimsNone (Overdraws 0) × ReclaimsNone (Wants 0 1) × ReclaimsNone (Targets 0)
-    × ReclaimsNone (Uncounts 0) × ReclaimsNone (Budget 1) × ReclaimsNone (Prefers 0)
-reclaims_none = (tt, tt, tt, tt, tt, tt, tt)
+    × ReclaimsNone (Uncounts 0) × ReclaimsNone (Budget 1) × ReclaimsNone (Prefers 0) × ReclaimsNone (Defers 0)
+reclaims_none = (tt, tt, tt, tt, tt, tt, tt, tt)
 
 reclaims_some : (ReclaimsNone (Hears 0 silent) → ⊥) × (ReclaimsNone (Arrives 0 1 0) → ⊥) × (ReclaimsNone (Joins 0 1) → ⊥)
     × (ReclaimsNone (TakesOver 0 1 silent) → ⊥)
