@@ -52,7 +52,11 @@ int __wrap_clock_gettime(clockid_t clock, struct timespec *time)
 /* An order: as the process waits for it, or any. */
 static void lender_orders(void)
 {
-    struct lending_message order = {.kind = next_below(10), .number = next_byte(), .asks = 1};
+    unsigned kind = next_below(10), number = next_byte();
+    struct lending_message order = {.kind = kind == TELL_REPORT ? ORDER_RENEW : kind,
+                                    .number = number,
+                                    .asks = number % 8 != 0,
+                                    .ballooned = kind == ORDER_ADMIT ? number % 64 : 0};
     order.wait = next_byte() < 200
                      ? (order.kind == ORDER_GRANT ? fuzzed.notes.held_wait : fuzzed.notes.wait)
                      : next_byte();
@@ -277,7 +281,7 @@ int LLVMFuzzerTestOneInput(const uint8_t *data, size_t size)
         act();
         served = setjmp(ended) == 0 ? guard(loop_turn, &turns) : 1;
         check_balloon();
-        if (served > 0 && ends)
+        if ((served > 0 && ends) || (served == 0 && fuzzed.ends_anew))
             served = another_goes_on();
     }
     /* A message that it hasn't read yet is served before it sees the end. */

@@ -93,7 +93,9 @@ static void look(unsigned number)
         seat_look(seat, true);
         seat->silent += seconds % 2;
     }
-    demand(!seat_is_taken(seat) || seat_is_behind(seat) || seat->target <= place_of(seat)->wanted);
+    bool comes = seat->holds && place_of(seat)->granted == 0;
+    demand(!seat_is_taken(seat) || comes || seat_is_behind(seat) ||
+           seat->target <= place_of(seat)->wanted);
     seat_step(seat, STEP_MS);
     if (!seat_rests(seat))
         seat_remind(seat);
