@@ -309,7 +309,7 @@ def test_the_mode_and_the_group_of_the_socket(program, folder):
     )
     it.lines.next(patience_from_now())
     its = os.stat(it.control)
-    assert (stat.S_IMODE(its.st_mode), its.st_gid) == (0o600, group)
+    assert (stat.S_IMODE(its.st_mode), its.st_uid, its.st_gid) == (0o600, os.geteuid(), group)
     assert it.end() == 0
     assert not os.path.exists(it.control)
 

@@ -15,6 +15,7 @@ from vhost_client import (
     HAS_PROTOCOL,
     INDIRECT,
     INFLATE,
+    NO_FILE,
     NEXT,
     PAGE,
     PAGES_OF_REGION,
@@ -25,6 +26,7 @@ from vhost_client import (
     SET_FEATURES,
     SET_STATUS,
     SET_VRING_ERR,
+    SET_VRING_KICK,
     SIZE,
     STATISTICS,
     VRING_KICK,
@@ -205,6 +207,14 @@ def test_a_broken_rule_is_told_by_its_event(serve):
     demand_refused(client, "(rule 1)")
     assert os.eventfd_read(fault) == 1
     os.close(fault)
+
+
+def test_a_rule_that_is_broken_on_a_ring_without_a_kick(serve):
+    client = serve()
+    client.start_by_events()
+    client.send(SET_VRING_KICK, struct.pack("<Q", INFLATE | NO_FILE), flags=1)
+    client.publish(INFLATE, SIZE)
+    demand_refused(client, "(rule 1)")
 
 
 def test_memory_that_is_cut_off(serve_ready):
