@@ -212,7 +212,7 @@ def test_a_broken_rule_is_told_by_its_event(serve):
 def test_a_rule_that_is_broken_on_a_ring_without_a_kick(serve):
     client = serve()
     client.start_by_events()
-    client.send(SET_VRING_KICK, struct.pack("<Q", INFLATE | NO_FILE), flags=1)
+    client.accepted(SET_VRING_KICK, struct.pack("<Q", INFLATE | NO_FILE))
     client.publish(INFLATE, SIZE)
     demand_refused(client, "(rule 1)")
 
