@@ -15,6 +15,10 @@ ACTUAL_AT, ACTUAL = 4, 29
 # A guest of 128 pages that has given 45, whose target is 33 now, and that holds a deflate of 10;
 # the number of the order to look; what isn't here is 0.
 ALL, GAVE, TARGET, TAKES, DRIVER_OK, LOOK = 128, 45, 33, 10, 15, 7
+
+# A process that holds deflates, and could let its guest start with less than its memory (enum
+# lending_hold).
+MAY_START_SMALL = 2
 WANTED = {
     "kind": TELL_REPORT,
     "number": LOOK,
@@ -23,7 +27,7 @@ WANTED = {
     "pages": ALL,
     "wanted": ALL,
     "wait": 1,
-    "holds": 1,
+    "holds": MAY_START_SMALL,
     "held_pages": TAKES,
     "held_wait": 1,
     "target": TARGET,
