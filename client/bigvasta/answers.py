@@ -73,9 +73,13 @@ HOST = {
         is_count,
         "guests budget overdraft floor held lent missing overdrawn waiting silent uncooperative",
     ),
-    "counters": fields(
-        is_count, "looks above peak decisions changed shorts admitted refused dropped"
-    ),
+    **fields(Maybe(is_count), "patience"),
+    "short": Maybe(is_flag),
+    **fields(Maybe(is_text_or_null), "on_short gives_first"),
+    "counters": {
+        **fields(is_count, "looks above peak decisions changed shorts admitted refused dropped"),
+        **fields(Maybe(is_count), "shortages command_failures"),
+    },
     "measures": {
         **fields(are_durations, "waits decisions turns"),
         "processor": Maybe(are_durations),
@@ -122,7 +126,7 @@ EVENT = {
     "time": is_seconds,
     **fields(Maybe(is_text), "guest state waits_for reason"),
     "waits": Maybe(is_seconds),
-    "budget": Maybe(is_count),
+    **fields(Maybe(is_count), "budget missing"),
     "decision": Maybe(DECISION),
 }
 REFUSAL = {"error": {"code": is_text, "text": is_text, "field": Maybe(is_text)}}

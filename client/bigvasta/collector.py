@@ -37,6 +37,8 @@ HOST_TOTALS = (
     ),
     ("guests_admitted", "admitted", "Guests that found room"),
     ("guests_refused", "refused", "Guests that found no room"),
+    ("shortages", "shortages", "Shortages that lasted for the host's patience"),
+    ("command_failures", "command_failures", "Failures of the command for a shortage that lasts"),
     ("lines_dropped", "dropped", "Lines of the log that nobody read in time"),
 )
 CONTROL_TOTALS = (
@@ -135,7 +137,8 @@ def host_metrics(host):
     for name, field, what in HOST_COUNTS:
         yield gauge(name, what, [([], host[field])])
     for name, field, what in HOST_TOTALS:
-        yield counter(name, what, [([], host["counters"][field])])
+        if field in host["counters"]:
+            yield counter(name, what, [([], host["counters"][field])])
     yield gauge(
         "control_clients", "Clients of a control socket", of_sockets(host, "clients"), "socket"
     )

@@ -6,6 +6,7 @@
  *                     [--no-sandbox] [--end-with-lender] [--config FILE] [--control PATH]
  *                     [--control-mode OCTAL] [--control-group NAME] [--status PATH]
  *                     [--status-mode OCTAL] [--status-group NAME] [--log-level WORD]
+ *                     [--patience SECONDS] [--on-short PATH]
  *
  * It says `ready`, and starts a process for each client that comes, which serves its balloon:
  * vhost_user_balloon, beside this program or at --program. It obeys lines of its standard input,
@@ -42,6 +43,8 @@
  * debug.
  *
  * --overdraft: pages above the budget that are lent where all guests wait for each other (0).
+ * --on-short: a command that is run with two words, the guest of the lowest priority and the MiB
+ * that are missing, once the guests couldn't give that for --patience seconds (10).
  * --cost: milliseconds that a client costs its seat, which may owe a minute (2000; 0: clients come
  * as they like).
  * --floor: what each guest keeps free (12 MiB). --step: a target grows by one part in N of the
@@ -66,6 +69,7 @@ enum {
     PERIOD = 200,
     FLOOR_MIB = 12,
     STEP = 8,
+    PATIENCE = 10,
     COST = 2000,
     FILES_OF_LENDER = 32,
     FILES_OF_SEAT = 4
@@ -99,6 +103,11 @@ static bool read_period(const char *word, void *at)
     return read;
 }
 
+static bool read_patience(const char *word, void *at)
+{
+    return !word_read(WORD_SECONDS, word, at);
+}
+
 /* What the file says, where the command line doesn't say it. */
 static void take_config(struct host *host, const struct config *config)
 {
@@ -110,13 +119,18 @@ static void take_config(struct host *host, const struct config *config)
         host->lends.overdraft = config->overdraft != UINT32_MAX ? config->overdraft : 0;
     if (host->floor == UINT32_MAX)
         host->floor = config->floor != UINT32_MAX ? config->floor : FLOOR_MIB * PAGES_PER_MIB;
+    if (host->patience == 0)
+        host->patience = config->patience != UINT32_MAX ? config->patience : PATIENCE;
+    if (!host->on_short && config->on_short[0])
+        host->on_short = config->on_short;
     if (host->period == 0)
         host->period = config->fixed.period > 0 ? config->fixed.period : PERIOD;
 }
 
 static const char help[] =
     "vhost_user_host FOLDER --budget MIB [--floor MIB] [--period MS] [--step N] "
-    "[--overdraft PAGES] [--cost MS] [--strict] [--strict-pages] [--events] "
+    "[--overdraft PAGES] [--patience SECONDS] [--on-short PATH] [--cost MS] [--strict] "
+    "[--strict-pages] [--events] "
     "[--features HEX] [--lines N] [--program PATH] [--no-sandbox] [--end-with-lender] [--leave]\n"
     "                [--config FILE] [--control PATH] [--control-mode OCTAL] [--control-group "
     "NAME] [--status PATH] [--status-mode OCTAL] "
@@ -130,6 +144,8 @@ static enum command_line read_words(struct host *host, struct service *service, 
         {"floor", .read = read_mebibytes, .at = &host->floor},
         {"step", .read = read_number_of, .at = &host->step},
         {"overdraft", .read = read_number_of, .at = &host->lends.overdraft},
+        {"patience", .read = read_patience, .at = &host->patience},
+        {"on-short", .read = read_word, .at = &host->on_short},
         {"period", .read = read_period, .at = &host->period},
         {"cost", .read = read_number_of, .at = &host->cost},
         {"features", .read = read_features, .at = &host->features},
@@ -231,6 +247,7 @@ int main(int count, char **words)
     static struct service service;
     if (count == 3 && !strcmp(words[1], writer_word))
         return limit_writer_run(STDIN_FILENO);
+    host.shortage.command = -1;
     process_begin();
     enum command_line line = read_words(&host, &service, count, words);
     if (line == LINE_WRONG)

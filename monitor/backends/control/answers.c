@@ -86,12 +86,13 @@ json_t *answer_guests(const struct host *host)
 
 static json_t *answer_host_counters(const struct host_view *view)
 {
-    return json_pack("{s:o, s:o, s:o, s:o, s:o, s:o, s:o, s:o, s:o, s:o}", "looks",
+    return json_pack("{s:o, s:o, s:o, s:o, s:o, s:o, s:o, s:o, s:o, s:o, s:o, s:o}", "looks",
                      count(view->looks), "above", count(view->above), "peak",
                      kibibytes(view->peak_kib), "decisions", count(view->decisions), "changed",
                      count(view->changed), "shorts", count(view->shorts), "admitted",
                      count(view->admitted), "refused", count(view->refused), "gone",
-                     count(view->gone), "dropped", count(view->dropped));
+                     count(view->gone), "dropped", count(view->dropped), "shortages",
+                     count(view->shortages), "command_failures", count(view->command_failures));
 }
 
 static json_t *answer_control_counters(const struct control_counters *its)
@@ -133,14 +134,16 @@ json_t *answer_host(const struct control *control, const struct host *host)
     host_see(host, &view);
     return json_pack(
         "{s:s, s:s, s:i, s:o, s:o, s:o, s:o, s:o, s:o, s:o, s:o, s:i, s:i, s:i, s:b, s:f, "
-        "s:o, s:o, s:o, s:o}",
+        "s:i, s:s?, s:b, s:s?, s:o, s:o, s:o, s:o}",
         "version", VB_VERSION, "folder", view.folder, "guests", (int)view.guests, "budget",
         part_bytes(view.budget), "overdraft", part_bytes(view.overdraft), "floor",
         part_bytes(view.floor), "step", count(view.step), "held", kibibytes(view.held_kib), "lent",
         part_bytes(view.lent), "missing", part_bytes(view.short_by), "overdrawn",
         part_bytes(view.overdrawn), "waiting", (int)view.waiting, "silent", (int)view.silent,
         "uncooperative", (int)view.uncooperative, "strict", view.strict, "period",
-        (double)view.period / 1000, "counters", answer_host_counters(&view), "control",
+        (double)view.period / 1000, "patience", (int)view.patience, "on_short", view.on_short,
+        "short", view.is_short, "gives_first", view.gives_first, "counters",
+        answer_host_counters(&view), "control",
         answer_control_counters(&control->sockets[MAY_CHANGE].counters), "status",
         answer_control_counters(&control->sockets[MAY_LOOK].counters), "measures",
         answer_measures());

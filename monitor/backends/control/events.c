@@ -29,7 +29,8 @@ struct seen {
 };
 
 struct events {
-    uint64_t next, decisions;
+    uint64_t next, decisions, shortages;
+    bool is_short;
     uint32_t budget;
     unsigned next_guest; /* at which the next look begins */
     unsigned count;
@@ -193,6 +194,20 @@ static void tell_removed(struct control *control)
         events->seen[i].here = false;
 }
 
+/* Tells of a shortage once it has lasted, with who gives first, and of its end. */
+static void tell_shortage(struct control *control, const struct host_view *view)
+{
+    struct events *events = control->events;
+    bool is_new = events->shortages != view->shortages;
+    if (events->is_short && (is_new || !view->is_short))
+        tell(control, "enough", NULL);
+    if (is_new)
+        tell_more(control, "short", view->gives_first,
+                  json_pack("{s:o}", "missing", part_bytes(view->short_by)));
+    events->shortages = view->shortages;
+    events->is_short = view->is_short;
+}
+
 /* Whether more may be told in this look: it has told nothing yet, or has time. */
 static bool may_tell(const struct look *look)
 {
@@ -240,6 +255,7 @@ void events_look(struct control *control, const struct host *host)
     if (events->budget != view.budget && events->budget > 0)
         tell_more(control, "budget", NULL, json_pack("{s:o}", "budget", part_bytes(view.budget)));
     events->budget = view.budget;
+    tell_shortage(control, &view);
     look_at_guests(control, host, &look, view.guests);
     tell_removed(control);
     control->is_behind = events->next_guest < view.guests;

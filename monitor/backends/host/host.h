@@ -128,7 +128,8 @@ struct host_counters {
     uint64_t looks, above, peak;              /* peak: KiB */
     uint64_t decisions, changed;              /* changed: targets */
     uint64_t shorts, admitted, refused, gone; /* shorts: decisions that found the guests short */
-    uint64_t grants;                          /* of room, deflates and resets that waited */
+    uint64_t shortages, command_failures; /* that lasted; of the command that was run for them */
+    uint64_t grants;                      /* of room, deflates and resets that waited */
 };
 
 /* Who waits first, and what is lent to all; and since when nothing of that has changed. */
@@ -136,6 +137,15 @@ struct stand {
     size_t first;
     uint64_t lent;
     int64_t since;
+};
+
+/* That the guests can't give what is missing. */
+struct shortage {
+    int64_t since;         /* 0: they can */
+    bool lasts, is_due;    /* the host's patience has passed; the command is still to be run */
+    char guest[MOST_NAME]; /* who had the lowest priority then; empty: nobody had memory */
+    uint64_t missing;      /* then, in pages */
+    int command;           /* tells how the operator's command has ended; -1: none runs */
 };
 
 /* The answers of standard output that nobody has read yet. */
@@ -170,6 +180,9 @@ struct host {
     uint64_t features;
     VbHost lends; /* what it may lend: nothing before a guest of an earlier lender has reported */
     struct stand stand;
+    struct shortage shortage;
+    uint32_t patience;    /* seconds for which a shortage lasts until the operator is told */
+    const char *on_short; /* the command that is run then; NULL or empty: none */
     VbSeat places[MOST_PLACES];
     size_t place_count; /* how many are, or were, somebody's */
     bool strict, strict_pages, events, no_sandbox, end_with_lender;
@@ -380,6 +393,14 @@ void policy_decide(struct host *host);
 
 /* What all guests hold, in KiB. */
 uint64_t host_held(const struct host *host);
+
+/* ---- shortage.c */
+
+/* Follows a shortage: has one that lasts told, and the operator's command run for it. */
+void shortage_look(struct host *host);
+
+/* Takes how the command has ended, for the host's loop. */
+int shortage_take_end(void *host, int file);
 
 /* ---- limits.c */
 

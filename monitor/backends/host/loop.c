@@ -21,9 +21,8 @@ enum {
     STARTS_AHEAD = 64
 };
 
-/* Files that are waited for: of each guest and of each that leaves, of the service, and of
-  * lines. */
-enum { OF_SEAT = 4, OF_SERVICE = 2, OF_LINES = 3 };
+/* Files that are waited for: of each guest, also of one that leaves, of the service, of lines. */
+enum { OF_SEAT = 4, OF_SERVICE = 2, OF_LINES = 4 };
 _Static_assert(2 * MOST_GUESTS * OF_SEAT + OF_SERVICE + OF_LINES <= (int)MOST_POLLED,
                "files of a lender");
 
@@ -73,6 +72,7 @@ static void look(struct host *host)
     loans_audit(host);
     policy_decide(host);
     places_relieve(host);
+    shortage_look(host);
     for (unsigned i = 0; i < host->leaving_count; i++)
         seat_leave(host->leaving[i]);
     for (unsigned i = 0; i < host->count; i++) {
@@ -283,13 +283,13 @@ static int take_lines(void *context, int file)
     return LOOP_GOES_ON;
 }
 
-/* Waits for lines, room for answers, the signals that end it, and what is to be done at its
-  * time. */
+/* Waits for lines, room for answers, signals that end it, and the time of what is to be done. */
 static void wait_for_lines(void *context, struct loop *loop)
 {
     struct host *host = context;
     bool asks = *host->question.line, were_read = answers_were_read(&host->answers);
     loop_wait_for(loop, host->end, POLLIN, take_signal, host);
+    loop_wait_for(loop, host->shortage.command, POLLIN, shortage_take_end, host);
     loop_wait_for(loop, were_read ? -1 : file_of_output(), POLLOUT, take_room, host);
     loop_wait_for(loop, host->input.ended || asks || !were_read ? -1 : STDIN_FILENO, POLLIN,
                   take_lines, host);

@@ -66,6 +66,8 @@ void host_see(const struct host *host, struct host_view *view)
                                .step = host->step,
                                .held_kib = host_held(host),
                                .short_by = host->missing,
+                               .patience = host->patience,
+                               .is_short = host->shortage.lasts,
                                .strict = host->strict,
                                .period = host->period,
                                .looks = its->looks,
@@ -77,7 +79,13 @@ void host_see(const struct host *host, struct host_view *view)
                                .admitted = its->admitted,
                                .refused = its->refused,
                                .gone = its->gone,
+                               .shortages = its->shortages,
+                               .command_failures = its->command_failures,
                                .dropped = lines_dropped};
+    if (host->on_short && *host->on_short)
+        view->on_short = host->on_short;
+    if (host->shortage.lasts && host->shortage.guest[0])
+        view->gives_first = host->shortage.guest;
     uint64_t lent = places_owed(host);
     view->overdrawn = lent > host->frames ? lent - host->frames : 0;
     for (unsigned i = 0; i < host->count; i++) {
@@ -164,6 +172,14 @@ const char *host_set_overdraft(struct host *host, uint32_t pages)
     if (pages > host->frames)
         return above_budget;
     host->lends.overdraft = pages;
+    return NULL;
+}
+
+const char *host_set_patience(struct host *host, uint32_t seconds)
+{
+    if (seconds == 0)
+        return "a patience of one second or more";
+    host->patience = seconds;
     return NULL;
 }
 

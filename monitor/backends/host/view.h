@@ -102,12 +102,17 @@ struct host_view {
     uint32_t step;           /* a guest's pages divided by it, in a second */
     uint64_t held_kib, lent; /* lent: frames of all loans together */
     uint64_t short_by;       /* pages by which the guests can't give what is missing */
+    uint32_t patience;       /* seconds */
+    const char *on_short;    /* the operator's command; NULL: none */
+    bool is_short;           /* they couldn't for that long */
+    const char *gives_first; /* who had the lowest priority then; NULL: nobody */
     uint64_t overdrawn;      /* frames that are lent above the budget */
     unsigned waiting, silent, uncooperative; /* guests */
     bool strict;                             /* of a guest that comes without terms of its own */
     int64_t period;                          /* milliseconds */
     uint64_t looks, above, peak_kib, decisions, changed, shorts, admitted, refused, gone;
-    uint64_t dropped; /* lines of words or answers that nobody read in time */
+    uint64_t shortages, command_failures; /* that lasted; of the command for these */
+    uint64_t dropped;                     /* lines of words or answers that nobody read in time */
 };
 
 /* What there is; `number` is below guests. A guest's name finds its number: -1 where nobody has
@@ -124,6 +129,7 @@ struct guest_terms host_usual_terms(const struct host *host);
 const char *host_set_budget(struct host *host, uint32_t pages);
 const char *host_set_floor(struct host *host, uint32_t pages);
 const char *host_set_overdraft(struct host *host, uint32_t pages);
+const char *host_set_patience(struct host *host, uint32_t seconds);
 const char *host_add(struct host *host, const char *name, const struct guest_terms *terms);
 const char *host_remove(struct host *host, const char *name);
 const char *host_set_terms(struct host *host, const char *name, const struct guest_terms *terms);

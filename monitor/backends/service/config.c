@@ -42,6 +42,8 @@ static const struct key keys[] = {
     {"host", "budget", WORD_SIZE, offsetof(struct config, budget)},
     {"host", "floor", WORD_SIZE_OR_NONE, offsetof(struct config, floor)},
     {"host", "overdraft", WORD_SIZE_OR_NONE, offsetof(struct config, overdraft)},
+    {"host", "patience", WORD_SECONDS, offsetof(struct config, patience)},
+    {"host", "on_short", WORD_PATH, offsetof(struct config, on_short)},
     {"host", "period", WORD_MILLISECONDS, offsetof(struct config, fixed.period)},
     {"control", "socket", WORD_PATH, offsetof(struct config, fixed.sockets[MAY_CHANGE].path)},
     {"control", "mode", WORD_MODE, offsetof(struct config, fixed.sockets[MAY_CHANGE].mode)},
@@ -225,6 +227,7 @@ struct config config_empty(void)
         .budget = UINT32_MAX,
         .floor = UINT32_MAX,
         .overdraft = UINT32_MAX,
+        .patience = UINT32_MAX,
         .lines = UINT32_MAX,
         .level = UINT32_MAX,
         .fixed.sockets = {[MAY_CHANGE] = {.mode = UINT32_MAX}, [MAY_LOOK] = {.mode = UINT32_MAX}}};

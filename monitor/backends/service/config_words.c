@@ -8,11 +8,13 @@
 #include <grp.h>
 #include <stdlib.h>
 
-/* Milliseconds of a period, and the words for both. */
+/* Milliseconds of a period, seconds of patience, and the words for both. */
 #define LEAST_PERIOD 10
 #define MOST_PERIOD 60000
+#define LEAST_SECONDS 1
+#define MOST_SECONDS 86400
 #define NUMBER(number) #number
-#define MILLISECONDS(least, most) "milliseconds, from " NUMBER(least) " to " NUMBER(most)
+#define BETWEEN(what, least, most) what ", from " NUMBER(least) " to " NUMBER(most)
 
 bool word_is_name(const char *name)
 {
@@ -105,7 +107,11 @@ const char *word_read(enum word_kind kind, const char *word, void *at)
     case WORD_MILLISECONDS:
         return read_between(word, LEAST_PERIOD, MOST_PERIOD, at)
                    ? NULL
-                   : MILLISECONDS(LEAST_PERIOD, MOST_PERIOD);
+                   : BETWEEN("milliseconds", LEAST_PERIOD, MOST_PERIOD);
+    case WORD_SECONDS:
+        return read_between(word, LEAST_SECONDS, MOST_SECONDS, at)
+                   ? NULL
+                   : BETWEEN("seconds", LEAST_SECONDS, MOST_SECONDS);
     case WORD_MODE:
         return read_mode(word, at) ? NULL : "an octal mode, as 0660";
     case WORD_LEVEL:

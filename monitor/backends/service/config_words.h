@@ -15,6 +15,7 @@ enum word_kind {
     WORD_SIZE_OR_NONE,
     WORD_NUMBER,
     WORD_MILLISECONDS,
+    WORD_SECONDS,
     WORD_MODE,
     WORD_LEVEL,
     WORD_BOOLEAN,

@@ -150,6 +150,10 @@ static void set_sizes(const char *file, struct host *host, const struct config *
         fault = host_set_overdraft(host, config->overdraft);
     if (config->floor != UINT32_MAX)
         host_set_floor(host, config->floor);
+    if (config->patience != UINT32_MAX)
+        host_set_patience(host, config->patience);
+    if (config->on_short[0])
+        host->on_short = config->on_short;
     if (fault)
         say_fault("%s: %s", file, fault);
 }
@@ -168,7 +172,7 @@ static void reload(struct service *service, struct host *host)
     else {
         service->config = config;
         take_config(service);
-        set_sizes(service->file, host, &config);
+        set_sizes(service->file, host, &service->config);
         apply_guests(service->file, &config, host);
         say_news("%s: read anew", service->file);
     }

@@ -130,6 +130,9 @@ WRONG = (
         "line 18: colour: this section has no such key",
     ),
     ("floor = 8M", "overdraft = 481M", "overdraft: more than the budget"),
+    ("floor = 8M", "patience = 0", "line 5: patience: seconds, from 1 to 86400"),
+    ("floor = 8M", "patience = 86401", "line 5: patience: seconds, from 1 to 86400"),
+    ("floor = 8M", "on_short = x", "line 5: on_short: a path from / on, of 127 bytes at most"),
     (
         "[guest web-1]",
         "[guest web-1]\nleast = 9M\nmost = 8M",
@@ -226,6 +229,20 @@ TAKEN = (
         2 * MIB,
     ),
     (
+        "patience of [host]",
+        "floor = 8M",
+        "floor = 8M\npatience = 7",
+        lambda host: host.status()["patience"],
+        7,
+    ),
+    (
+        "on_short of [host]",
+        "floor = 8M",
+        "floor = 8M\non_short = /bin/true",
+        lambda host: host.status()["on_short"],
+        "/bin/true",
+    ),
+    (
         "level of [log]",
         "level = info",
         "level = notice",
@@ -320,7 +337,7 @@ def test_each_key_is_wrong_once(folder):
                 if it.startswith("[")
             )
             wrong.add((re.findall(r"\[(\w+)", section or "[none")[-1], line[2]))
-    assert len(keys) == 22 and keys <= wrong, keys - wrong
+    assert len(keys) == 24 and keys <= wrong, keys - wrong
 
 
 def test_what_the_file_says_is_done(configured, folder):

@@ -68,17 +68,20 @@ GUEST = {
     **rows("count", " ".join(f"{it}=counters.{it}" for it in COUNTERS.split())),
 }
 HOST = {
-    **rows("text", "folder"),
-    **rows("count", "guests step waiting silent uncooperative"),
+    **rows("text", "folder on_short gives_first"),
+    **rows("count", "guests step waiting silent uncooperative patience"),
     **rows("pages", "budget overdraft floor lent short_by=missing overdrawn"),
     **rows("kib", "held_kib=held peak_kib=counters.peak"),
-    **rows("flag", "strict"),
+    **rows("flag", "strict is_short=short"),
     **rows("ms", "period"),
     **rows(
         "count",
         " ".join(
             f"{it}=counters.{it}"
-            for it in "looks above decisions changed shorts admitted refused gone dropped".split()
+            for it in (
+                "looks above decisions changed shorts admitted refused gone dropped shortages "
+                "command_failures"
+            ).split()
         ),
     ),
 }

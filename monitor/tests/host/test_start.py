@@ -57,6 +57,19 @@ def test_it_waits_for_its_start_alone(small, come):
     assert b.is_alive() and lender.counters()["short"] == 0
 
 
+def test_it_comes_with_its_start_where_another_one_gives(small, come):
+    """It is lent no more of that while its driver isn't there."""
+    lender, _, begin = small
+    b = come(lender, "b", {FREE: 100})
+    client = begin(ALL + START - 1, Client, start=START)
+    comes = Later(client.hand_over_memory)
+    assert comes.waits() and lender.guests()["a"]["target"] < WITHOUT
+    b.give(GIVEN[:60])
+    comes.ends()
+    time.sleep(0.5)
+    lender.become("a", pages=ALL, lent=START, ballooned=WITHOUT)
+
+
 def test_it_has_more_memory_than_the_host(small):
     lender, its, begin = small
     begin(START, Client, start=START).hand_over_memory()
