@@ -139,6 +139,13 @@ struct stand {
     int64_t since;
 };
 
+/* The guest that waits first of those that begin anew or come, its turn, and since when. */
+struct head {
+    size_t first;
+    uint64_t turn;
+    int64_t since;
+};
+
 /* That the guests can't give what is missing. */
 struct shortage {
     int64_t since;         /* 0: they can */
@@ -180,8 +187,10 @@ struct host {
     uint64_t features;
     VbHost lends; /* what it may lend: nothing before a guest of an earlier lender has reported */
     struct stand stand;
+    struct head head;
     struct shortage shortage;
-    uint32_t patience;    /* seconds for which a shortage lasts until the operator is told */
+    uint32_t patience;    /* seconds for which a shortage lasts until the operator is told, and for
+                             which the first that waits to come keeps others waiting */
     const char *on_short; /* the command that is run then; NULL or empty: none */
     VbSeat places[MOST_PLACES];
     size_t place_count; /* how many are, or were, somebody's */

@@ -152,6 +152,34 @@ void places_relieve(struct host *host)
         happens(host, (VbHostEvent){.kind = VB_OVERDRAWS, .guest = first});
 }
 
+/* Who waits first of those that begin anew or come, but for one; SIZE_MAX where nobody does. */
+static size_t first_beside(const struct host *host, size_t except)
+{
+    static VbSeat others[MOST_PLACES];
+    for (size_t i = 0; i < host->place_count; i++) {
+        bool counts = host->places[i].line != VB_LINE_DEFLATES && i != except;
+        others[i] = counts ? host->places[i] : (VbSeat){0};
+    }
+    return vb_host_first(others, host->place_count);
+}
+
+void places_defer(struct host *host)
+{
+    enum { SECOND = 1000 };
+    struct head *head = &host->head;
+    size_t first = first_beside(host, SIZE_MAX);
+    uint64_t turn = first == SIZE_MAX ? 0 : host->places[first].turn;
+    if (first != head->first || turn != head->turn)
+        *head = (struct head){first, turn, loop_now()};
+    bool is_patient =
+        host_awaits(host) || loop_now() - head->since < (int64_t)host->patience * SECOND;
+    if (is_patient || first == SIZE_MAX || first_beside(host, first) == SIZE_MAX)
+        return;
+    if (host->places[first].preferred)
+        happens(host, (VbHostEvent){.kind = VB_PREFERS, .guest = SIZE_MAX});
+    happens(host, (VbHostEvent){.kind = VB_DEFERS, .guest = first});
+}
+
 /* ---- memory that is added to a guest at work */
 
 static void drop_added(struct seat *seat)

@@ -67,6 +67,10 @@ void places_follow_budget(struct host *host);
  * short host proceeds alone: it comes before all others of its line until it asks no more. */
 void places_relieve(struct host *host);
 
+/* Once the first of those that begin anew or come has waited for as long as the host is patient, it
+ * lets others pass, if there are any. */
+void places_defer(struct host *host);
+
 /* The pages of its memory that has room; and its last target, 0 where it was sent none. */
 uint32_t seat_pages(const struct seat *seat);
 uint32_t seat_told(const struct seat *seat);
