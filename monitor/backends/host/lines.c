@@ -111,12 +111,27 @@ static const char *read_term(struct guest_terms *terms, const char *word)
     return no_terms;
 }
 
+/* That the term that is the last one of a line is said before it, too; NULL: it isn't. */
+static const char *said_before(const char *line, const char *last)
+{
+    static char fault[64];
+    int length = (int)strcspn(last, "=");
+    for (const char *word = strchr(line, ' '); word + 1 < last; word = strchr(word + 1, ' ')) {
+        if (strncmp(word + 1, last, (size_t)length + 1) != 0)
+            continue;
+        snprintf(fault, sizeof fault, "%.*s= is said twice", length, last);
+        return fault;
+    }
+    return NULL;
+}
+
 /* Takes the words of terms off the end of a line, which the name is left of; NULL, or why one is
  * none. */
 static const char *read_terms(char *line, struct guest_terms *terms)
 {
     for (char *word; (word = strrchr(line, ' ')); *word = 0) {
         const char *fault = read_term(terms, word + 1);
+        fault = fault ? fault : said_before(line, word + 1);
         if (fault)
             return fault;
     }
