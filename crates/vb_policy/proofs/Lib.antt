@@ -12,3 +12,4 @@ pub mod Rest
 pub mod Joins
 mod DivisionFacts
 mod TargetFacts
+mod NeedsFacts

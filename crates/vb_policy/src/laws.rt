@@ -1,7 +1,7 @@
 //! What holds of every decision.
 
 ghost use Rattle.std.specs.Prelude.{◌≡◌, ◌⊎◌, ℕ, ◌+◌, ◌*◌, ◌<◌, ◌≤◌, List, Contains, length, map};
-ghost use Rattle.std.specs.Prelude.{IsPermutation, slice_get, slice_index, sum, sum_by, true, Some};
+ghost use Rattle.std.specs.Prelude.{IsPermutation, false, min, slice_get, slice_index, sum, sum_by, true, Some};
 ghost use Rattle.vb_policy.specs.declared.guest.Decision.{Decision};
 ghost use Rattle.vb_policy.specs.declared.guest.Decision.TheVariants.{Enough};
 ghost use Rattle.vb_policy.specs.declared.guest.Division.{Division};
@@ -13,6 +13,11 @@ ghost use Rattle.vb_policy.specs.Decisions.{Decides};
 ghost use Rattle.vb_policy.specs.Divisions.{Divides, fair};
 ghost use Rattle.vb_policy.specs.Laws.{CanGiveMore, kept_of, unit_of, value_at, weight_of};
 ghost use Rattle.vb_policy.specs.Laws.{with_targets};
+ghost use Rattle.vb_policy.specs.declared.figures.Budget.{Budget};
+ghost use Rattle.vb_policy.specs.declared.figures.Contact.TheVariants.{Silent};
+ghost use Rattle.vb_policy.specs.declared.figures.Figures.{Figures};
+ghost use Rattle.vb_policy.specs.Needs.{cached_of, contact_of, counts, given, spare_of, unused_of};
+ghost use Rattle.vb_policy.specs.Needs.{waits, yields};
 ghost use Rattle.vb_policy.specs.Settling.{most_of};
 ghost use Rattle.vb_policy.specs.Tiers.{before, through};
 
@@ -100,4 +105,25 @@ pub fn decisions_rest()
     ensures { (host : Host) (guests : List Guest) (d e : Decision) (targets set : List ℕ) →
         Decides host guests d targets → Decides host (with_targets guests targets) e set →
         set ≡ targets }
+{}
+
+/// Its least pages stay to each guest, or all where it has fewer, also while the first that waits
+/// on a short host is served.
+pub fn least_pages_stay()
+    ensures usual { (b : Budget) (g : Figures) →
+        spare_of b g + min g.least (counts g) ≤ counts g }
+    ensures first { (b : Budget) (g : Figures) → yields b g + min g.least (counts g) ≤ counts g }
+{}
+
+/// A silent guest, and one that has just taken pages by itself, gives no more than is in its
+/// balloon, unless it waits; and a pressed one no more of its unused memory and its page cache.
+pub fn no_more_is_given()
+    ensures silent { (b : Budget) (g : Figures) → waits g ≡ false →
+        contact_of g.contact ≡ Silent → spare_of b g ≤ given g }
+    ensures paused { (b : Budget) (g : Figures) → waits g ≡ false → 0 < g.paused →
+        spare_of b g ≤ given g }
+    ensures unused { (b : Budget) (g : Figures) → waits g ≡ false → 0 < g.pressed →
+        unused_of b g ≤ given g }
+    ensures cached { (b : Budget) (g : Figures) → waits g ≡ false → 0 < g.pressed →
+        cached_of b g ≤ given g }
 {}

@@ -18,7 +18,7 @@ pub use decision::decide;
 pub use figures::{Budget, Contact, Figures};
 pub use guest::{Decision, Division, Guest, Host, Tier};
 pub use laws::{
-    decisions_rest, no_more_than_asked, nobody_waits_in_vain, order_of_guests_is_free,
-    parts_are_fair, parts_are_monotone, targets_are_enough, targets_are_possible,
-    tiers_are_in_order,
+    decisions_rest, least_pages_stay, no_more_is_given, no_more_than_asked, nobody_waits_in_vain,
+    order_of_guests_is_free, parts_are_fair, parts_are_monotone, targets_are_enough,
+    targets_are_possible, tiers_are_in_order,
 };
