@@ -73,8 +73,9 @@ HOST = {
         is_count,
         "guests budget overdraft floor held lent missing overdrawn waiting silent uncooperative",
     ),
-    **fields(Maybe(is_count), "patience"),
+    **fields(Maybe(is_count), "patience reserve"),
     "short": Maybe(is_flag),
+    "tier": Maybe(is_text),
     **fields(Maybe(is_text_or_null), "on_short gives_first"),
     "counters": {
         **fields(is_count, "looks above peak decisions changed shorts admitted refused dropped"),
@@ -102,6 +103,7 @@ GUEST = {
         "strict": is_flag,
         "limit": is_text_or_null,
         **fields(Maybe(is_limit), "user memory start"),
+        "weight": Maybe(is_count),
     },
     "counters": fields(
         is_count, "inflated deflated reported taken granted clients lost limit_failures"
@@ -109,6 +111,7 @@ GUEST = {
 }
 DECISION = {
     **fields(is_count, "number budget missing"),
+    "tier": Maybe(is_text),
     **fields(is_text, "reason guest"),
     "shares": [{"guest": is_text, **fields(is_count, "old target")}],
 }

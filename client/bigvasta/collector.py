@@ -96,6 +96,10 @@ GUEST_TOTALS = (
     ("limit_failures", "limit_failures", "Times that the guest's limit couldn't be written"),
 )
 
+# Up to which tier guests give: none, unused memory, page cache, their reserves; and where that isn't
+# enough.
+TIERS = ("none", "unused", "cache", "reserve", "short")
+
 PREFIX = "bigvasta"
 
 
@@ -136,6 +140,9 @@ def host_metrics(host):
     )
     for name, field, what in HOST_COUNTS:
         yield gauge(name, what, [([], host[field])])
+    if "tier" in host:
+        tiers = [([it], float(it == host["tier"])) for it in TIERS]
+        yield gauge("tier", "Up to which tier guests give memory", tiers, "tier")
     for name, field, what in HOST_TOTALS:
         if field in host["counters"]:
             yield counter(name, what, [([], host["counters"][field])])

@@ -71,8 +71,9 @@ def host_lines(host, guests, width, shown):
         f"{mebibytes(promised)}"
     )
     missing = f"  missing {mebibytes(host['missing'])}" if host["missing"] else ""
+    tier = f"  tier {host['tier']}" if "tier" in host else ""
     kind = "warning" if held > budget or host["missing"] else "head"
-    yield Line(f"{head}{missing} MiB"[:width], kind)
+    yield Line(f"{head}{missing} MiB{tier}"[:width], kind)
     parts = (held / scale, 0, max(lent - held, 0) / scale)
     yield Line("[" + bar(parts, budget / scale, width - 2, shown.blocks) + "]", kind)
 

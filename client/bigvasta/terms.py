@@ -18,6 +18,13 @@ def priority(text, name):
     return int(text)
 
 
+def weight(text, name):
+    """Returns a weight."""
+    if not (text.isascii() and text.isdecimal()) or not 0 < int(text) <= MOST_PRIORITY:
+        raise Usage(f"{name}: {text!r} is no whole number from 1 to {MOST_PRIORITY}")
+    return int(text)
+
+
 def boolean(text, name):
     """Returns whether a word says yes."""
     if text not in ("yes", "no"):
@@ -42,6 +49,7 @@ TERMS = {
     "least": parse_size,
     "most": limit,
     "priority": priority,
+    "weight": weight,
     "strict": boolean,
     "overhead": parse_size,
     "limit": kernel_limit,
@@ -50,7 +58,7 @@ TERMS = {
     "start": limit,
 }
 TERMS_HELP = (
-    "least=SIZE most=SIZE|none priority=N strict=yes|no overhead=SIZE "
+    "least=SIZE most=SIZE|none priority=N weight=N strict=yes|no overhead=SIZE "
     "limit=cgroup:PATH|tmpfs:MOUNT|none user=USER|none memory=SIZE|none "
     "start=SIZE|none"
 )

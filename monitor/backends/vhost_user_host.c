@@ -15,6 +15,7 @@
  *
  *     add NAME [TERMS]    a guest may come to the socket FOLDER/NAME, and again once it has gone
  *     terms NAME TERMS    its terms are these from now on: least=MIB, most=MIB, priority=NUMBER,
+ *                         weight=NUMBER,
  *                         strict=0 or 1, overhead=MIB, limit=cgroup:PATH or limit=tmpfs:MOUNT,
  *                         user=NAME or NUMBER, memory=MIB, start=MIB
  *     remove NAME         its service ends
@@ -42,6 +43,8 @@
  * and the guests; SIGHUP has it read anew. --log-level: error, warning, notice, info (as it is) or
  * debug.
  *
+ * --reserve: percent of its pages that each guest keeps of its page cache as long as others have
+ * any (5).
  * --overdraft: pages above the budget that are lent where all guests wait for each other (0).
  * --on-short: a command that is run with two words, the guest of the lowest priority and the MiB
  * that are missing, once the guests couldn't give that for --patience seconds (10).
@@ -68,6 +71,7 @@
 enum {
     PERIOD = 200,
     FLOOR_MIB = 12,
+    RESERVE = 5, /* percent */
     STEP = 8,
     PATIENCE = 10,
     COST = 2000,
@@ -93,6 +97,11 @@ static bool read_number_of(const char *word, void *at)
     bool read = read_number(word, 10, UINT32_MAX, &number);
     *(uint32_t *)at = read ? (uint32_t)number : *(uint32_t *)at;
     return read;
+}
+
+static bool read_percent(const char *word, void *at)
+{
+    return !word_read(WORD_PERCENT, word, at);
 }
 
 static bool read_period(const char *word, void *at)
@@ -123,14 +132,16 @@ static void take_config(struct host *host, const struct config *config)
         host->patience = config->patience != UINT32_MAX ? config->patience : PATIENCE;
     if (!host->on_short && config->on_short[0])
         host->on_short = config->on_short;
+    if (host->reserve == UINT32_MAX)
+        host->reserve = config->reserve != UINT32_MAX ? config->reserve : RESERVE;
     if (host->period == 0)
         host->period = config->fixed.period > 0 ? config->fixed.period : PERIOD;
 }
 
 static const char help[] =
     "vhost_user_host FOLDER --budget MIB [--floor MIB] [--period MS] [--step N] "
-    "[--overdraft PAGES] [--patience SECONDS] [--on-short PATH] [--cost MS] [--strict] "
-    "[--strict-pages] [--events] "
+    "[--reserve PERCENT] [--overdraft PAGES] [--patience SECONDS] [--on-short PATH] [--cost MS] "
+    "[--strict] [--strict-pages] [--events] "
     "[--features HEX] [--lines N] [--program PATH] [--no-sandbox] [--end-with-lender] [--leave]\n"
     "                [--config FILE] [--control PATH] [--control-mode OCTAL] [--control-group "
     "NAME] [--status PATH] [--status-mode OCTAL] "
@@ -143,6 +154,7 @@ static enum command_line read_words(struct host *host, struct service *service, 
         {"budget", .read = read_mebibytes, .at = &host->frames},
         {"floor", .read = read_mebibytes, .at = &host->floor},
         {"step", .read = read_number_of, .at = &host->step},
+        {"reserve", .read = read_percent, .at = &host->reserve},
         {"overdraft", .read = read_number_of, .at = &host->lends.overdraft},
         {"patience", .read = read_patience, .at = &host->patience},
         {"on-short", .read = read_word, .at = &host->on_short},
@@ -164,7 +176,7 @@ static enum command_line read_words(struct host *host, struct service *service, 
     host->features = USUAL_FEATURES;
     host->step = STEP;
     host->cost = COST;
-    host->floor = host->lends.overdraft = UINT32_MAX;
+    host->floor = host->reserve = host->lends.overdraft = UINT32_MAX;
     service_defaults(service);
     enum command_line line = options_read(count, words, rows, &host->folder);
     take_config(host, &service->config);

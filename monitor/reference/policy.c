@@ -174,7 +174,7 @@ static void divide(struct level *level, Sum lack)
         level->tier++;
     level->priority = first_class(*level, lack);
     level->kept = 0;
-    for (int bit = 62; bit >= 0; bit--) {
+    for (int bit = 44; bit >= 0; bit--) {
         struct level higher = *level;
         higher.kept += (Sum)1 << bit;
         if (all_fair(&higher) >= lack)

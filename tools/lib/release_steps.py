@@ -19,6 +19,7 @@ LINKED = "$(pkg-config --cflags --libs vb)"
 EXAMPLE = "/usr/share/doc/libvb-dev/examples/example.c"
 HEADER = (
     "printf '#include <balloon.h>\\n#include <vb_host.h>\\n#include <vb_lending.h>\\n"
+    "#include <vb_policy.h>\\n"
     "int main(void) { return 0; }\\n'"
 )
 

@@ -21,6 +21,7 @@ def describe(guest):
     yield f"  {'least':<10} {mebibytes(terms['least']):>8} MiB"
     yield f"  {'most':<10} {most:>12}"
     yield f"  {'priority':<10} {terms['priority']:>8}"
+    yield f"  {'weight':<10} {terms.get('weight', 1):>8}"
     yield f"  {'strict':<10} {'yes' if terms['strict'] else 'no':>8}"
     yield f"  {'overhead':<10} {mebibytes(terms['overhead']):>8} MiB"
     if terms["limit"]:

@@ -19,10 +19,11 @@ def decision_line(decision):
     """Returns the line of a decision: why it was taken, and the targets in MiB."""
     why = decision["reason"] + (f" of {decision['guest']}" if decision["guest"] else "")
     short = f", {mebibytes(decision['missing'])} missing" if decision["missing"] else ""
+    tier = f", tier {decision['tier']}" if "tier" in decision else ""
     targets = ", ".join(map(share, decision["shares"])) or "no guests"
     return (
-        f"decision {decision['number']}: {why}; budget {mebibytes(decision['budget'])}{short}; "
-        f"targets: {targets}"
+        f"decision {decision['number']}: {why}; budget {mebibytes(decision['budget'])}{short}"
+        f"{tier}; targets: {targets}"
     )
 
 

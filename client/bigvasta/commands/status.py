@@ -36,7 +36,8 @@ def summary(host):
     counts = [f"{host['guests']} guests"] + [
         f"{host[it]} {it}" for it in ("waiting", "silent", "uncooperative") if host[it]
     ]
-    return f"{', '.join(parts)} MiB; {', '.join(counts)}; version {host['version']}"
+    tier = f"tier {host['tier']}; " if "tier" in host else ""
+    return f"{', '.join(parts)} MiB; {tier}{', '.join(counts)}; version {host['version']}"
 
 
 def others(host, guests):

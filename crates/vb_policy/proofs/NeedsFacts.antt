@@ -128,7 +128,7 @@ decided_on : guest_of (budget 0)
     }
 decided_on = refl
 
--- ---- while the first waits: a quarter of the floor stays, and what those behind it were lent
+-- ---- while the first waits: a quarter of the floor stays, and what the others that wait were lent
 
 yielded : map (yields (budget 0)) (known ∷ waiting ∷ record waiting { first = 0 }
     ∷ record waiting { first = 0; least = 500 } ∷ []) ≡ 475 ∷ 0 ∷ 600 ∷ 500 ∷ []

@@ -1,7 +1,8 @@
 //! What holds of every decision.
 
 ghost use Rattle.std.specs.Prelude.{◌≡◌, ◌⊎◌, ℕ, ◌+◌, ◌*◌, ◌<◌, ◌≤◌, List, Contains, length, map};
-ghost use Rattle.std.specs.Prelude.{IsPermutation, false, min, slice_get, slice_index, sum, sum_by, true, Some};
+ghost use Rattle.std.specs.Prelude.{IsPermutation, slice_get, slice_index, sum, sum_by, true, Some};
+ghost use Rattle.std.specs.Prelude.{false, min};
 ghost use Rattle.vb_policy.specs.declared.guest.Decision.{Decision};
 ghost use Rattle.vb_policy.specs.declared.guest.Decision.TheVariants.{Enough};
 ghost use Rattle.vb_policy.specs.declared.guest.Division.{Division};

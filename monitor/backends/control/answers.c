@@ -29,11 +29,11 @@ static json_t *answer_terms(const struct guest_terms *terms)
     char words[MOST_LIMIT_WORDS];
     const char *its = terms->limit.kind == LIMIT_NONE ? NULL : limit_words(&terms->limit, words);
     json_t *user = terms->user == ANY_USER ? json_null() : count(terms->user);
-    return json_pack("{s:o, s:o, s:o, s:b, s:o, s:s?, s:o, s:o, s:o}", "least",
+    return json_pack("{s:o, s:o, s:o, s:o, s:b, s:o, s:s?, s:o, s:o, s:o}", "least",
                      part_bytes(terms->least), "most", limit(terms->most), "priority",
-                     count(terms->priority), "strict", terms->strict, "overhead",
-                     part_bytes(terms->overhead), "limit", its, "user", user, "memory",
-                     limit(terms->memory), "start", limit(terms->start));
+                     count(terms->priority), "weight", count(terms->weight), "strict",
+                     terms->strict, "overhead", part_bytes(terms->overhead), "limit", its, "user",
+                     user, "memory", limit(terms->memory), "start", limit(terms->start));
 }
 
 static json_t *answer_guest_counters(const struct guest_view *guest)
@@ -132,21 +132,22 @@ json_t *answer_host(const struct control *control, const struct host *host)
 {
     struct host_view view;
     host_see(host, &view);
-    return json_pack(
-        "{s:s, s:s, s:i, s:o, s:o, s:o, s:o, s:o, s:o, s:o, s:o, s:i, s:i, s:i, s:b, s:f, "
-        "s:i, s:s?, s:b, s:s?, s:o, s:o, s:o, s:o}",
-        "version", VB_VERSION, "folder", view.folder, "guests", (int)view.guests, "budget",
-        part_bytes(view.budget), "overdraft", part_bytes(view.overdraft), "floor",
-        part_bytes(view.floor), "step", count(view.step), "held", kibibytes(view.held_kib), "lent",
-        part_bytes(view.lent), "missing", part_bytes(view.short_by), "overdrawn",
-        part_bytes(view.overdrawn), "waiting", (int)view.waiting, "silent", (int)view.silent,
-        "uncooperative", (int)view.uncooperative, "strict", view.strict, "period",
-        (double)view.period / 1000, "patience", (int)view.patience, "on_short", view.on_short,
-        "short", view.is_short, "gives_first", view.gives_first, "counters",
-        answer_host_counters(&view), "control",
-        answer_control_counters(&control->sockets[MAY_CHANGE].counters), "status",
-        answer_control_counters(&control->sockets[MAY_LOOK].counters), "measures",
-        answer_measures());
+    return json_pack("{s:s, s:s, s:i, s:o, s:o, s:o, s:o, s:s, s:o, s:o, s:o, s:o, s:o, s:i, s:i, "
+                     "s:i, s:b, s:f, "
+                     "s:i, s:s?, s:b, s:s?, s:o, s:o, s:o, s:o}",
+                     "version", VB_VERSION, "folder", view.folder, "guests", (int)view.guests,
+                     "budget", part_bytes(view.budget), "overdraft", part_bytes(view.overdraft),
+                     "floor", part_bytes(view.floor), "reserve", count(view.reserve), "tier",
+                     view.tier, "step", count(view.step), "held", kibibytes(view.held_kib), "lent",
+                     part_bytes(view.lent), "missing", part_bytes(view.short_by), "overdrawn",
+                     part_bytes(view.overdrawn), "waiting", (int)view.waiting, "silent",
+                     (int)view.silent, "uncooperative", (int)view.uncooperative, "strict",
+                     view.strict, "period", (double)view.period / 1000, "patience",
+                     (int)view.patience, "on_short", view.on_short, "short", view.is_short,
+                     "gives_first", view.gives_first, "counters", answer_host_counters(&view),
+                     "control", answer_control_counters(&control->sockets[MAY_CHANGE].counters),
+                     "status", answer_control_counters(&control->sockets[MAY_LOOK].counters),
+                     "measures", answer_measures());
 }
 
 json_t *answer_log(const struct host *host, uint64_t since, uint64_t limit)

@@ -71,6 +71,8 @@ static struct guest_terms terms_of(const json_t *fields, struct guest_terms term
         terms.most = field_pages(fields, "most");
     if (field_is_there(fields, "priority"))
         terms.priority = (uint32_t)field_number(fields, "priority");
+    if (field_is_there(fields, "weight"))
+        terms.weight = (uint32_t)field_number(fields, "weight");
     if (field_is_there(fields, "strict"))
         terms.strict = field_number(fields, "strict");
     if (field_is_there(fields, "overhead"))
@@ -89,7 +91,7 @@ static struct guest_terms terms_of(const json_t *fields, struct guest_terms term
 static bool changes_terms(const json_t *fields)
 {
     static const char *const names[] = {"least", "most", "priority", "strict", "overhead",
-                                        "limit", "user", "memory",   "start"};
+                                        "limit", "user", "memory",   "start",  "weight"};
     for (unsigned i = 0; i < sizeof names / sizeof names[0]; i++)
         if (field_is_there(fields, names[i]))
             return true;
@@ -210,6 +212,7 @@ static json_t *follow(const struct asked *asked)
     {"least", FIELD_BYTES, .effect = CHANGES}, {"most", FIELD_LIMIT, .effect = CHANGES}, \
     {"strict", FIELD_BOOLEAN, .effect = CHANGES}, \
     {"priority", FIELD_NUMBER, .effect = CHANGES, .least = 0, .most = UINT32_MAX}, \
+    {"weight", FIELD_NUMBER, .effect = CHANGES, .least = 1, .most = UINT32_MAX}, \
     {"overhead", FIELD_BYTES, .effect = CHANGES}, \
     {"limit", FIELD_KERNEL_LIMIT, .effect = CHANGES}, {"user", FIELD_USER, .effect = CHANGES}, \
     {"memory", FIELD_LIMIT, .effect = CHANGES}, {"start", FIELD_LIMIT, .effect = CHANGES}

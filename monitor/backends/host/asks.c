@@ -69,7 +69,7 @@ void ask_note(struct seat *seat)
     if (now.what != WAITS_FOR_NOTHING && !is_same(now, seat->ask)) {
         seat->ask = now;
         seat->asks++;
-        host_changed(seat->host, BY_GUESTS);
+        seat->host->news = true;
     }
     if (!target_is_received(seat))
         seat->received_at = 0;

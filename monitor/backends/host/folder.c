@@ -19,7 +19,7 @@ static const char lock_mark[] = ".";
 /* How what is kept of a guest begins, and how many numbers follow. 0.3.0 kept its overhead and its
  * limit alone. */
 static const char terms_word[] = "terms ";
-enum { KEPT_NUMBERS = 9 };
+enum { KEPT_NUMBERS = 10 };
 
 void remove_socket(const char *path)
 {
@@ -108,9 +108,9 @@ static void name_kept(const struct host *host, const char *name, const char *mar
 const char *folder_keep(struct seat *seat, const struct guest_terms *terms)
 {
     char path[MOST_KEPT], part[MOST_KEPT], words[MOST_LIMIT_WORDS], text[MOST_KEPT];
-    const uint32_t numbers[KEPT_NUMBERS] = {terms->least,  terms->most,     terms->priority,
-                                            terms->strict, terms->overhead, terms->user,
-                                            terms->memory, terms->start,    seat_pages(seat)};
+    const uint32_t numbers[KEPT_NUMBERS] = {
+        terms->least, terms->most,   terms->priority, terms->strict, terms->overhead,
+        terms->user,  terms->memory, terms->start,    terms->weight, seat_pages(seat)};
     int length = snprintf(text, sizeof text, "%s", terms_word);
     for (unsigned i = 0; i < KEPT_NUMBERS; i++)
         length += snprintf(text + length, sizeof text - (size_t)length, "%" PRIu32 " ", numbers[i]);
@@ -159,11 +159,11 @@ static char *take_numbers(char *words, unsigned count, uint64_t numbers[])
 static bool recall(const struct host *host, const char *name, struct guest_terms *terms,
                    uint32_t *pages)
 {
-    enum { OVERHEAD = 4, USER, MEMORY, START, PAGES };
+    enum { OVERHEAD = 4, USER, MEMORY, START, WEIGHT, PAGES };
     char path[MOST_KEPT], text[MOST_KEPT];
-    uint64_t numbers[KEPT_NUMBERS] = {terms->least,  terms->most,     terms->priority,
-                                      terms->strict, terms->overhead, terms->user,
-                                      terms->memory, terms->start,    *pages};
+    uint64_t numbers[KEPT_NUMBERS] = {terms->least,    terms->most, terms->priority, terms->strict,
+                                      terms->overhead, terms->user, terms->memory,   terms->start,
+                                      terms->weight,   *pages};
     struct guest_limit limit;
     name_kept(host, name, "=", path);
     ssize_t length = readlink(path, text, sizeof text - 1);
@@ -181,7 +181,8 @@ static bool recall(const struct host *host, const char *name, struct guest_terms
                                   .limit = limit,
                                   .user = (uint32_t)numbers[USER],
                                   .memory = (uint32_t)numbers[MEMORY],
-                                  .start = (uint32_t)numbers[START]};
+                                  .start = (uint32_t)numbers[START],
+                                  .weight = (uint32_t)numbers[WEIGHT]};
     *pages = (uint32_t)numbers[PAGES];
     return all;
 }

@@ -7,7 +7,7 @@
 
 #include "journal.h"
 #include "vb_host.h"
-#include "vb_lending.h"
+#include "vb_policy.h"
 #include "view.h"
 
 #include "../guest/process.h"
@@ -90,7 +90,7 @@ struct seat {
     /* What was made of it. */
     uint32_t kept_pages; /* as the folder has them */
     uint32_t free, available, ballooned_then;
-    bool known, tells_available;
+    bool known, tells_free, tells_available;
     unsigned silent;        /* questions for statistics since its last ones */
     struct stillness still; /* as it was when it last changed, and when that was */
     int64_t moved_at;
@@ -100,6 +100,7 @@ struct seat {
     int64_t paused_until;  /* it has taken pages itself: until then it is asked for no more than it
                               has given */
     uint32_t target;       /* what was decided; what is wanted so far is in its VbSeat */
+    uint32_t by_hand;      /* what an operator wants in its balloon until all is decided anew */
     int64_t waits_since;
     struct ended_wait ended; /* the last of its waits that ended, also those of clients before */
     bool wait_named;         /* it was said that its wait is long */
@@ -200,7 +201,9 @@ struct host {
     /* seats that were taken away, whose processes haven't ended yet */
     struct seat *leaving[MOST_GUESTS];
     unsigned leaving_count;
-    uint32_t frames, floor; /* pages: the budget, and what each guest is to keep free */
+    uint32_t frames, floor; /* pages: the budget, and what each guest is to keep available */
+    uint32_t reserve;       /* percent of its pages: the page cache that each guest keeps as long as
+                               others have any */
     uint32_t step;          /* a target grows by 1/step of the guest in a second; 0: at once */
     int64_t period;         /* milliseconds */
     uint32_t cost;          /* of a client to its seat, in milliseconds; 0: clients cost nothing */
@@ -222,8 +225,9 @@ struct host {
     bool anew;             /* the guests, the budget or the floor have changed */
     enum reason reason;    /* which of them */
     bool news;             /* what the guests can spare may have changed */
-    uint64_t missing;      /* as the last decision had it */
-    uint64_t looks_asked;  /* the number of the last order to look */
+    uint64_t missing;      /* as the last decision had it, and up to which tier guests give */
+    uint32_t tier;
+    uint64_t looks_asked; /* the number of the last order to look */
     struct host_counters counters;
     /* the last ones: decision n has its place at n % MOST_DECISIONS */
     struct decision log[MOST_DECISIONS];

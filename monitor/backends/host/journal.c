@@ -17,6 +17,16 @@ const char *reason_word(enum reason reason)
     return words[reason];
 }
 
+const char *tier_word(uint32_t tier)
+{
+    static const char *const words[] = {[VB_TIER_NONE] = "none",
+                                        [VB_TIER_UNUSED] = "unused",
+                                        [VB_TIER_CACHE] = "cache",
+                                        [VB_TIER_RESERVE] = "reserve",
+                                        [VB_TIER_SHORT] = "short"};
+    return words[tier];
+}
+
 uint64_t journal_begin(const struct host *host)
 {
     uint64_t end = host->counters.decisions;
@@ -42,15 +52,16 @@ static void print_decision(FILE *to, const struct decision *decision)
 {
     fprintf(to, "ms %" PRId64 " frames %" PRIu32 " floor %" PRIu32 " short %" PRIu64, decision->at,
             decision->frames, decision->floor, decision->missing);
-    fprintf(to, " why %s %s", reason_word(decision->reason),
+    fprintf(to, " tier %s why %s %s", tier_word(decision->tier), reason_word(decision->reason),
             decision->reason == BY_SPARE ? decision->who : "-");
     for (unsigned i = 0; i < decision->count; i++) {
         const struct share *share = &decision->shares[i];
         fprintf(to,
-                " | %s pages %" PRIu32 " spare %" PRIu32 " most %" PRIu32 " old %" PRIu32
-                " target %" PRIu32 " ballooned %" PRIu32 " by %s",
-                share->name, share->need.pages, share->need.spare, share->most, share->old,
-                share->target, share->ballooned, bound_word(share->bound));
+                " | %s pages %" PRIu32 " unused %" PRIu32 " cached %" PRIu32 " spare %" PRIu32
+                " most %" PRIu32 " old %" PRIu32 " target %" PRIu32 " ballooned %" PRIu32 " by %s",
+                share->name, share->tiers.pages, share->tiers.unused, share->tiers.cached,
+                share->tiers.spare, share->tiers.most, share->old, share->target, share->ballooned,
+                bound_word(share->bound));
     }
     fputc('\n', to);
 }

@@ -1,7 +1,7 @@
 /* What was decided, and why: the last decisions are kept. */
 #ifndef JOURNAL_H
 #define JOURNAL_H
-#include "vb_lending.h"
+#include "vb_policy.h"
 
 struct host;
 
@@ -18,15 +18,15 @@ enum bound { BY_STATISTICS, BY_SILENCE, BY_PAUSE, BY_LOAN };
 
 struct share {
     char name[MOST_NAME];
-    VbNeed need;
+    VbTiers tiers;
     enum bound bound;
-    uint32_t most, ballooned, old, target;
+    uint32_t ballooned, old, target;
 };
 
 struct decision {
-    int64_t at; /* by the monotonic clock, in milliseconds */
-    uint32_t frames, floor;
-    uint64_t missing; /* 0, or by how much the guests fall short */
+    int64_t at;                   /* by the monotonic clock, in milliseconds */
+    uint32_t frames, floor, tier; /* tier: up to which guests give, VB_TIER_NONE .. */
+    uint64_t missing;             /* 0, or by how much the guests fall short */
     enum reason reason;
     char who[MOST_NAME]; /* BY_SPARE: who is asked for more than it can spare */
     unsigned count;
@@ -34,6 +34,9 @@ struct decision {
 };
 
 const char *reason_word(enum reason reason);
+
+/* The word for a tier. */
+const char *tier_word(uint32_t tier);
 
 /* Keeps a decision. */
 void journal_add(struct host *host, const struct decision *decision);

@@ -35,8 +35,10 @@ static void print_seat(const struct seat *seat)
             seat->terms.priority, seat_reports(seat), (int)seat->serving, seat_lent(seat),
             guest_wait_word(seat_waits_for(seat)));
     fprintf(to,
-            " overhead %" PRIu32 " limit %" PRIu64 " limit_failures %" PRIu64 " cooperates %d\n",
-            seat->terms.overhead, seat->writer.written, seat->writer.failures, seat->cooperates);
+            " overhead %" PRIu32 " limit %" PRIu64 " limit_failures %" PRIu64 " cooperates %d"
+            " weight %" PRIu32 "\n",
+            seat->terms.overhead, seat->writer.written, seat->writer.failures, seat->cooperates,
+            seat->terms.weight);
 }
 
 static void print_guests(const struct host *host)
@@ -58,9 +60,9 @@ static void print_counters(const struct host *host)
             it->looks, it->above, it->peak, it->decisions, it->changed);
     fprintf(to,
             " shorts %" PRIu64 " admitted %" PRIu64 " refused %" PRIu64 " gone %" PRIu64
-            " dropped %" PRIu64 " lent %" PRIu64 " grants %" PRIu64 "\n",
+            " dropped %" PRIu64 " lent %" PRIu64 " grants %" PRIu64 " tier %s\n",
             it->shorts, it->admitted, it->refused, it->gone, lines_dropped, places_owed(host),
-            it->grants);
+            it->grants, tier_word(host->tier));
 }
 
 /* Reads a number of MiB as pages. */
@@ -81,9 +83,10 @@ static void set_pages(struct host *host, const char *word,
     fprintf(out(host), fault ? "error: %s\n" : "ok\n", fault);
 }
 
-static const char no_terms[] = "a name, and of least=MIB, most=MIB, priority=NUMBER, strict=0 or "
-                               "1, overhead=MIB, limit=cgroup:PATH or tmpfs:MOUNT, user=NAME, "
-                               "memory=MIB, start=MIB what is wanted";
+static const char no_terms[] =
+    "a name, and of least=MIB, most=MIB, priority=NUMBER, weight=NUMBER "
+    "from 1 on, strict=0 or 1, overhead=MIB, limit=cgroup:PATH or tmpfs:MOUNT, user=NAME, "
+    "memory=MIB, start=MIB what is wanted";
 
 /* Reads one of the words of a guest's terms; NULL, or why it is none. */
 static const char *read_term(struct guest_terms *terms, const char *word)
@@ -106,6 +109,8 @@ static const char *read_term(struct guest_terms *terms, const char *word)
         return owner_read(word + 5, &terms->user);
     if (!strncmp(word, "priority=", 9) && read_number(word + 9, 10, UINT32_MAX, &number))
         return terms->priority = (uint32_t)number, NULL;
+    if (!strncmp(word, "weight=", 7) && read_number(word + 7, 10, UINT32_MAX, &number) && number)
+        return terms->weight = (uint32_t)number, NULL;
     if (!strncmp(word, "strict=", 7) && read_number(word + 7, 10, 1, &number))
         return terms->strict = number != 0, NULL;
     return no_terms;

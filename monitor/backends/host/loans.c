@@ -6,19 +6,6 @@
 
 enum { LONG_WAIT = 10000 }; /* milliseconds */
 
-VbLoan loan_of(const struct seat *seat)
-{
-    static const VbSeat none;
-    const VbSeat *its = place_of(seat),
-                 *added = seat->added == NO_PLACE ? &none : &seat->host->places[seat->added];
-    return (VbLoan){.pages = its->pages + added->pages,
-                    .ballooned = (its->uncounted ? 0 : its->ballooned) + added->ballooned,
-                    .lent = seat_lent(seat),
-                    .asked = vb_seat_asked(its) + vb_seat_asked(added),
-                    .turn = its->turn > 0 ? its->turn : added->turn,
-                    .uncounted = its->uncounted != 0};
-}
-
 uint32_t loan_excess(const struct seat *seat)
 {
     uint32_t held = pages_held(seat), lent = seat_lent(seat);
@@ -62,7 +49,7 @@ static bool waits_in_vain(const struct seat *seat)
 {
     bool is_long =
         seat_waits_for(seat) != WAITS_FOR_NOTHING && loop_now() - seat->waits_since >= LONG_WAIT;
-    return is_long && seat->host->missing > 0 && loan_of(seat).asked > 0;
+    return is_long && seat->host->missing > 0 && seat_asked(seat) > 0;
 }
 
 /* It waits in vain: it is named, once for each wait. */
@@ -73,7 +60,7 @@ static void name_wait(struct seat *seat)
     seat->wait_named = true;
     complain("has waited %d seconds for %" PRIu32
              " pages (%s): all guests together can't give %" PRIu64 " of those that are missing",
-             LONG_WAIT / 1000, loan_of(seat).asked, guest_wait_word(seat_waits_for(seat)),
+             LONG_WAIT / 1000, seat_asked(seat), guest_wait_word(seat_waits_for(seat)),
              seat->host->missing);
 }
 

@@ -15,10 +15,20 @@ uint32_t seat_told(const struct seat *seat)
     return place_of(seat)->target_number > 0 ? place_of(seat)->target : 0;
 }
 
+const VbSeat *added_place_of(const struct seat *seat)
+{
+    static const VbSeat none;
+    return seat->added == NO_PLACE ? &none : &seat->host->places[seat->added];
+}
+
 uint32_t seat_lent(const struct seat *seat)
 {
-    uint32_t added = seat->added == NO_PLACE ? 0 : vb_seat_lent(&seat->host->places[seat->added]);
-    return vb_seat_lent(place_of(seat)) + added;
+    return vb_seat_lent(place_of(seat)) + vb_seat_lent(added_place_of(seat));
+}
+
+uint32_t seat_asked(const struct seat *seat)
+{
+    return vb_seat_asked(place_of(seat)) + vb_seat_asked(added_place_of(seat));
 }
 
 uint64_t places_owed(const struct host *host)
@@ -72,7 +82,7 @@ static void note_grant(struct seat *seat)
     host->counters.grants++;
     seat->granted_asks = place_of(seat)->granted;
     seat_repeat(seat);
-    host_changed(host, BY_GUESTS);
+    host->news = true;
 }
 
 /* Notes and sends what a step has made of a guest, which was lent `before` frames. */

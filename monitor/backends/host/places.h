@@ -14,6 +14,9 @@ static inline VbSeat *place_of(const struct seat *seat)
     return &seat->host->places[seat->place];
 }
 
+/* The place of memory that is added to it; zeros where none is. */
+const VbSeat *added_place_of(const struct seat *seat);
+
 /* ---- asks.c */
 
 /* For what its process asks, by its last report: a deflate that was granted, as long as it holds
@@ -75,17 +78,16 @@ void places_defer(struct host *host);
 uint32_t seat_pages(const struct seat *seat);
 uint32_t seat_told(const struct seat *seat);
 
-/* The frames that are lent to it, also of memory that is added; and to all together. */
+/* The frames that are lent to it, and those that it waits for, also of memory that is added; and
+ * what is lent to all together. */
 uint32_t seat_lent(const struct seat *seat);
+uint32_t seat_asked(const struct seat *seat);
 uint64_t places_owed(const struct host *host);
 
 /* Whether somebody waits. */
 bool places_wait(const struct host *host);
 
 /* ---- loans.c */
-
-/* What is lent to it, as the policy has it. */
-VbLoan loan_of(const struct seat *seat);
 
 /* Frames that it holds above its loan. */
 uint32_t loan_excess(const struct seat *seat);

@@ -118,6 +118,7 @@ static void adopt(struct seat *seat)
         seat->terms = (struct guest_terms){.least = report->terms.least,
                                            .most = report->terms.most,
                                            .priority = report->terms.priority,
+                                           .weight = seat->terms.weight,
                                            .strict = report->terms.strict != 0,
                                            .overhead = seat->terms.overhead,
                                            .limit = seat->terms.limit,

@@ -5,6 +5,7 @@
 struct guest_terms host_usual_terms(const struct host *host)
 {
     return (struct guest_terms){.most = UINT32_MAX,
+                                .weight = 1,
                                 .strict = host->strict,
                                 .overhead = USUAL_OVERHEAD,
                                 .user = ANY_USER,
@@ -65,6 +66,8 @@ void host_see(const struct host *host, struct host_view *view)
                                .floor = host->floor,
                                .step = host->step,
                                .held_kib = host_held(host),
+                               .reserve = host->reserve,
+                               .tier = tier_word(host->tier),
                                .short_by = host->missing,
                                .patience = host->patience,
                                .is_short = host->shortage.lasts,
@@ -131,7 +134,7 @@ void host_see_guest(const struct host *host, unsigned number, struct guest_view 
                                 .held_kib = report->held_kib,
                                 .loan = seat_lent(seat),
                                 .excess = loan_excess(seat),
-                                .asked = loan_of(seat).asked,
+                                .asked = seat_asked(seat),
                                 .granted = seat->granted,
                                 .limit = seat->writer.written,
                                 .limit_failures = seat->writer.failures,
@@ -195,6 +198,13 @@ const char *host_set_budget(struct host *host, uint32_t pages)
 const char *host_set_floor(struct host *host, uint32_t pages)
 {
     host->floor = pages;
+    host_changed(host, BY_BUDGET);
+    return NULL;
+}
+
+const char *host_set_reserve(struct host *host, uint32_t percent)
+{
+    host->reserve = percent;
     host_changed(host, BY_BUDGET);
     return NULL;
 }
@@ -266,6 +276,7 @@ const char *host_set_target(struct host *host, const char *name, uint32_t pages)
         return nobody;
     if (!seat_is_taken(seat))
         return "nobody is there";
+    seat->by_hand = pages;
     seat_set_target(seat, pages);
     return NULL;
 }

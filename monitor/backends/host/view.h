@@ -44,6 +44,7 @@ struct guest_terms {
     uint32_t most;  /* frames that it may hold at most, whatever the budget leaves; UINT32_MAX: all
                        it has */
     uint32_t priority; /* those of a lower one give first */
+    uint32_t weight;   /* its part of what needn't be given, from 1 on */
     bool strict;       /* its deflates and resets wait for their grant, and it waits for room as it
                    * comes */
     uint32_t overhead; /* frames that it may hold beside its loan: the VMM's own, and memory that
@@ -99,6 +100,8 @@ struct host_view {
     const char *folder;
     unsigned guests; /* how many seats there are, taken or not */
     uint32_t budget, overdraft, floor;
+    uint32_t reserve;        /* percent */
+    const char *tier;        /* up to which guests give: a word */
     uint32_t step;           /* a guest's pages divided by it, in a second */
     uint64_t held_kib, lent; /* lent: frames of all loans together */
     uint64_t short_by;       /* pages by which the guests can't give what is missing */
@@ -130,6 +133,7 @@ const char *host_set_budget(struct host *host, uint32_t pages);
 const char *host_set_floor(struct host *host, uint32_t pages);
 const char *host_set_overdraft(struct host *host, uint32_t pages);
 const char *host_set_patience(struct host *host, uint32_t seconds);
+const char *host_set_reserve(struct host *host, uint32_t percent);
 const char *host_add(struct host *host, const char *name, const struct guest_terms *terms);
 const char *host_remove(struct host *host, const char *name);
 const char *host_set_terms(struct host *host, const char *name, const struct guest_terms *terms);

@@ -41,6 +41,7 @@ static const struct key keys[] = {
     {"host", "folder", WORD_PATH, offsetof(struct config, fixed.folder)},
     {"host", "budget", WORD_SIZE, offsetof(struct config, budget)},
     {"host", "floor", WORD_SIZE_OR_NONE, offsetof(struct config, floor)},
+    {"host", "reserve", WORD_PERCENT, offsetof(struct config, reserve)},
     {"host", "overdraft", WORD_SIZE_OR_NONE, offsetof(struct config, overdraft)},
     {"host", "patience", WORD_SECONDS, offsetof(struct config, patience)},
     {"host", "on_short", WORD_PATH, offsetof(struct config, on_short)},
@@ -59,6 +60,7 @@ static const struct key guest_keys[] = {
     {"guest", "least", WORD_SIZE_OR_NONE, offsetof(struct config_guest, terms.least)},
     {"guest", "most", WORD_SIZE, offsetof(struct config_guest, terms.most)},
     {"guest", "priority", WORD_NUMBER, offsetof(struct config_guest, terms.priority)},
+    {"guest", "weight", WORD_WEIGHT, offsetof(struct config_guest, terms.weight)},
     {"guest", "strict", WORD_BOOLEAN, offsetof(struct config_guest, terms.strict)},
     {"guest", "overhead", WORD_SIZE_OR_NONE, offsetof(struct config_guest, terms.overhead)},
     {"guest", "limit", WORD_LIMIT, offsetof(struct config_guest, terms.limit)},
@@ -88,6 +90,7 @@ static struct config_guest *guest_of(struct reader *reader, const char *section)
         return fault(reader, section, "there are as many guests as can be"), NULL;
     struct config_guest *guest = &config->guests[config->count++];
     *guest = (struct config_guest){.terms = {.most = UINT32_MAX,
+                                             .weight = 1,
                                              .overhead = USUAL_OVERHEAD,
                                              .user = ANY_USER,
                                              .memory = UINT32_MAX,
@@ -226,6 +229,7 @@ struct config config_empty(void)
     return (struct config){
         .budget = UINT32_MAX,
         .floor = UINT32_MAX,
+        .reserve = UINT32_MAX,
         .overdraft = UINT32_MAX,
         .patience = UINT32_MAX,
         .lines = UINT32_MAX,

@@ -33,6 +33,7 @@ struct config {
     uint32_t budget, floor, overdraft; /* pages; UINT32_MAX: not said */
     uint32_t patience;                 /* seconds; UINT32_MAX: not said */
     char on_short[MOST_CONFIG_WORD];   /* a command; empty: not said */
+    uint32_t reserve;                  /* percent; UINT32_MAX: not said */
     uint32_t lines;                    /* lines of a guest's in a second; UINT32_MAX: not said */
     uint32_t level; /* the least severe lines that are said, as syslog(3) numbers them; UINT32_MAX:
                        not said */

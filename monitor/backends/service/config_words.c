@@ -104,6 +104,10 @@ const char *word_read(enum word_kind kind, const char *word, void *at)
         return read_size(word, 0, at) ? NULL : "a size: a number with M, G or T, under 16T";
     case WORD_NUMBER:
         return read_between(word, 0, UINT32_MAX - 1, at) ? NULL : "a number up to 4294967294";
+    case WORD_PERCENT:
+        return read_between(word, 0, 100, at) ? NULL : "percent, from 0 to 100";
+    case WORD_WEIGHT:
+        return read_between(word, 1, UINT32_MAX - 1, at) ? NULL : "a number from 1 to 4294967294";
     case WORD_MILLISECONDS:
         return read_between(word, LEAST_PERIOD, MOST_PERIOD, at)
                    ? NULL

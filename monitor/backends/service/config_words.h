@@ -14,6 +14,8 @@ enum word_kind {
     WORD_SIZE,
     WORD_SIZE_OR_NONE,
     WORD_NUMBER,
+    WORD_PERCENT,
+    WORD_WEIGHT,
     WORD_MILLISECONDS,
     WORD_SECONDS,
     WORD_MODE,

@@ -154,6 +154,8 @@ static void set_sizes(const char *file, struct host *host, const struct config *
         host_set_patience(host, config->patience);
     if (config->on_short[0])
         host->on_short = config->on_short;
+    if (config->reserve != UINT32_MAX)
+        host_set_reserve(host, config->reserve);
     if (fault)
         say_fault("%s: %s", file, fault);
 }

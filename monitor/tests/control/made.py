@@ -127,17 +127,23 @@ class Made:
         """Returns a decision about two guests."""
         shares = [
             self.struct(
-                "host/journal.h", "share", name=f"guest-{it}", bound="BY_LOAN", need=self.need()
+                "host/journal.h", "share", name=f"guest-{it}", bound="BY_LOAN", tiers=self.tiers()
             )
             for it in range(2)
         ]
         return self.struct(
-            "host/journal.h", "decision", reason=reason, who="guest-1", count=2, shares=shares
+            "host/journal.h",
+            "decision",
+            reason=reason,
+            tier="VB_TIER_CACHE",
+            who="guest-1",
+            count=2,
+            shares=shares,
         )
 
-    def need(self):
-        """Returns what a guest has and can spare (vb_lending.h)."""
-        return {"pages": self.value("uint32_t", ""), "spare": self.value("uint32_t", "")}
+    def tiers(self):
+        """Returns what a guest has and can give (vb_policy.h)."""
+        return {it: self.value("uint32_t", "") for it in ("pages", "spare")}
 
 
 def written(value):
@@ -160,8 +166,8 @@ class MadeHost:
     def __init__(self):
         made = Made()
         self.hosts = [
-            made.struct("host/view.h", "host_view", guests=GUESTS, strict=True)
-            for _ in range(PHASES)
+            made.struct("host/view.h", "host_view", guests=GUESTS, strict=True, tier=it)
+            for it in ("cache", "short")
         ]
         self.hosts[1]["decisions"] = self.hosts[0]["decisions"] + 1
         self.guests = [[made.guest(it, phase) for it in range(GUESTS)] for phase in range(PHASES)]

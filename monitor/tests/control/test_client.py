@@ -33,7 +33,7 @@ def test_version(host):
 # Words, the status, and how what is said begins: on standard output, and on standard error.
 NO_USER = "a user of this machine, a user's number, or none"
 COMMANDS = (
-    ("status", 0, "budget 480, held 0, lent 0, missing 0 MiB; 0 guests; version ", ""),
+    ("status", 0, "budget 480, held 0, lent 0, missing 0 MiB; tier none; 0 guests; version ", ""),
     ("add web-1", 0, "{folder}/web-1\n", ""),
     ("add web-1", 1, "", "bigvasta: name: a guest is named web-1 already\n"),
     ("add web.1", 1, "", "bigvasta: a name has 1 to 31 letters"),
@@ -46,8 +46,8 @@ COMMANDS = (
         2,
         "",
         (
-            "bigvasta: 'target' is none of least=, most=, priority=, strict=, overhead=, limit=, "
-            "user=, memory=, start=, target=\n"
+            "bigvasta: 'target' is none of least=, most=, priority=, weight=, strict=, overhead=, "
+            "limit=, user=, memory=, start=, target=\n"
         ),
     ),
     (
@@ -55,8 +55,8 @@ COMMANDS = (
         2,
         "",
         (
-            "bigvasta: 'size=4M' is none of least=, most=, priority=, strict=, overhead=, limit=, "
-            "user=, memory=, start=, target=\n"
+            "bigvasta: 'size=4M' is none of least=, most=, priority=, weight=, strict=, overhead=, "
+            "limit=, user=, memory=, start=, target=\n"
         ),
     ),
     ("guest web-1 target=1M target=2M", 2, "", "bigvasta: target= is said twice\n"),
@@ -68,6 +68,12 @@ COMMANDS = (
             "bigvasta: target: '4' is no size: a number with K, M, G or T, in pages of 4K, such "
             "as 480M\n"
         ),
+    ),
+    (
+        "guest web-1 weight=0",
+        2,
+        "",
+        "bigvasta: weight: '0' is no whole number from 1 to 4294967295\n",
     ),
     (
         "guest web-1 priority=-1",
@@ -108,8 +114,8 @@ COMMANDS = (
         2,
         "",
         (
-            "bigvasta: 'target=1M' is none of least=, most=, priority=, strict=, overhead=, "
-            "limit=, user=, memory=, start=\n"
+            "bigvasta: 'target=1M' is none of least=, most=, priority=, weight=, strict=, "
+            "overhead=, limit=, user=, memory=, start=\n"
         ),
     ),
     ("budget", 0, "480 MiB\n", ""),
@@ -212,10 +218,17 @@ def test_log_that_is_followed(host, arrive):
     with subprocess.Popen(
         words, stdout=subprocess.PIPE, text=True, env={**os.environ, "PYTHONPATH": CLIENT}
     ) as it:
-        assert it.stdout.readline() == "decision 0: budget; budget 400; targets: no guests\n"
+        assert (
+            it.stdout.readline()
+            == "decision 0: budget; budget 400, tier none; targets: no guests\n"
+        )
         eventually(lambda: host.status()["control"]["clients"] == 2)
         arrive("a")
-        wanted = ["added a\n", "arrived a\n", "decision 1: guests; budget 400; targets: a 0\n"]
+        wanted = [
+            "added a\n",
+            "arrived a\n",
+            "decision 1: guests; budget 400, tier none; targets: a 0\n",
+        ]
         said = []
         while not set(wanted) <= set(said):
             said.append(it.stdout.readline().split(" ", 1)[1])

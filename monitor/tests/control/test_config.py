@@ -56,6 +56,7 @@ WRONG = (
     ("budget = 480M", "budget = 4 M", f"line 4: budget: a size of 1M or more: {SIZE}"),
     ("floor = 8M", "floor = 8k", f"line 5: floor: a size: {SIZE}"),
     ("floor = 8M", "overdraft = 8k", f"line 5: overdraft: a size: {SIZE}"),
+    ("floor = 8M", "reserve = 101", "line 5: reserve: percent, from 0 to 100"),
     ("period = 100", "period = 9", "line 6: period: milliseconds, from 10 to 60000"),
     ("period = 100", "period = 60001", "line 6: period: milliseconds, from 10 to 60000"),
     (
@@ -91,6 +92,11 @@ WRONG = (
         "line 18: limit: a path from / on, without ., .. or a slash too many",
     ),
     ("[guest web-1]", "[guest web-1]\noverhead = 1", f"line 18: overhead: a size: {SIZE}"),
+    (
+        "[guest web-1]",
+        "[guest web-1]\nweight = 0",
+        "line 18: weight: a number from 1 to 4294967294",
+    ),
     (
         "[guest web-1]",
         "[guest web-1]\nmemory = 0M",
@@ -243,6 +249,13 @@ TAKEN = (
         "/bin/true",
     ),
     (
+        "reserve of [host]",
+        "floor = 8M",
+        "floor = 8M\nreserve = 7",
+        lambda host: host.status()["reserve"],
+        7,
+    ),
+    (
         "level of [log]",
         "level = info",
         "level = notice",
@@ -259,6 +272,7 @@ TAKEN = (
     ("least of [guest]", "[guest web-1]", "[guest web-1]\nleast = 5M", term("least"), 5 * MIB),
     ("most of [guest]", "[guest web-1]", "[guest web-1]\nmost = 7M", term("most"), 7 * MIB),
     ("priority of [guest]", "[guest web-1]", "[guest web-1]\npriority = 9", term("priority"), 9),
+    ("weight of [guest]", "[guest web-1]", "[guest web-1]\nweight = 3", term("weight"), 3),
     ("strict of [guest]", "[guest web-1]", "[guest web-1]\nstrict = yes", term("strict"), True),
     (
         "overhead of [guest]",

@@ -17,13 +17,15 @@ def test_decisions_by_their_numbers(host, arrive):
     eventually(lambda: all(host.guest(it)["answers"] for it in "ab"))
     host.ask("floor", bytes=0)
     host.ask("budget", bytes=156 * PAGE)
-    eventually(lambda: [host.guest(it)["target"] for it in "ab"] == [60 * PAGE, 40 * PAGE])
+    eventually(lambda: [host.guest(it)["target"] for it in "ab"] == [50 * PAGE, 50 * PAGE])
     log = host.ask("log", since=0)
     last = next(it for it in log["decisions"] if it["budget"] == 156 * PAGE)
     assert (last["reason"], last["floor"], last["missing"]) == ("budget", 0, 0)
+    # Each gives 50 of 54 unused pages, as 6 are its reserve.
+    assert last["tier"] == "unused"
     assert last["shares"] == [
-        {"guest": name, "memory": 128 * PAGE, "spare": 60 * PAGE, "old": 0, "target": target * PAGE}
-        for name, target in (("a", 60), ("b", 40))
+        {"guest": name, "memory": 128 * PAGE, "spare": 60 * PAGE, "old": 0, "target": 50 * PAGE}
+        for name in "ab"
     ]
     assert [it["number"] for it in log["decisions"]] == list(range(log["next"]))
     assert host.ask("log", since=log["next"] - 1, limit=1)["decisions"] == log["decisions"][-1:]

@@ -48,7 +48,7 @@ TERMS = {
     **rows("pages", "least overhead"),
     **rows("limit", "most memory start"),
     **rows("user", "user"),
-    **rows("count", "priority"),
+    **rows("count", "priority weight"),
     **rows("flag", "strict"),
     **rows("kernel", "limit"),
 }
@@ -68,8 +68,8 @@ GUEST = {
     **rows("count", " ".join(f"{it}=counters.{it}" for it in COUNTERS.split())),
 }
 HOST = {
-    **rows("text", "folder on_short gives_first"),
-    **rows("count", "guests step waiting silent uncooperative patience"),
+    **rows("text", "folder on_short gives_first tier"),
+    **rows("count", "guests reserve step waiting silent uncooperative patience"),
     **rows("pages", "budget overdraft floor lent short_by=missing overdrawn"),
     **rows("kib", "held_kib=held peak_kib=counters.peak"),
     **rows("flag", "strict is_short=short"),
@@ -88,7 +88,7 @@ HOST = {
 SHARE = rows("text", "name=guest") | rows("pages", "old target")
 DECISION = {
     **rows("ms", "at=seconds"),
-    **rows("word", "reason"),
+    **rows("word", "reason tier"),
     **rows("pages", "frames=budget floor missing"),
 }
 BOUNDS = [0.001, 0.005, 0.02, 0.1, 0.5, 2, 10]
@@ -134,7 +134,7 @@ def shown_decision(made, phase):
     about one."""
     its = dict(made.decisions[phase])
     shares = [dict(it) for it in its.pop("shares")]
-    needs = [it.pop("need") for it in shares]
+    tiers = [it.pop("tiers") for it in shares]
     about = its.pop("who") if its["reason"] == "BY_SPARE" else ""
     told = {name: its[name] for name in DECISION}
     return shown(told, DECISION) | {
@@ -142,8 +142,8 @@ def shown_decision(made, phase):
         "guest": about,
         "shares": [
             shown({name: share[name] for name in SHARE}, SHARE)
-            | {"memory": need["pages"] * PAGE, "spare": need["spare"] * PAGE}
-            for share, need in zip(shares, needs)
+            | {"memory": its_tiers["pages"] * PAGE, "spare": its_tiers["spare"] * PAGE}
+            for share, its_tiers in zip(shares, tiers)
         ],
     }
 
@@ -365,6 +365,10 @@ def metrics_of(host, guests):
             f'bigvasta_{name}_total{{{label}="{it}"}}': value
             for it, value in host["measures"][its].items()
         }
+    wanted |= {
+        f'bigvasta_tier{{tier="{it}"}}': it == host["tier"]
+        for it in ("none", "unused", "cache", "reserve", "short")
+    }
     its = {
         "up": 1,
         f'build_info{{core="{version()}",version="{version()}"}}': 1,
@@ -398,7 +402,7 @@ def test_each_column_and_each_line(made, host):
     assert (
         head
         == ", ".join(f"{name} {it}" for name, it in sums.items())
-        + f" MiB; 6 guests, {counts}; version {version()}"
+        + f" MiB; tier {its['tier']}; 6 guests, {counts}; version {version()}"
     )
     assert columns.split() == [
         "guest",
@@ -423,7 +427,7 @@ def test_each_column_and_each_line(made, host):
     promised = mebibytes(sum(it["memory"] for it in guests))
     assert head == (
         f"budget {sums['budget']}  held {sums['held']}  lent {sums['lent']}  promised "
-        f"{promised}  missing {sums['missing']} MiB"
+        f"{promised}  missing {sums['missing']} MiB  tier {its['tier']}"
     )
     for guest, line in zip(guests, rest[4:]):
         assert line.startswith(
@@ -445,6 +449,7 @@ def test_each_line_of_a_guest(made, host):
             ["least", mebibytes(terms["least"]), "MiB"],
             ["most", *most],
             ["priority", str(terms["priority"])],
+            ["weight", str(terms["weight"])],
         ]
         wanted += [
             ["strict", "yes" if terms["strict"] else "no"],

@@ -120,12 +120,12 @@ def shows(terminal, wanted):
 
 
 def test_guests_keys_and_sizes(host, arrive, terminal):
-    shows(terminal, "budget 480  held 0  lent 0  promised 0 MiB")
+    shows(terminal, "budget 480  held 0  lent 0  promised 0 MiB  tier none")
     shows(terminal, "0 guests, by name")
     host.ask("floor", bytes=0)
     arrive("web-2"), arrive("web-1")
     eventually(lambda: all(host.guest(it)["answers"] for it in ("web-1", "web-2")))
-    host.ask("budget", bytes=156 * PAGE)
+    host.ask("budget", bytes=136 * PAGE)
     eventually(lambda: host.guest("web-2")["target"] == 60 * PAGE)
     shows(terminal, "guest          held   loan target  spare  memory")
     # Its 128 pages are the whole bar: 68 are held and kept, 60 of them it can spare, and the target
@@ -147,7 +147,7 @@ def test_guests_keys_and_sizes(host, arrive, terminal):
     shows(terminal, "2 guests, by waits, paused")
     host.ask("budget", bytes=480 * MIB)
     eventually(lambda: host.status()["budget"] == 480 * MIB)
-    assert terminal.screen()[0].startswith("budget 0.6  held 1.0"), "a paused view goes on"
+    assert terminal.screen()[0].startswith("budget 0.5  held 1.0"), "a paused view goes on"
     terminal.key("p")
     shows(terminal, "budget 480  held 1.0..")
     terminal.key("Down")
@@ -177,10 +177,10 @@ def test_a_host_that_goes_and_comes_back(program, folder, opened):
     shows(terminal, "0 guests, by name")
     assert host.end() == 0
     shows(terminal, "no host answers, and this was its last word: ..")
-    assert terminal.screen()[0] == "budget 480  held 0  lent 0  promised 0 MiB"
+    assert terminal.screen()[0] == "budget 480  held 0  lent 0  promised 0 MiB  tier none"
     host = Host(program, folder, str(folder), "--budget", "400")
     host.lines.next(patience_from_now())
-    shows(terminal, "budget 400  held 0  lent 0  promised 0 MiB")
+    shows(terminal, "budget 400  held 0  lent 0  promised 0 MiB  tier none")
     shows(terminal, "0 guests, by name")
     terminal.key("q")
     shows(terminal, "ended with 0")

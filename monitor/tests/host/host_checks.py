@@ -25,16 +25,14 @@ def eventually(condition, words, limit=REST_LIMIT):
         time.sleep(0.05)
 
 
-def rule(needs, frames):
-    """Returns the targets for guests with these pages and spares, and by how much they are
-    short."""
-    lack = max(0, sum(pages for pages, _ in needs) - frames)
-    short = max(0, lack - sum(spare for _, spare in needs))
-    lack, targets = lack - short, [0] * len(needs)
-    for number in sorted(range(len(needs)), key=lambda it: (-needs[it][1], it)):
-        targets[number] = min(needs[number][1], lack)
-        lack -= targets[number]
-    return targets, short
+# Up to which tier guests give, and what of a guest's share that is.
+TIERS = {"none": None, "unused": "unused", "cache": "cached", "reserve": "spare"}
+
+
+def tier_of(shares, lack):
+    """Returns the first tier that suffices."""
+    given = {tier: sum(it[key] for it in shares) if key else 0 for tier, key in TIERS.items()}
+    return next((tier for tier, pages in given.items() if pages >= lack), "short")
 
 
 def most_of(share, floor):
@@ -53,29 +51,25 @@ def most_of(share, floor):
 
 
 def check_decision(said, shares):
-    """Demands that a decision is what the rule says of the needs that it goes by."""
-    needs = [(it["pages"], it["spare"]) for it in shares.values()]
-    targets, short = rule(needs, said["frames"])
-    demand(
-        [it["target"] for it in shares.values()] == targets,
-        f"{said}: {shares}: the targets should be {targets}",
-    )
-    demand(said["short"] == short, f"{said}: {shares}: short by {short}")
+    """Demands that a decision is what the rule says of what the guests can give: they give enough,
+    and no more than they can."""
+    its, where = list(shares.values()), f"{said}: {shares}"
+    lack = max(0, sum(it["pages"] for it in its) - said["frames"])
+    demand(said["tier"] == tier_of(its, lack), f"{where}: the tier is {tier_of(its, lack)}")
+    short = max(0, lack - sum(it["spare"] for it in its))
+    demand(said["short"] == short, f"{where}: short by {short}")
     for name, it in shares.items():
         most = most_of(it, said["floor"])
         # Of a guest that has less than its floor a part of the eighth is left.
         demand(
             it["spare"] <= it["most"] <= most if it["spare"] == 0 else it["most"] == most,
-            f"{said}: {name} may be asked for {most} pages: {it}",
+            f"{where}: {name} may be asked for {most} pages",
         )
-    lack = max(0, sum(pages for pages, _ in needs) - said["frames"])
-    serves = sum(it["old"] for it in shares.values()) >= lack and all(
-        it["old"] <= it["most"] for it in shares.values()
-    )
-    demand(
-        said["why"] in ("guests", "budget") or not serves,
-        f"{said}: {shares}: the old targets serve",
-    )
+    if short:
+        return
+    asked = sum(it["target"] for it in its)
+    demand(asked >= lack, f"{where}: the targets are too little")
+    demand(all(it["target"] <= it["most"] for it in its), f"{where}: a target is too much")
 
 
 def check_decisions(town):

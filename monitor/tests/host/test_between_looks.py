@@ -11,7 +11,8 @@ from vhost_client import DEFLATE, PAGE
 
 # A host that looks at its guests once a minute; how often a story is told again that has lasted
 # longer, as the machine is busy; and the seconds in which all that was said is heard.
-SELDOM, TRIES, HEARD = ("--floor", "0", "--step", "0", "--period", "60000"), 3, 0.5
+SELDOM = ("--floor", "0", "--reserve", "0", "--step", "0", "--period", "60000")
+TRIES, HEARD = 3, 0.5
 
 
 def has_target(lender, name, pages):
@@ -38,7 +39,8 @@ def statistics_are_heard(lender, come):
 
 def pages_are_taken_unasked(lender, come):
     """Who takes what it gave has none free: another one is asked."""
-    a, b = (come(lender, name, {FREE: 100}, "strict=0") for name in "ab")
+    a = come(lender, "a", {FREE: 100}, "strict=0")
+    come(lender, "b", {FREE: 100}, "strict=0 priority=1")
     lender.set_budget(156)
     has_target(lender, "a", 100), has_target(lender, "b", 0)
     a.give(GIVEN[:100])

@@ -21,7 +21,7 @@ from tenants import (
 from vhost_client import DEFLATE, PAGE, Client
 from waiting import PATIENCE
 
-QUICK = ("--floor", "0", "--period", "100", "--step", "0")
+QUICK = ("--floor", "0", "--reserve", "0", "--period", "100", "--step", "0")
 
 # Seconds in which the guests of an earlier lender tell what they have, less those that a busy
 # machine takes.

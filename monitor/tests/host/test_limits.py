@@ -181,14 +181,14 @@ def test_who_takes_pages_unasked_is_named(lend, come):
     guests = [come(lender, it, {FREE: 100}, "overhead=0") for it in "abc"]
     for it in guests:
         it.fill()
-    lender.become("a", target=100), lender.become("b", target=28), lender.become("c", target=0)
-    guests[0].give(GIVEN[:100])
-    lender.become("a", ballooned=100, lent=28, held_kib=4 * 28, cooperates=1)
+    lender.become("a", target=64), lender.become("b", target=64), lender.become("c", target=0)
+    guests[0].give(GIVEN[:64])
+    lender.become("a", ballooned=64, lent=64, held_kib=4 * 64, cooperates=1)
     guests[0].fill()
     lender.become("a", held_kib=4 * ALL, cooperates=0, lent=ALL, spare=0, target=0)
-    lender.become("b", target=100), lender.become("c", target=28)
+    lender.become("b", target=64), lender.become("c", target=64)
     assert (
-        "a: has taken 100 pages unasked: all its memory counts as lent from now on" in lender.said()
+        "a: has taken 64 pages unasked: all its memory counts as lent from now on" in lender.said()
     )
     time.sleep(0.5)
     assert sum("unasked" in it for it in lender.said()) == 1

@@ -12,10 +12,11 @@ from vhost_client import DEFLATE, PAGE
 
 @pytest.fixture
 def given(lend, come):
-    """A host with two guests, which have given 50 and 60 pages; and what sets its budget to these
-    pages."""
+    """A host with two guests, which have given 50 and 60 pages, and of which the first gives before
+    the second; and what sets its budget to these pages."""
     lender = lend(1, *STRICT)
     a, b = (come(lender, name, {FREE: pages}) for name, pages in zip("ab", (50, 60)))
+    lender.demand("terms b priority=1")
     lender.set_budget(146)
     a.give(GIVEN[:50]), b.give(GIVEN[:60])
     lender.become("a", ballooned=50, lent=78), lender.become("b", ballooned=60, lent=68)
@@ -117,10 +118,11 @@ def test_what_was_given_for_an_earlier_target_is_taken_back_at_once(given):
     used(a, DEFLATE, 1)
     lender.become("a", waits="nothing", ballooned=50, lent=78)
     assert (waits_of(lender, "b"), lent(lender)) == ("deflate", 146)
-    # Nothing is lent to it ahead any longer: for a lower target there is no room.
+    # Nothing is lent to it ahead any longer: for a lower target there is no room. As the other one
+    # waits on a short host, a quarter of the floor stays to it.
     with Connection(f"{lender.folder}/.control") as it:
         it.ask("floor", bytes=10 * PAGE)
-    lender.become("a", target=40)
+    lender.become("a", target=48)
     time.sleep(0.5)
     assert (lender.guests()["a"]["asked"], lent(lender)) == (50, 146)
 
@@ -130,6 +132,7 @@ def test_what_is_lent_for_an_earlier_target_is_lent_for_a_moment_alone(given):
     others soon, also where the target falls again by a few pages, for which there is no room."""
     lender, a, b, set_budget = given
     a.figures, b.figures = {FREE: 0}, {FREE: 0}
+    lender.demand("terms a priority=2")
     set_budget(146)
     lender.become("a", asked=50)
     set_budget(196)  # b is asked for all of the 60 that are missing

@@ -6,8 +6,8 @@ import time
 import pytest
 from tenants import AVAILABLE, FREE, PAGES, PAGES_OF_ALL, eventually
 
-# A lender that looks often, without a floor, and asks for all at once.
-QUICK = ("--floor", "0", "--period", "100", "--step", "0")
+# A lender that looks often, without a floor or a reserve, and asks for all at once.
+QUICK = ("--floor", "0", "--reserve", "0", "--period", "100", "--step", "0")
 
 
 def targets(lender):
@@ -41,25 +41,61 @@ def test_what_a_guest_can_spare_goes_by_available_memory(lend, come, figures, sp
 
 
 def test_page_cache_is_taken(lend, come):
-    # Three guests of 128 pages, with 110 in their page cache and 4 free, on 256: all that is
-    # missing is asked for.
+    # Three guests of 128 pages, with 110 in their page cache and 4 free, on 256: as the third
+    # comes, the two others give half of what is missing each. Once it is heard, its part would be
+    # 43, but nobody has less than a third of what would be left to each.
     lender = lend(1, *QUICK)
     for name in ("a", "b"):
         come(lender, name, {FREE: 4, AVAILABLE: 110})
     come(lender, "c", {FREE: 4, AVAILABLE: 110})
-    become(lender, {"a": 110, "b": 18, "c": 0})
+    become(lender, {"a": 64, "b": 64, "c": 0})
     assert lender.counters()["short"] == 0
 
 
-# The terms of a, b and c, who can each spare 100 of 128 pages on a budget of 256: 128 pages are
-# missing.
+def test_tiers_of_a_guest(lend, come):
+    # Of its 128 pages 4 are free and 108 are page cache, of which 12, a tenth, are its reserve.
+    lender = lend(1, *QUICK, "--reserve", "10")
+    come(lender, "a", {FREE: 4, AVAILABLE: 112})
+    for budget, target, tier in (
+        (128, 0, "none"),
+        (124, 4, "unused"),
+        (123, 5, "cache"),
+        (28, 100, "cache"),
+        (27, 101, "reserve"),
+        (16, 112, "reserve"),
+        (15, 112, "short"),
+    ):
+        lender.set_budget(budget)
+        become(lender, {"a": target})
+        assert lender.counters()["tier"] == tier
+        decision, _ = lender.decisions()[-1]
+        assert (decision["tier"], decision["short"]) == (tier, int(tier == "short"))
+
+
+def test_equal_guests_are_asked_for_equal_parts(lend, come):
+    # A guest that reads 60 pages again and again, beside two idle ones with 90 free: 128 of 384
+    # pages are missing. It keeps all its page cache.
+    lender = lend(1, *QUICK)
+    for name in "ab":
+        come(lender, name, {FREE: 90, AVAILABLE: 100})
+    come(lender, "c", {FREE: 2, AVAILABLE: 62})
+    lender.demand("budget 1")
+    become(lender, {"a": 64, "b": 64, "c": 0})
+    assert lender.counters()["tier"] == "unused"
+
+
+# The terms of a, b and c, who use 28 of 128 pages each, on a budget of 256: 128 pages are missing,
+# and 172 are left to them.
 TERMS = (
-    (("", "", ""), {"a": 100, "b": 28, "c": 0}),
+    (("", "", ""), {"a": 43, "b": 43, "c": 43}),  # 57 stay to each
     (("priority=2", "priority=1", ""), {"a": 0, "b": 28, "c": 100}),
-    (("priority=1", "priority=1", "priority=1"), {"a": 100, "b": 28, "c": 0}),
-    (("least=1", "", ""), {"a": 0, "b": 100, "c": 28}),  # 256 pages: all that it has
-    (("most=0", "", ""), {"a": 100, "b": 28, "c": 0}),
-    (("", "", "most=0"), {"a": 28, "b": 0, "c": 100}),
+    (("priority=1", "priority=1", "priority=1"), {"a": 43, "b": 43, "c": 43}),
+    (("weight=2", "", ""), {"a": 14, "b": 57, "c": 57}),  # 86 and 43 stay
+    (("weight=3", "weight=2", ""), {"a": 14, "b": 43, "c": 72}),  # 86, 57 and 28 stay
+    (("weight=9", "priority=1", ""), {"a": 35, "b": 0, "c": 93}),  # 65, all and 7 stay
+    (("least=1", "", ""), {"a": 0, "b": 64, "c": 64}),  # 256 pages: all that it has
+    (("most=0", "", ""), {"a": 100, "b": 14, "c": 14}),
+    (("", "", "most=0"), {"a": 14, "b": 14, "c": 100}),
     (("most=0", "most=0", "most=0"), {"a": 100, "b": 100, "c": 100}),
     (("least=1 most=1", "priority=1", "priority=2"), {"a": 0, "b": 100, "c": 28}),
 )
@@ -78,11 +114,12 @@ def test_terms_that_change(lend, come):
     lender = lend(1, *QUICK)
     for name in "abc":
         come(lender, name, {FREE: 100})
-    become(lender, {"a": 100, "b": 28, "c": 0})
+    lender.demand("budget 1")
+    become(lender, {"a": 43, "b": 43, "c": 43})
     assert lender.demand("terms a priority=1") == "ok"
-    become(lender, {"a": 0, "b": 100, "c": 28})
+    become(lender, {"a": 0, "b": 64, "c": 64})
     assert lender.demand("terms a priority=0 most=0") == "ok"
-    become(lender, {"a": 100, "b": 28, "c": 0})
+    become(lender, {"a": 100, "b": 14, "c": 14})
     seen = lender.guests()["a"]
     assert (seen["least"], seen["most"], seen["priority"]) == (0, 0, 0)
 
@@ -92,6 +129,9 @@ NO_TERMS = (
     "least=x",
     "most=-1",
     "priority=4294967296",
+    "weight=0",
+    "weight=x",
+    "weight=4294967296",
     "strict=2",
     "frames=1",
     "least=1  most=2",

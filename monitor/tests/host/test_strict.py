@@ -12,7 +12,7 @@ from tenants import FREE, PAGES, PAGES_OF_ALL, eventually, process_of
 from vhost_client import ADD_MEM_REG, DEFLATE, OFFERED, PAGE, REM_MEM_REG, Client
 from waiting import PATIENCE
 
-STRICT = ("--floor", "0", "--period", "100", "--step", "0", "--strict")
+STRICT = ("--floor", "0", "--reserve", "0", "--period", "100", "--step", "0", "--strict")
 
 # Pages that a driver may give: those after its rings, and the second region.
 GIVEN = [*range(PAGES_OF_ALL + 20, PAGES_OF_ALL + 64), *range(PAGES, PAGES + 64)]
@@ -79,11 +79,11 @@ def test_who_comes_waits_for_room(two, lend):
     comes = Later(client.hand_over_memory)
     assert comes.waits()
     assert (waits_of(lender, "c"), lent(lender)) == ("room", 256)
-    eventually(lambda: [lender.guests()[it]["target"] for it in "ab"] == [100, 28])
-    a.give(GIVEN[:100])
+    eventually(lambda: [lender.guests()[it]["target"] for it in "ab"] == [64, 64])
+    a.give(GIVEN[:64])
     assert comes.waits()
-    assert lent(lender) == 156
-    b.give(GIVEN[:28])
+    assert lent(lender) == 192
+    b.give(GIVEN[:64])
     comes.ends()
     lender.become("c", pages=128, lent=128, waits="nothing")
     assert lent(lender) == 256
@@ -156,8 +156,8 @@ def test_a_deflate_waits_until_another_guest_gives(two):
     used(a, DEFLATE, 1)
     lender.become("a", waits="nothing", ballooned=40, lent=88)
     assert comes.waits(0.2)
-    a.figures[FREE] = 0
-    lender.become("b", target=100)
+    a.figures[FREE], b.figures[FREE] = 0, 88
+    lender.become("b", target=88)
     b.give(GIVEN[:88])
     comes.ends()
     assert lent(lender) == 256
@@ -174,15 +174,16 @@ def test_what_a_target_lets_go_is_lent_before_it_is_asked_for(two, come):
     couldn't give any pages meanwhile."""
     lender, (a, b) = two
     others = []
-    comes = Later(lambda: others.append(come(lender, "c", {FREE: 32})))
+    lender.demand("terms b priority=1")
+    comes = Later(lambda: others.append(come(lender, "c", {FREE: 16})))
     eventually(lambda: [lender.guests()[it]["target"] for it in "ab"] == [100, 28])
     a.give(GIVEN[:100]), b.give(GIVEN[:28])
     comes.ends()
-    # With 16 pages as a floor a can spare 84, b 28 and c 16: just what is missing. For the 16 that
-    # a is to take there is no room yet.
-    a.figures[FREE], b.figures[FREE] = 0, 16
+    # With 44 pages that stay to it a can spare 84, b 28 and c 16: just what is missing. For the 16
+    # that a is to take there is no room yet.
+    a.figures[FREE] = b.figures[FREE] = 0
     with Connection(f"{lender.folder}/.control") as it:
-        it.ask("floor", bytes=16 * PAGE)
+        it.ask("guest", name="a", least=44 * PAGE)
     eventually(
         lambda: [it["target"] for it in lender.guests().values()] == [84, 28, 16], lender.guests
     )
@@ -289,6 +290,7 @@ def test_memory_that_grows_waits(two):
     lender, (a, b) = two
     client = Client(lender.add("c"), lambda: "")
     client.negotiate(protocol=OFFERED)
+    lender.demand("terms b priority=1")
     a.give(GIVEN[:64])
     a.figures[FREE] = 0
     client.accepted(ADD_MEM_REG, client.region_body(0), client.files[:1])
@@ -296,7 +298,7 @@ def test_memory_that_grows_waits(two):
     grows = Later(lambda: client.accepted(ADD_MEM_REG, client.region_body(1), client.files[1:]))
     assert grows.waits()
     lender.become("c", waits="room", lent=64)
-    lender.become("b", target=100)
+    lender.become("b", target=64)
     b.give(GIVEN[:10])
     lender.become("b", ballooned=10, lent=118)
     # A deflate is before it.

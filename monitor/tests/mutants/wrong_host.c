@@ -46,18 +46,12 @@ enum {
     TELLS_NONE
 };
 
-VbTargets __real_vb_guest_targets(const VbBudget *, const VbHostGuest *, size_t, VbShare *, size_t,
-                                  VbNeed *, size_t, uint32_t *, size_t);
-VbTargets __wrap_vb_guest_targets(const VbBudget *, const VbHostGuest *, size_t, VbShare *, size_t,
-                                  VbNeed *, size_t, uint32_t *, size_t);
-uint32_t __real_vb_needs_guest_targets(const VbBudget *, const VbHostGuest *, size_t,
-                                       const uint32_t *, size_t, VbNeed *, size_t, uint32_t *,
-                                       size_t);
-uint32_t __wrap_vb_needs_guest_targets(const VbBudget *, const VbHostGuest *, size_t,
-                                       const uint32_t *, size_t, VbNeed *, size_t, uint32_t *,
-                                       size_t);
-VbNeed __real_vb_guest_need(const VbHostGuest *, uint32_t);
-VbNeed __wrap_vb_guest_need(const VbHostGuest *, uint32_t);
+VbDecision __real_vb_policy_decide(const VbPolicyBudget *, const VbFigures *, size_t,
+                                   VbPolicyRoom *, size_t, uint32_t *, size_t);
+VbDecision __wrap_vb_policy_decide(const VbPolicyBudget *, const VbFigures *, size_t,
+                                   VbPolicyRoom *, size_t, uint32_t *, size_t);
+VbTiers __real_vb_policy_tiers(const VbPolicyBudget *, const VbFigures *);
+VbTiers __wrap_vb_policy_tiers(const VbPolicyBudget *, const VbFigures *);
 void __real_host_changed(struct host *, enum reason);
 void __wrap_host_changed(struct host *, enum reason);
 void __real_limits_follow(struct host *);
@@ -93,36 +87,31 @@ static uint32_t floor_of(uint32_t floor)
     return wrong() == NO_FLOOR ? 0 : floor;
 }
 
-VbNeed __wrap_vb_guest_need(const VbHostGuest *guest, uint32_t floor)
+VbTiers __wrap_vb_policy_tiers(const VbPolicyBudget *budget, const VbFigures *figures)
 {
-    return __real_vb_guest_need(guest, floor_of(floor));
+    VbPolicyBudget other = *budget;
+    other.floor = floor_of(budget->floor);
+    return __real_vb_policy_tiers(&other, figures);
 }
 
-static uint64_t all_pages(const VbHostGuest *guests, size_t count)
+static uint64_t all_pages(const VbPolicyBudget *budget, const VbFigures *figures, size_t count)
 {
     uint64_t pages = 0;
     for (size_t i = 0; i < count; i++)
-        pages += __real_vb_guest_need(&guests[i], 0).pages;
+        pages += __real_vb_policy_tiers(budget, &figures[i]).pages;
     return pages;
 }
 
-/* The budget of a host that is wrong. */
-static VbBudget changed(const VbBudget *budget, const VbHostGuest *guests, size_t count)
-{
-    VbBudget other = *budget;
-    other.frames = left_by_dead(all_pages(guests, count), budget->frames);
-    other.floor = floor_of(budget->floor);
-    return other;
-}
-
-VbTargets __wrap_vb_guest_targets(const VbBudget *budget, const VbHostGuest *guests, size_t count,
-                                  VbShare *shares, size_t shares_room, VbNeed *needs,
-                                  size_t needs_room, uint32_t *targets, size_t room)
+VbDecision __wrap_vb_policy_decide(const VbPolicyBudget *budget, const VbFigures *figures,
+                                   size_t count, VbPolicyRoom *rooms, size_t rooms_count,
+                                   uint32_t *targets, size_t targets_count)
 {
     uint64_t sum = 0;
-    VbBudget other = changed(budget, guests, count);
-    VbTargets answer = __real_vb_guest_targets(&other, guests, count, shares, shares_room, needs,
-                                               needs_room, targets, room);
+    VbPolicyBudget other = *budget;
+    other.frames = left_by_dead(all_pages(budget, figures, count), budget->frames);
+    other.floor = floor_of(budget->floor);
+    VbDecision answer =
+        __real_vb_policy_decide(&other, figures, count, rooms, rooms_count, targets, targets_count);
     if (answer.code != VB_OK || count == 0)
         return answer;
     for (size_t i = 0; i < count; i++)
@@ -135,16 +124,6 @@ VbTargets __wrap_vb_guest_targets(const VbBudget *budget, const VbHostGuest *gue
             targets[i] = i > 0 ? targets[i - 1] : last;
     }
     return answer;
-}
-
-uint32_t __wrap_vb_needs_guest_targets(const VbBudget *budget, const VbHostGuest *guests,
-                                       size_t count, const uint32_t *old, size_t old_count,
-                                       VbNeed *needs, size_t needs_room, uint32_t *rests,
-                                       size_t rests_room)
-{
-    VbBudget other = changed(budget, guests, count);
-    return __real_vb_needs_guest_targets(&other, guests, count, old, old_count, needs, needs_room,
-                                         rests, rests_room);
 }
 
 void __wrap_host_changed(struct host *host, enum reason reason)
