@@ -96,8 +96,8 @@ GUEST_TOTALS = (
     ("limit_failures", "limit_failures", "Times that the guest's limit couldn't be written"),
 )
 
-# Up to which tier guests give: none, unused memory, page cache, their reserves; and where that isn't
-# enough.
+# Up to which tier guests give: none, unused memory, page cache, their reserves; and where that
+# isn't enough.
 TIERS = ("none", "unused", "cache", "reserve", "short")
 
 PREFIX = "bigvasta"

@@ -22,10 +22,7 @@ class Off(Played):
     def powers_off(self):
         """Holds its next request, or leaves after the last one; whether it has left."""
         if self.its["held_pages"] and self.is_granted():
-            self.report(
-                ballooned=self.its["ballooned"] - self.its["held_pages"],
-                held_pages=0,
-            )
+            self.report(ballooned=self.its["ballooned"] - self.its["held_pages"], held_pages=0)
         if self.its["held_pages"] == 0 and self.its["ballooned"] > 0:
             self.deflates(min(REQUEST, self.its["ballooned"]))
         if self.its["ballooned"] == 0:
