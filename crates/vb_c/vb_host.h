@@ -30,6 +30,12 @@ extern "C" {
 #define VB_ASSERT(what) _Static_assert(what, #what)
 #endif
 
+/* The layout of this header: another number for each change of a struct or an event here. A caller
+ * that begins compares it with what the library says, and goes on where both are the same: the
+ * library can't see which header its caller was built with. */
+#define VB_HOST_VERSION 2u
+uint32_t vb_host_version(void);
+
 /* In which line a deflate waits. Those of an earlier line come before all of a later one, and those
  * of one line in the order of their turns. Any other number is VB_LINE_ARRIVALS. */
 enum {
@@ -47,16 +53,18 @@ typedef struct {
     uint32_t read_target;
     uint32_t held;          /* pages of the deflate that it holds back; 0 where it holds none */
     uint32_t line;          /* in which that deflate waits: VB_LINE_DEFLATES .. */
+    uint32_t outside;       /* pages of memory that was taken away which still have frames */
     uint64_t target_number; /* of the last target that it has received */
     /* How many deflates it has held back, this one included: the number of this one. */
     uint64_t deflates;
     uint64_t removed; /* pages that were taken away from its memory so far */
 } VbReport;
 
-/* What the lender knows of a guest. What is lent to it is all its pages but min(ballooned,
- * least_target) (vb_seat_lent). */
+/* What the lender knows of a guest. What is lent to it is all its pages and those outside, but
+ * min(ballooned, least_target) (vb_seat_lent). */
 typedef struct {
-    /* Pages that it may have frames for, in a memory slot or outside; 0 where no guest is there. */
+    /* Pages of its memory, which it may have frames for; 0 where no guest is there. Of a guest that
+     * comes, also of files that no memory slot has. */
     uint32_t pages;
     /* Pages in its balloon, as last reported, without those of a granted deflate. */
     uint32_t ballooned;
@@ -65,6 +73,7 @@ typedef struct {
     uint32_t wanted;        /* pages wanted in its balloon: its target is this or above */
     uint32_t held;          /* pages of the deflate that waits; 0 where none does */
     uint32_t line;          /* in which it waits: VB_LINE_DEFLATES .. */
+    uint32_t outside;       /* pages of memory that was taken away which still have frames */
     uint64_t target_number; /* of its last target: how many it was sent */
     uint64_t deflates;      /* how many its process has held back, by its last report */
     uint64_t granted;       /* the number of the last granted deflate; 0 before it was let in */
@@ -84,10 +93,12 @@ typedef struct {
  * there is no seat at a place, or the event isn't possible, it has no effect. */
 enum {
     /* guest, report: its process has reported. Its balloon is counted: never fewer pages than
-     * before, but for granted deflates and what was taken away. A deflate that lends nothing more
-     * is granted. Once its driver has read its last target, least_target rises to that. A deflate
-     * that waits from now on gets the next turn. No effect: a report of before the last grant, or
-     * of before memory was taken away that is known of. */
+     * before, but for granted deflates and what was taken away. Of what was taken away, and wasn't
+     * in the balloon, any pages may stay `outside`; a report of more of those, or of fewer pages in
+     * the balloon, says nothing of its memory (VB_TAKES_OVER counts them). A deflate that lends
+     * nothing more is granted. Once its driver has read its last target, least_target rises to
+     * that. A deflate that waits from now on gets the next turn. No effect: a report of before the
+     * last grant, or of before memory was taken away that is known of. */
     VB_HEARS = 1,
     /* guest: its deflate is granted. Possible where that lends nothing more, or it is the first
      * that waits and there is room. */
@@ -107,8 +118,8 @@ enum {
      * its balloon. Of no pages: the guest has gone. */
     VB_ARRIVES = 6,
     /* guest, added: the memory at the place `added`, which waited as a guest of its own, joins the
-     * guest, and its place is vacant. Possible where all that memory is lent, both places differ,
-     * and they have fewer than 2^32 pages together. */
+     * guest, and its place is vacant. Possible where all that memory is lent, none of it outside,
+     * both places differ, and they have fewer than 2^32 pages together. */
     VB_JOINS = 7,
     /* guest, pages, report: the first report to a later lender of a guest that has `pages`,
      * whichever was at its place. Until then its seat is these pages and zeros: all are lent. */
@@ -137,12 +148,14 @@ typedef struct {
 
 VB_ASSERT(sizeof(VbReport) == 48 && offsetof(VbReport, target) == 4);
 VB_ASSERT(offsetof(VbReport, read_target) == 8 && offsetof(VbReport, held) == 12);
-VB_ASSERT(offsetof(VbReport, line) == 16 && offsetof(VbReport, target_number) == 24);
+VB_ASSERT(offsetof(VbReport, line) == 16 && offsetof(VbReport, outside) == 20);
+VB_ASSERT(offsetof(VbReport, target_number) == 24);
 VB_ASSERT(offsetof(VbReport, deflates) == 32 && offsetof(VbReport, removed) == 40);
 VB_ASSERT(sizeof(VbSeat) == 88 && offsetof(VbSeat, ballooned) == 4);
 VB_ASSERT(offsetof(VbSeat, least_target) == 8 && offsetof(VbSeat, target) == 12);
 VB_ASSERT(offsetof(VbSeat, wanted) == 16 && offsetof(VbSeat, held) == 20);
-VB_ASSERT(offsetof(VbSeat, line) == 24 && offsetof(VbSeat, target_number) == 32);
+VB_ASSERT(offsetof(VbSeat, line) == 24 && offsetof(VbSeat, outside) == 28);
+VB_ASSERT(offsetof(VbSeat, target_number) == 32);
 VB_ASSERT(offsetof(VbSeat, deflates) == 40 && offsetof(VbSeat, granted) == 48);
 VB_ASSERT(offsetof(VbSeat, removed) == 56 && offsetof(VbSeat, turn) == 64);
 VB_ASSERT(offsetof(VbSeat, uncounted) == 72 && offsetof(VbSeat, preferred) == 76);
@@ -159,8 +172,9 @@ VB_ASSERT(offsetof(VbHostEvent, frames) == 32 && offsetof(VbHostEvent, report) =
  * changes. */
 uint32_t vb_host_step(VbHost *host, VbSeat *seats, size_t count, const VbHostEvent *event);
 
-/* How many frames are lent to a guest: its limit. */
-uint32_t vb_seat_lent(const VbSeat *seat);
+/* How many frames are lent to a guest: its limit. Less than 2^33; 32 bits are enough where `pages`
+ * and `outside` are less than 2^32 together, as they are unless VB_TAKES_OVER brings more. */
+uint64_t vb_seat_lent(const VbSeat *seat);
 /* How many more a grant of its deflate would lend; 0 where it doesn't wait. */
 uint32_t vb_seat_asked(const VbSeat *seat);
 /* 1 where a deflate of it waits, else 0. */

@@ -1,9 +1,15 @@
-/* The version and saved states in plain C. */
+/* Versions and saved states in plain C. */
 #include "reference.h"
+#include "vb_host.h"
 
 uint32_t vb_version(void)
 {
     return VB_VERSION_NUMBER;
+}
+
+uint32_t vb_host_version(void)
+{
+    return VB_HOST_VERSION;
 }
 
 /* The newest version, the one before it, which says nothing of hints, and the one before that,

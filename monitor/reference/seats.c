@@ -26,9 +26,9 @@ static uint64_t reclaimed(const VbSeat *seat)
     return least(seat->ballooned, seat->least_target);
 }
 
-uint32_t vb_seat_lent(const VbSeat *seat)
+uint64_t vb_seat_lent(const VbSeat *seat)
 {
-    return (uint32_t)without(seat->pages, reclaimed(seat));
+    return without((uint64_t)seat->pages + seat->outside, reclaimed(seat));
 }
 
 uint32_t vb_seat_waits(const VbSeat *seat)
@@ -40,9 +40,8 @@ static VbSeat granted(VbSeat seat)
 {
     seat.ballooned = (uint32_t)without(seat.ballooned, seat.held);
     seat.granted = seat.deflates;
-    seat.held = 0;
+    seat.held = seat.deferred = 0;
     seat.turn = 0;
-    seat.deferred = 0;
     return seat;
 }
 
@@ -70,28 +69,39 @@ uint32_t vb_seat_due_grant(const VbSeat *seat, const VbReport *report)
 
 /* ---- a report */
 
+/* The seat with what a report says of memory, where these pages are in the balloon: no page but of
+ * what was taken away has left the balloon, or is outside. */
+static VbSeat remembered(VbSeat seat, uint64_t ballooned, const VbReport *report)
+{
+    uint64_t taken = without(report->removed, seat.removed), left = without(seat.pages, taken);
+    uint64_t fallen = without(seat.ballooned, ballooned);
+    if (fallen > taken || left + report->outside + fallen > (uint64_t)seat.pages + seat.outside)
+        return seat;
+    seat.pages = (uint32_t)left;
+    seat.ballooned = (uint32_t)ballooned;
+    seat.outside = report->outside;
+    seat.removed = report->removed;
+    return seat;
+}
+
 /* The seat with what a report says of memory, balloon and deflate. Where that deflate was granted,
  * its pages have left the balloon. */
 static VbSeat counted(VbSeat seat, const VbReport *report)
 {
-    uint64_t taken = without(report->removed, seat.removed);
     uint64_t ballooned = seat.uncounted ? 0 : report->ballooned;
     bool was_granted = report->deflates == seat.granted;
     if (was_granted)
         ballooned = without(ballooned, report->held);
-    seat.pages = (uint32_t)without(seat.pages, taken);
-    seat.ballooned = (uint32_t)greatest(without(seat.ballooned, taken), ballooned);
+    seat = remembered(seat, ballooned, report);
     seat.held = was_granted ? 0 : report->held;
     seat.line = report->line;
     seat.deflates = report->deflates;
-    seat.removed = report->removed;
     return seat;
 }
 
 static VbSeat queued(VbSeat seat, uint64_t turn)
 {
-    seat.turn = seat.held ? turn : 0;
-    seat.deferred = 0;
+    seat.turn = seat.held ? turn : 0, seat.deferred = 0;
     return seat;
 }
 
@@ -103,10 +113,8 @@ static uint64_t waiting_line(const VbSeat *seat)
 
 static VbSeat deferred(VbSeat seat, uint64_t turn)
 {
-    if (!seat.held || waiting_line(&seat) == VB_LINE_DEFLATES)
-        return seat;
-    seat.turn = turn;
-    seat.deferred = 1;
+    if (seat.held && waiting_line(&seat) != VB_LINE_DEFLATES)
+        seat.turn = turn, seat.deferred = 1;
     return seat;
 }
 
@@ -168,6 +176,7 @@ static VbSeat taken_over(uint32_t pages, const VbReport *report)
         .wanted = report->target,
         .held = report->held,
         .line = report->line,
+        .outside = report->outside,
         .target_number = report->target_number,
         .deflates = report->deflates,
         .granted = report->held ? without(report->deflates, 1) : report->deflates,
@@ -275,7 +284,7 @@ static void target_all(const VbHost *host, VbSeat *seats, size_t count)
 
 static void join(VbSeat *seats, size_t count, size_t guest, size_t added)
 {
-    if (added >= count || added == guest || reclaimed(&seats[added]) != 0)
+    if (added >= count || added == guest || reclaimed(&seats[added]) || seats[added].outside)
         return;
     if ((uint64_t)seats[guest].pages + seats[added].pages > UINT32_MAX)
         return;

@@ -15,17 +15,18 @@ bool same_seat(const VbSeat *one, const VbSeat *other)
     return one->pages == other->pages && one->ballooned == other->ballooned &&
            one->least_target == other->least_target && one->target == other->target &&
            one->wanted == other->wanted && one->held == other->held && one->line == other->line &&
-           one->target_number == other->target_number && one->deflates == other->deflates &&
-           one->granted == other->granted && one->removed == other->removed &&
-           one->turn == other->turn && one->uncounted == other->uncounted &&
-           one->preferred == other->preferred && one->deferred == other->deferred;
+           one->outside == other->outside && one->target_number == other->target_number &&
+           one->deflates == other->deflates && one->granted == other->granted &&
+           one->removed == other->removed && one->turn == other->turn &&
+           one->uncounted == other->uncounted && one->preferred == other->preferred &&
+           one->deferred == other->deferred;
 }
 
 void print_seat(size_t place, const VbSeat *seat)
 {
     fprintf(stderr, "  %zu: pages %u, ballooned %u, least %u, target %u, wanted %u,", place,
             seat->pages, seat->ballooned, seat->least_target, seat->target, seat->wanted);
-    fprintf(stderr, " held %u, line %u,", seat->held, seat->line);
+    fprintf(stderr, " held %u, line %u, outside %u,", seat->held, seat->line, seat->outside);
     fprintf(stderr, " number %llu, deflates %llu, granted %llu, removed %llu, turn %llu,",
             (unsigned long long)seat->target_number, (unsigned long long)seat->deflates,
             (unsigned long long)seat->granted, (unsigned long long)seat->removed,
@@ -36,6 +37,11 @@ void print_seat(size_t place, const VbSeat *seat)
 
 int main(int count, char **words)
 {
+    if (vb_host_version() != VB_HOST_VERSION) {
+        fprintf(stderr, "seats: the library has layout %u of vb_host.h, and this program %u\n",
+                vb_host_version(), VB_HOST_VERSION);
+        return 1;
+    }
     check_rows();
     check_passing();
     check_lines();

@@ -38,7 +38,7 @@ class Report(ctypes.Structure):
     """VbReport."""
 
     _fields_ = [
-        *fields(NUMBER, "ballooned target read_target held line"),
+        *fields(NUMBER, "ballooned target read_target held line outside"),
         *fields(LONG, "target_number deflates removed"),
     ]
 
@@ -47,7 +47,7 @@ class Seat(ctypes.Structure):
     """VbSeat."""
 
     _fields_ = [
-        *fields(NUMBER, "pages ballooned least_target target wanted held line"),
+        *fields(NUMBER, "pages ballooned least_target target wanted held line outside"),
         *fields(LONG, "target_number deflates granted removed turn"),
         *fields(NUMBER, "uncounted preferred deferred"),
     ]
@@ -94,7 +94,7 @@ CALLS = {
     "vb_host_owed": (LONG, ROOM, COUNT),
     "vb_host_room": (NUMBER, ctypes.POINTER(Host), ROOM, COUNT),
     "vb_host_first": (COUNT, ROOM, COUNT),
-    "vb_seat_lent": (NUMBER, SEAT),
+    "vb_seat_lent": (LONG, SEAT),
     "vb_seat_asked": (NUMBER, SEAT),
 }
 

@@ -20,6 +20,7 @@ report = record {
   read_target = 23;
   held = 0;
   line = 1;
+  outside = 27;
   target_number = 24;
   deflates = 25;
   removed = 26;

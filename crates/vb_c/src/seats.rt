@@ -9,6 +9,10 @@ ghost use Rattle.vb_c.specs.Seats.{event_of, lending_of, FirstFor, StepsFor};
 use vb_host::{Event, Report, Seat, first_in_line, owed, room, step};
 use vb_monitor::{BAD_ARGUMENT, OK};
 
+/// Which layout seats, reports and events have, as vb_host.h has it in VB_HOST_VERSION: another
+/// number for each change of that.
+const HOST_VERSION: u32 = 2;
+
 /// A guest's process has reported.
 const HEARS: u32 = 1;
 
@@ -103,6 +107,14 @@ impl VbHostEvent {
     }
 }
 
+/// Which layout seats, reports and events have.
+#[unsafe(no_mangle)]
+pub extern "C" fn vb_host_version() -> u32
+    ensures { result ≡ HOST_VERSION }
+{
+    HOST_VERSION
+}
+
 /// One step of a host's lender.
 #[unsafe(no_mangle)]
 pub extern "C" fn vb_host_step(host: &mut VbHost, seats: &mut [Seat], event: &VbHostEvent) -> u32
@@ -119,7 +131,7 @@ pub extern "C" fn vb_host_step(host: &mut VbHost, seats: &mut [Seat], event: &Vb
 
 /// What is lent to a guest.
 #[unsafe(no_mangle)]
-pub extern "C" fn vb_seat_lent(seat: &Seat) -> u32
+pub extern "C" fn vb_seat_lent(seat: &Seat) -> u64
     ensures { result ≡ lent seat.now }
 {
     seat.lent()

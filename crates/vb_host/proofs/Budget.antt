@@ -104,7 +104,7 @@ joined_strictly false c x y z l = omega arith
 pub joins_lend : (limit : ℕ) (h : Host) (n m : ℕ) (o : Option Guest) → slice_get h.guests m ≡ o → lent_all h.guests ≤ limit → lent_all (joining o n m h).guests ≤ limit
 joins_lend limit h n m None e l = l
 joins_lend limit h n m (Some x) e l = either (λ (k : Host). lent_all k.guests ≤ limit) (may_join n m x) _ h
-    (λ t. let f = join_facts n m x t in omega (arith, l, join_lends h.guests n m x (joined x) f.apart e (λ g. joined_strictly g.strict x.strict _ _ _ (joined_lends x g f.lent_all)))) (λ _. l)
+    (λ t. let f = join_facts n m x t in omega (arith, l, join_lends h.guests n m x (joined x) f.differ e (λ g. joined_strictly g.strict x.strict _ _ _ (joined_lends x g f.lent_all)))) (λ _. l)
 
 pub joins_same : (h : Host) (n m : ℕ) (o : Option Guest) → ((joining o n m h).frames ≡ h.frames) × ((joining o n m h).overdraft ≡ h.overdraft)
 joins_same h n m None = (refl, refl)
@@ -253,7 +253,7 @@ abbrev its_used : Guest → ℕ
 its_used g = strictly g.strict (used g)
 
 uses_its : (g : Guest) → IsTrusty g → its_used g ≤ its_lent g
-uses_its g t = omega (arith, strictly_by g.strict (used g) (lent g.seat) 0 (λ e. let m = (t e).known.memory in omega (arith, m.pages, m.counted, m.removed)))
+uses_its g t = omega (arith, strictly_by g.strict (used g) (lent g.seat) 0 (λ e. let m = (t e).known.memory in omega (arith, m.pages, m.used, m.removed, m.balloon)))
 
 pub uses_lent : (xs : List Guest) → AllByRecursion IsTrusty xs → sum_by its_used xs ≤ lent_all xs
 uses_lent [] a = omega arith

@@ -3,10 +3,10 @@ use Rattle.std.proofs.Common.{◌≡◌, ℕ, ◌+◌, ◌-◌, ◌<◌, ◌≤�
 use Rattle.std.proofs.lemmas.Bool.Decides.{nat_tests}
 use Rattle.vb_host.specs.declared.report.Report.{Report}
 use Rattle.vb_host.specs.declared.seat.Seat.{Seat}
-use Rattle.vb_host.specs.Seats.{believed, counting, covers, deferring, granting, heard, is_stale, may_defer, noting, preferring, raised, served, targeted, uncounting}
+use Rattle.vb_host.specs.Seats.{believed, counting, covers, deferring, granting, heard, holding, is_stale, may_defer, noting, preferring, raised, remembered, served, targeted, uncounting}
 use Rattle.vb_host.specs.System.{Grant, Order, Process, Target}
 use Rattle.vb_host.proofs.Sound.{IsKnown, IsPast, IsPastTarget, IsSent, and_left, and_right, believes, either, eq_false, eq_true, lt_false, lt_true, or_either}
-use Rattle.vb_host.proofs.Sound.{queues}
+use Rattle.vb_host.proofs.Sound.{counts, notes, queues}
 
 -- what a change of the seat keeps
 pub record Follows (p : Process) (s t : Seat) : Type 0 where
@@ -33,6 +33,9 @@ grants_known p s w k = let m = k.memory in record {
     pages = m.pages;
     counted = omega (arith, m.counted, m.removed);
     without = λ e. omega (arith, m.counted, m.removed, m.held, m.waits_for w (sym e));
+    used = omega (arith, m.used, m.outside);
+    used_without = λ e. omega (arith, m.used, m.outside, m.held, m.waits_for w (sym e));
+    outside = m.outside;
     waiting = λ h. absurd (omega arith);
     waited = λ h. absurd (omega arith);
     waits_for = λ h. absurd (omega arith);
@@ -50,6 +53,10 @@ grants_past p s r w k h = let m = k.memory in let n = h.memory in record {
     later = λ e. n.later (omega (arith, e, m.waiting w));
     same = λ e. omega (arith, n.later (omega (arith, e, m.waiting w)));
     without = λ e f. omega (arith, n.later (omega (arith, e, m.waiting w)), n.held (omega (arith, e, f)), n.removed, m.held);
+    later_used = λ e. n.later_used (omega (arith, e, m.waiting w));
+    same_used = λ e. omega (arith, n.later_used (omega (arith, e, m.waiting w)), n.outside);
+    without_used = λ e f. omega (arith, n.later_used (omega (arith, e, m.waiting w)), n.held (omega (arith, e, f)), n.outside, m.held);
+    outside = n.outside;
   };
   targets = h.targets;
 }
@@ -63,51 +70,103 @@ grants_follow p s w k = record { known = grants_known p s w k; sent = λ o. gran
 
 -- ---- a report
 
-notes_known : (p : Process) (s : Seat) (ballooned held : ℕ) (r : Report) → IsKnown p s → s.removed ≤ r.removed → r.removed ≤ p.removed
-    → ballooned + r.removed ≤ p.balloon + p.removed → (p.deflates ≡ s.granted → ballooned + p.held + r.removed ≤ p.balloon + p.removed)
-    → (0 < held → s.granted < r.deflates) → r.deflates ≤ p.deflates → (0 < held → r.deflates ≡ p.deflates → p.held ≤ held)
-    → (0 < s.uncounted → ballooned ≡ 0) → IsKnown p (noting ballooned held r s)
-notes_known p s ballooned held r k a c b w g d f z = let m = k.memory in record {
+-- what a report says of the memory, where this many pages are shown in the balloon
+record IsShown (p : Process) (granted ballooned : ℕ) (r : Report) : Type 0 where
+  removed : r.removed ≤ p.removed
+  counted : ballooned + r.removed ≤ p.balloon + p.removed
+  without : p.deflates ≡ granted → ballooned + p.held + r.removed ≤ p.balloon + p.removed
+  used : ballooned + r.removed + p.outside ≤ p.balloon + p.removed + r.outside
+  used_without : p.deflates ≡ granted → ballooned + p.held + r.removed + p.outside ≤ p.balloon + p.removed + r.outside
+  outside : p.outside + r.removed ≤ r.outside + p.removed
+
+remembers_known : (p : Process) (s : Seat) (ballooned : ℕ) (r : Report) → IsKnown p s → s.removed ≤ r.removed → IsShown p s.granted ballooned r → (0 < s.uncounted → ballooned ≡ 0)
+    → IsKnown p (remembered ballooned r s)
+remembers_known p s ballooned r k a h z = let m = k.memory in record {
   memory = record {
     balloon = m.balloon;
     held = m.held;
     numbered = m.numbered;
     granted = m.granted;
-    removed = c;
-    pages = omega (arith, m.pages, a, c);
-    counted = omega (arith, m.counted, a, b, c);
-    without = λ e. omega (arith, m.without e, w e, a, c, m.held);
+    removed = h.removed;
+    pages = omega (arith, m.pages, a, h.removed);
+    counted = h.counted;
+    without = h.without;
+    used = h.used;
+    used_without = h.used_without;
+    outside = h.outside;
+    waiting = m.waiting;
+    waited = m.waited;
+    waits_for = m.waits_for;
+  };
+  targets = k.targets;
+  empty = z;
+}
+
+holding_known : (p : Process) (s : Seat) (held : ℕ) (r : Report) → IsKnown p s → (0 < held → s.granted < r.deflates) → r.deflates ≤ p.deflates → (0 < held → r.deflates ≡ p.deflates → p.held ≤ held)
+    → IsKnown p (holding held r s)
+holding_known p s held r k g d f = let m = k.memory in record {
+  memory = record {
+    balloon = m.balloon;
+    held = m.held;
+    numbered = m.numbered;
+    granted = m.granted;
+    removed = m.removed;
+    pages = m.pages;
+    counted = m.counted;
+    without = m.without;
+    used = m.used;
+    used_without = m.used_without;
+    outside = m.outside;
     waiting = g;
     waited = λ _. d;
     waits_for = f;
   };
   targets = k.targets;
-  empty = λ u. omega (arith, k.empty u, z u);
+  empty = k.empty;
 }
+
+notes_known : (p : Process) (s : Seat) (ballooned held : ℕ) (r : Report) → IsKnown p s → s.removed ≤ r.removed → IsShown p s.granted ballooned r
+    → (0 < held → s.granted < r.deflates) → r.deflates ≤ p.deflates → (0 < held → r.deflates ≡ p.deflates → p.held ≤ held)
+    → (0 < s.uncounted → ballooned ≡ 0) → IsKnown p (noting ballooned held r s)
+notes_known p s ballooned held r k a h g d f z = notes (λ (t : Seat). IsKnown p t) ballooned held r s
+    (λ _. holding_known p (remembered ballooned r s) held r (remembers_known p s ballooned r k a h z) g d f) (λ _. holding_known p s held r k g d f)
 
 counts_known : (p : Process) (s : Seat) (r : Report) → s.granted ≤ r.deflates → s.removed ≤ r.removed → IsKnown p s → IsPast s.granted p r → (0 < s.uncounted → r.ballooned ≡ 0)
     → IsKnown p (counting r s)
 counts_known p s r l x k h u = let n = h.memory in either (λ (t : Seat). IsKnown p t) (r.deflates == s.granted) _ _
     (λ t. let e = eq_true r.deflates s.granted t in
-    notes_known p s (r.ballooned - r.held) 0 r k x n.removed (n.same e) (λ f. n.without e f) (λ z. absurd (omega arith)) n.deflates (λ z _. absurd (omega arith)) (λ v. omega (arith, u v)))
+    notes_known p s (r.ballooned - r.held) 0 r k x
+    (record { removed = n.removed; counted = n.same e; without = λ f. n.without e f; used = n.same_used e; used_without = λ f. n.without_used e f; outside = n.outside })
+    (λ z. absurd (omega arith)) n.deflates (λ z _. absurd (omega arith)) (λ v. omega (arith, u v)))
     (λ t. let e = eq_false r.deflates s.granted t in let m : s.granted < r.deflates = omega (arith, e, l) in
-    notes_known p s r.ballooned r.held r k x n.removed (n.later m) (λ f. absurd (omega (arith, n.deflates, m, f))) (λ _. m) n.deflates (λ _ f. n.held f) u)
+    notes_known p s r.ballooned r.held r k x
+    (record {
+      removed = n.removed;
+      counted = n.later m;
+      without = λ f. absurd (omega (arith, n.deflates, m, f));
+      used = n.later_used m;
+      used_without = λ f. absurd (omega (arith, n.deflates, m, f));
+      outside = n.outside;
+    }) (λ _. m) n.deflates (λ _ f. n.held f) u)
 
 -- targets and what was granted stay
 turn_sent : (p : Process) (s : Seat) (turn deferred : ℕ) (o : Order) → IsSent p s o → IsSent p (record s { turn = turn; deferred = deferred }) o
 turn_sent p s turn deferred (Target number target) h = h
 turn_sent p s turn deferred (Grant n) h = h
 
-notes_sent : (p : Process) (s : Seat) (ballooned held : ℕ) (r : Report) (o : Order) → IsSent p s o → IsSent p (noting ballooned held r s) o
+notes_sent : (p : Process) (s : Seat) (ballooned held : ℕ) (r : Report) (o : Order) → IsSent p s o → IsSent p (holding held r (remembered ballooned r s)) o
 notes_sent p s ballooned held r (Target number target) h = h
 notes_sent p s ballooned held r (Grant n) h = h
 
+holding_sent : (p : Process) (s : Seat) (held : ℕ) (r : Report) (o : Order) → IsSent p s o → IsSent p (holding held r s) o
+holding_sent p s held r (Target number target) h = h
+holding_sent p s held r (Grant n) h = h
+
 counts_sent : (p : Process) (s : Seat) (r : Report) (o : Order) → IsSent p s o → IsSent p (counting r s) o
-counts_sent p s r o h = either (λ (x : Seat). IsSent p x o) (r.deflates == s.granted) _ _
-    (λ t. notes_sent p s (r.ballooned - r.held) 0 r o h) (λ t. notes_sent p s r.ballooned r.held r o h)
+counts_sent p s r o h = counts (λ (x : Seat). IsSent p x o) r s (λ ballooned held. notes_sent p s ballooned held r o h) (λ held. holding_sent p s held r o h)
 
 counts_past : (p : Process) (s : Seat) (r q : Report) → IsPast s.granted p q → IsPast (counting r s).granted p q
-counts_past p s r q h = either (λ (x : Seat). IsPast x.granted p q) (r.deflates == s.granted) _ _ (λ t. h) (λ t. h)
+counts_past p s r q h = counts (λ (x : Seat). IsPast x.granted p q) r s (λ _ _. h) (λ _. h)
 
 counts_follow : (p : Process) (s : Seat) (r : Report) → s.granted ≤ r.deflates → s.removed ≤ r.removed → IsKnown p s → IsPast s.granted p r → (0 < s.uncounted → r.ballooned ≡ 0)
     → Follows p s (counting r s)
@@ -123,6 +182,10 @@ empties_past p s r k h = let n = h.memory in record {
     later = λ _. omega (arith, n.removed);
     same = λ _. omega (arith, n.removed);
     without = λ _ _. omega (arith, n.removed, k.memory.held);
+    later_used = λ _. omega (arith, n.outside);
+    same_used = λ _. omega (arith, n.outside);
+    without_used = λ _ _. omega (arith, n.outside, k.memory.held);
+    outside = n.outside;
   };
   targets = record { number = h.targets.number; same = h.targets.same };
 }
@@ -274,6 +337,9 @@ uncounts_follow p s k = let m = k.memory in let n = k.targets in record {
       pages = m.pages;
       counted = omega (arith, m.removed);
       without = λ _. omega (arith, m.removed, m.held);
+      used = omega (arith, m.outside);
+      used_without = λ _. omega (arith, m.outside, m.held);
+      outside = m.outside;
       waiting = m.waiting;
       waited = m.waited;
       waits_for = m.waits_for;

@@ -16,7 +16,7 @@ use Rattle.vb_host.proofs.Grants.{ranks_within, turns_rise}
 use Rattle.vb_host.proofs.LentBy.{retargets}
 use Rattle.vb_host.proofs.Lines.{turn_place}
 use Rattle.vb_host.proofs.Places.{value_elsewhere, value_map, value_same}
-use Rattle.vb_host.proofs.Sound.{and_left, and_right, either, eq_true, lt_true}
+use Rattle.vb_host.proofs.Sound.{and_left, and_right, counts, either, eq_true, lt_true}
 
 abbrev its_deferred : Seat → ℕ
 its_deferred s = s.deferred
@@ -112,7 +112,7 @@ abbrev pub IsSamePlace : Seat → Seat → Type 0
 IsSamePlace s t = (t.preferred ≡ s.preferred) × ((t.held ≡ 0) ⊎ ((t.deferred ≡ s.deferred) × (t.turn ≡ s.turn)))
 
 counts_place : (r : Report) (s : Seat) → IsSamePlace s (counting r s)
-counts_place r s = either (λ (t : Seat). IsSamePlace s t) (r.deflates == s.granted) _ _ (λ _. (refl, inr (refl, refl))) (λ _. (refl, inr (refl, refl)))
+counts_place r s = counts (λ (t : Seat). IsSamePlace s t) r s (λ _ _. (refl, inr (refl, refl))) (λ _. (refl, inr (refl, refl)))
 
 serves_place : (s t : Seat) → IsSamePlace s t → IsSamePlace s (served t)
 serves_place s t h = either (λ (x : Seat). IsSamePlace s x) (covers t) _ _ (λ _. (h.0, inl refl)) (λ _. h)

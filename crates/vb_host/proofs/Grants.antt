@@ -7,7 +7,7 @@ use Rattle.vb_host.specs.declared.seat.Seat.{Seat}
 use Rattle.vb_host.specs.Lending.{Lending, owed, each_at, value_at, test_at, held_at, turn_at, last_turn, next_turn, is_first, may_grant}
 use Rattle.vb_host.specs.Lending.{may_overdraw, may_join_at, joined_at, line_at, pages_at, rank_at, happens}
 use Rattle.vb_host.specs.Line.{ByGrants, Stays, Granted, GrantsNone, IsFirst, IsNextGrant}
-use Rattle.vb_host.specs.Seats.{reclaimed, grown, newcomer, asked, waits, covers, granting, is_done, line_rank, place_in_line, queued, rank}
+use Rattle.vb_host.specs.Seats.{apart, grown, newcomer, asked, waits, covers, granting, is_done, line_rank, place_in_line, queued, rank}
 use Rattle.vb_host.proofs.Lines.{is_the_first, first_is, place_within, turn_place}
 use Rattle.vb_host.proofs.Lists.{test_implies, waits_at}
 use Rattle.vb_host.proofs.Places.{value_none, test_none, test_is}
@@ -246,13 +246,13 @@ pub record CanJoin (xs : List Seat) (n m : ℕ) : Type 0 where
 
 pub can_join : (xs : List Seat) (n m : ℕ) → may_join_at xs n m ≡ true → CanJoin xs n m
 can_join xs n m e =
-    let a = and_left (((nat_lt n (length xs) && nat_lt m (length xs)) && not (n == m)) && (value_at reclaimed xs m == 0)) _ e in
+    let a = and_left (((nat_lt n (length xs) && nat_lt m (length xs)) && not (n == m)) && (value_at apart xs m == 0)) _ e in
     let b = and_left ((nat_lt n (length xs) && nat_lt m (length xs)) && not (n == m)) _ a in
     let c = and_left (nat_lt n (length xs) && nat_lt m (length xs)) _ b in
     record {
       place = lt_true _ _ (and_left (nat_lt n (length xs)) _ c);
       from = lt_true _ _ (and_right (nat_lt n (length xs)) _ c);
-      few = lt_true _ _ (and_right (((nat_lt n (length xs) && nat_lt m (length xs)) && not (n == m)) && (value_at reclaimed xs m == 0)) _ e);
+      few = lt_true _ _ (and_right (((nat_lt n (length xs) && nat_lt m (length xs)) && not (n == m)) && (value_at apart xs m == 0)) _ e);
     }
 
 pub join_done : (xs ys : List Seat) (n m : ℕ) → may_join_at xs n m ≡ true → ys ≡ each_at m (λ _. newcomer 0) (each_at n (grown (pages_at xs m)) xs) → ys ≡ joined_at n m xs
@@ -296,9 +296,9 @@ zero_is n e = grind (arith, nat_tests)
 pub join_itself : (xs : List Seat) (n m : ℕ) → n ≡ m → false ≡ may_join_at xs n m
 join_itself xs n m e = and_third (nat_lt n (length xs)) (nat_lt m (length xs)) (not (n == m)) _ _ (same_not n m e)
 
-pub join_bottom : (xs : List Seat) (n m : ℕ) → 0 < value_at reclaimed xs m → false ≡ may_join_at xs n m
-join_bottom xs n m e = and_fourth (nat_lt n (length xs)) (nat_lt m (length xs)) (not (n == m)) (value_at reclaimed xs m == 0) _ (some_none _ e)
+pub join_bottom : (xs : List Seat) (n m : ℕ) → 0 < value_at apart xs m → false ≡ may_join_at xs n m
+join_bottom xs n m e = and_fourth (nat_lt n (length xs)) (nat_lt m (length xs)) (not (n == m)) (value_at apart xs m == 0) _ (some_none _ e)
 
-pub join_few : (xs : List Seat) (n m : ℕ) → n < length xs → m < length xs → (n ≡ m → ⊥) → value_at reclaimed xs m ≤ 0
+pub join_few : (xs : List Seat) (n m : ℕ) → n < length xs → m < length xs → (n ≡ m → ⊥) → value_at apart xs m ≤ 0
     → nat_lt (pages_at xs n + pages_at xs m) 4294967296 ≡ may_join_at xs n m
-join_few xs n m h k d e = and_all (nat_lt n (length xs)) (nat_lt m (length xs)) (not (n == m)) (value_at reclaimed xs m == 0) _ (below n (length xs) h) (below m (length xs) k) (apart_not n m d) (zero_is _ e)
+join_few xs n m h k d e = and_all (nat_lt n (length xs)) (nat_lt m (length xs)) (not (n == m)) (value_at apart xs m == 0) _ (below n (length xs) h) (below m (length xs) k) (apart_not n m d) (zero_is _ e)

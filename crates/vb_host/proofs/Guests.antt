@@ -4,7 +4,7 @@ use Rattle.std.proofs.lemmas.Bool.Decides.{nat_tests}
 use Rattle.std.specs.List.{AllByRecursion}
 use Rattle.vb_host.specs.declared.report.Report.{Report}
 use Rattle.vb_host.specs.declared.seat.Seat.{Seat}
-use Rattle.vb_host.specs.Seats.{deferring, reclaimed, lent, possible_target, preferring, taking_over, waits, granting, taken_over, uncounting, retargeted}
+use Rattle.vb_host.specs.Seats.{apart, deferring, lent, possible_target, preferring, taking_over, waits, granting, taken_over, uncounting, retargeted}
 use Rattle.vb_host.specs.System.{Process, snapshot, Order, Target, Grant, Deed, does, Guest, arriving, taken_up, forgotten, obeying, order_at}
 use Rattle.vb_host.specs.System.{hearing, report_at, view, viewed, changed, by_lender, sending, Limit, joined, may_join}
 use Rattle.vb_host.proofs.Changes.{Follows, follows_same, grants_follow, hears_follow, sends_grant, sends_target, targets_follow, uncounts_follow}
@@ -26,6 +26,9 @@ arriving_true pages ballooned = record {
       pages = refl;
       counted = omega arith;
       without = λ e. absurd (omega (arith, e));
+      used = omega arith;
+      used_without = λ e. absurd (omega (arith, e));
+      outside = omega arith;
       waiting = λ w. absurd (omega (arith, w));
       waited = λ w. absurd (omega (arith, w));
       waits_for = λ w _. absurd (omega (arith, w));
@@ -53,6 +56,9 @@ takes_over granted p s l w k = let m = k.memory in record {
     pages = refl;
     counted = omega arith;
     without = λ e. omega (arith, holds_none p.held p.deflates granted w e);
+    used = omega arith;
+    used_without = λ e. omega (arith, holds_none p.held p.deflates granted w e);
+    outside = omega arith;
     waiting = w;
     waited = λ _. omega arith;
     waits_for = λ _ _. omega arith;
@@ -74,7 +80,7 @@ taken_true turn g h =
 -- and it is lent no more
 pub taken_lends : (turn : ℕ) (g : Guest) → IsSound g → lent (taken_up turn g).seat ≤ lent g.seat
 taken_lends turn g h = let m = h.known.memory in let n = h.known.targets in
-    omega (arith, m.pages, m.counted, m.removed, n.least_received, n.least_read)
+    omega (arith, m.pages, m.used, m.outside, m.removed, n.least_received, n.least_read)
 
 -- ---- a step of a guest
 
@@ -170,6 +176,10 @@ grown_past s p pages balloon r h = let n = h.memory in record {
     later = λ e. omega (arith, n.later e);
     same = λ e. omega (arith, n.same e);
     without = λ e f. omega (arith, n.without e f);
+    later_used = λ e. omega (arith, n.later_used e);
+    same_used = λ e. omega (arith, n.same_used e);
+    without_used = λ e f. omega (arith, n.without_used e f);
+    outside = n.outside;
   };
   targets = h.targets;
 }
@@ -190,6 +200,9 @@ grown_known p q s t e k l = let m = k.memory in record {
     pages = omega (arith, m.pages, l.memory.pages, e);
     counted = omega (arith, m.counted);
     without = λ e. omega (arith, m.without e);
+    used = omega (arith, m.used);
+    used_without = λ e. omega (arith, m.used_without e);
+    outside = m.outside;
     waiting = m.waiting;
     waited = m.waited;
     waits_for = m.waits_for;
@@ -207,8 +220,8 @@ joined_true x g e i h = record {
 
 -- what is so where the memory at m may join guest n
 pub record CanJoinGuest (n m : ℕ) (x : Guest) : Type 0 where
-  pub apart : n ≢ m
-  pub lent_all : reclaimed x.seat ≡ 0
+  pub differ : n ≢ m
+  pub lent_all : apart x.seat ≡ 0
   pub removed : x.process.removed ≡ x.seat.removed
 
 not_same : (n m : ℕ) → not (n == m) ≡ true → n ≢ m
@@ -216,13 +229,13 @@ not_same n m e f = grind (arith, nat_tests)
 
 pub join_facts : (n m : ℕ) (x : Guest) → may_join n m x ≡ true → CanJoinGuest n m x
 join_facts n m x e =
-    let a = and_left ((not (n == m) && (reclaimed x.seat == 0)) && (x.process.held == 0)) _ e in
-    let b = and_left (not (n == m) && (reclaimed x.seat == 0)) _ a in
+    let a = and_left ((not (n == m) && (apart x.seat == 0)) && (x.process.held == 0)) _ e in
+    let b = and_left (not (n == m) && (apart x.seat == 0)) _ a in
     record {
-      apart = not_same n m (and_left (not (n == m)) _ b);
+      differ = not_same n m (and_left (not (n == m)) _ b);
       lent_all = eq_true _ _ (and_right (not (n == m)) _ b);
-      removed = eq_true _ _ (and_right ((not (n == m) && (reclaimed x.seat == 0)) && (x.process.held == 0)) _ e);
+      removed = eq_true _ _ (and_right ((not (n == m) && (apart x.seat == 0)) && (x.process.held == 0)) _ e);
     }
 
-pub joined_lends : (x g : Guest) → reclaimed x.seat ≡ 0 → lent (joined x g).seat ≤ lent g.seat + lent x.seat
+pub joined_lends : (x g : Guest) → apart x.seat ≡ 0 → lent (joined x g).seat ≤ lent g.seat + lent x.seat
 joined_lends x g e = omega (arith, e)

@@ -1,17 +1,20 @@
 -- What is lent to a guest, before and after each step.
-use Rattle.std.proofs.Common.{◌≡◌, ℕ, zero, suc, ◌+◌, ◌-◌, ◌≤◌, Bool, true, false, ◌&&◌, ◌==◌, if◌then◌else◌, List, [], ◌∷◌, max, min, arith}
+use Rattle.std.proofs.Common.{◌≡◌, ℕ, zero, suc, ◌+◌, ◌-◌, ◌≤◌, Bool, true, false, ◌&&◌, ◌==◌, nat_le, if◌then◌else◌, List, [], ◌∷◌, max, min, arith}
 use Rattle.std.proofs.lemmas.Bool.Decides.{nat_tests}
 use Rattle.vb_host.specs.declared.report.Report.{Report}
 use Rattle.vb_host.specs.declared.seat.Seat.{Seat}
 use Rattle.vb_host.specs.Seats.{asked, believed, counting, covers, granting, heard, is_stale, lent, noting, possible_target, queuing, raised, served, waits}
-use Rattle.vb_host.specs.Seats.{reclaimed, retargeted, needs_grant}
+use Rattle.vb_host.specs.Seats.{left, reclaimed, retargeted, needs_grant}
 use Rattle.vb_host.specs.System.{changed, hearing, report_at, viewed}
-use Rattle.vb_host.proofs.Sound.{either, queues}
+use Rattle.vb_host.proofs.Sound.{and_right, either, le_true, notes, queues}
 
 -- ---- no report lends anything, whatever numbers it has
 
+is_within : (fallen taken more most : ℕ) → (nat_le fallen taken && nat_le more most) ≡ true → more ≤ most
+is_within fallen taken more most e = le_true more most (and_right (nat_le fallen taken) _ e)
+
 notes_lend : (ballooned held : ℕ) (r : Report) (s : Seat) → lent (noting ballooned held r s) ≤ lent s
-notes_lend ballooned held r s = omega arith
+notes_lend ballooned held r s = notes (λ (x : Seat). lent x ≤ lent s) ballooned held r s (λ e. omega (arith, is_within (s.ballooned - ballooned) (r.removed - s.removed) (left r s + r.outside + (s.ballooned - ballooned)) (s.pages + s.outside) e)) (λ _. omega arith)
 
 counts_lend : (r : Report) (s : Seat) → lent (counting r s) ≤ lent s
 counts_lend r s = either (λ (x : Seat). lent x ≤ lent s) (r.deflates == s.granted) _ _

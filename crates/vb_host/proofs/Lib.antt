@@ -3,6 +3,7 @@ pub mod Lines
 pub mod Sound
 pub mod Changes
 pub mod Processes
+pub mod Shown
 pub mod LentBy
 pub mod Guests
 pub mod Lists
@@ -29,3 +30,4 @@ mod SystemFacts
 mod RunFacts
 mod RoundFacts
 mod PatienceFacts
+mod OutsideFacts

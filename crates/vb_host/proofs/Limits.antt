@@ -12,17 +12,17 @@ use Rattle.vb_host.specs.System.{fails, joined, may_join, joining, Step, Does, R
 use Rattle.vb_host.specs.System.{Confirms, Fails, Uncounts, Arrives, Joins, TakesOver, Forgets, Budget, Shrinks, may_shrink, Prefers, Defers, Targets, Deviates, by_lender}
 use Rattle.vb_host.proofs.Budget.{prefers_true, step_true, opened_safe}
 use Rattle.vb_host.proofs.Lists.{all_map, all_get, all_at}
-use Rattle.vb_host.proofs.Processes.{IsLeft, shrink_facts}
+use Rattle.vb_host.proofs.Processes.{IsLeft, shrink_facts, shrunk}
 use Rattle.vb_host.proofs.Sound.{IsKnown, IsSent, IsSound, either, IsTrusty, and_left, and_right, eq_true, le_true}
 
 -- a grant that was sent is within the limit
 abbrev Lets : Process → Limit → Order → Type 0
 Lets p l (Target number target) = Unit {0}
-Lets p l (Grant n) = p.deflates ≡ n → (p.pages - (p.balloon - p.held) ≤ l.force) × (p.pages - (p.balloon - p.held) ≤ l.asked)
+Lets p l (Grant n) = p.deflates ≡ n → (p.pages - (p.balloon - p.held) + p.outside ≤ l.force) × (p.pages - (p.balloon - p.held) + p.outside ≤ l.asked)
 
 pub record IsLimited (g : Guest) : Type 0 where
-  pub now : g.process.pages - g.process.balloon ≤ g.limit.force
-  pub soon : g.process.pages - g.process.balloon ≤ g.limit.asked
+  pub now : g.process.pages - g.process.balloon + g.process.outside ≤ g.limit.force
+  pub soon : g.process.pages - g.process.balloon + g.process.outside ≤ g.limit.asked
   pub sure : g.limit.sure ≤ g.limit.force
   pub sure_soon : g.limit.sure ≤ g.limit.asked
   pub orders : AllByRecursion (Lets g.process g.limit) g.orders
@@ -35,10 +35,10 @@ both P Q R (x ∷ xs) h a b = (h x a.0 b.0, both P Q R xs h a.1 b.1)
 
 -- what a change of the process keeps
 Stays : Process → Process → Seat → Limit → Type 0
-Stays p q s l = (q.pages - q.balloon ≤ l.force) × (q.pages - q.balloon ≤ l.asked) × ((o : Order) → IsSent p s o → Lets p l o → Lets q l o)
+Stays p q s l = (q.pages - q.balloon + q.outside ≤ l.force) × (q.pages - q.balloon + q.outside ≤ l.asked) × ((o : Order) → IsSent p s o → Lets p l o → Lets q l o)
 
 process_limited : (g : Guest) (q : Process) → IsSound g → IsLimited g
-    → (q.pages - q.balloon ≤ g.limit.force) × (q.pages - q.balloon ≤ g.limit.asked) × ((o : Order) → IsSent g.process g.seat o → Lets g.process g.limit o → Lets q g.limit o)
+    → (q.pages - q.balloon + q.outside ≤ g.limit.force) × (q.pages - q.balloon + q.outside ≤ g.limit.asked) × ((o : Order) → IsSent g.process g.seat o → Lets g.process g.limit o → Lets q g.limit o)
     → IsLimited (record g { process = q })
 process_limited g q t i m = record {
   now = m.0;
@@ -56,7 +56,7 @@ holds_lets : (p : Process) (s : Seat) (line pages : ℕ) (l : Limit) (o : Order)
 holds_lets p s line pages l (Target number target) k h = tt
 holds_lets p s line pages l (Grant n) k h = λ e. absurd (omega (arith, k, h, e))
 
-drops_lets : (p : Process) (l : Limit) (o : Order) → p.pages - p.balloon ≤ l.force → p.pages - p.balloon ≤ l.asked → Lets (does Drops p) l o
+drops_lets : (p : Process) (l : Limit) (o : Order) → p.pages - p.balloon + p.outside ≤ l.force → p.pages - p.balloon + p.outside ≤ l.asked → Lets (does Drops p) l o
 drops_lets p l (Target number target) a b = tt
 drops_lets p l (Grant n) a b = λ e. (omega (arith, a), omega (arith, b))
 
@@ -64,10 +64,9 @@ reads_lets : (p : Process) (l : Limit) (o : Order) → Lets p l o → Lets (does
 reads_lets p l (Target number target) h = tt
 reads_lets p l (Grant n) h = h
 
-shrinks_lets : (p : Process) (pages balloon held : ℕ) (l : Limit) (o : Order) → IsLeft pages balloon held p → Lets p l o
-    → Lets (record p { pages = pages; balloon = balloon; held = held; removed = p.removed + (p.pages - pages) }) l o
-shrinks_lets p pages balloon held l (Target number target) f h = tt
-shrinks_lets p pages balloon held l (Grant n) f h = λ e. (omega (arith, f.beyond, f.deflate, f.within, f.inside, (h e).0), omega (arith, f.beyond, f.deflate, f.within, f.inside, (h e).1))
+shrinks_lets : (p : Process) (pages balloon held outside : ℕ) (l : Limit) (o : Order) → IsLeft pages balloon held outside p → Lets p l o → Lets (shrunk pages balloon held outside p) l o
+shrinks_lets p pages balloon held outside l (Target number target) f h = tt
+shrinks_lets p pages balloon held outside l (Grant n) f h = λ e. (omega (arith, f.used, f.deflate, f.within, f.inside, (h e).0), omega (arith, f.used, f.deflate, f.within, f.inside, (h e).1))
 
 deed_limited : (deed : Deed) (g : Guest) → IsSound g → IsLimited g → IsLimited (record g { process = does deed g.process })
 deed_limited (Gives pages) g t i = process_limited g (does (Gives pages) g.process) t i
@@ -75,10 +74,9 @@ deed_limited (Gives pages) g t i = process_limited g (does (Gives pages) g.proce
 deed_limited (Holds line pages) g t i = either (λ (q : Process). IsLimited (record g { process = q })) ((g.process.held == 0) && nat_lt 0 pages && nat_le pages g.process.balloon) _ _
     (λ _. process_limited g (record g.process { held = pages; line = line; deflates = g.process.deflates + 1 }) t i (i.now, i.soon, λ o s h. holds_lets g.process g.seat line pages g.limit o t.known.memory.granted s)) (λ _. i)
 deed_limited Drops g t i = process_limited g (does Drops g.process) t i (i.now, i.soon, λ o s h. drops_lets g.process g.limit o i.now i.soon)
-deed_limited (Shrinks pages balloon held) g t i = either (λ (q : Process). IsLimited (record g { process = q })) (may_shrink pages balloon held g.process) _ _
-    (λ e. let f = shrink_facts pages balloon held g.process e in
-    process_limited g (record g.process { pages = pages; balloon = balloon; held = held; removed = g.process.removed + (g.process.pages - pages) }) t i
-    (omega (arith, i.now, f.beyond), omega (arith, i.soon, f.beyond), λ o s h. shrinks_lets g.process pages balloon held g.limit o f h)) (λ _. i)
+deed_limited (Shrinks pages balloon held outside) g t i = either (λ (q : Process). IsLimited (record g { process = q })) (may_shrink pages balloon held outside g.process) _ _
+    (λ e. let f = shrink_facts pages balloon held outside g.process e in process_limited g (shrunk pages balloon held outside g.process) t i
+    (omega (arith, i.now, f.used, f.inside), omega (arith, i.soon, f.used, f.inside), λ o s h. shrinks_lets g.process pages balloon held outside g.limit o f h)) (λ _. i)
 deed_limited Reads g t i = process_limited g (does Reads g.process) t i (i.now, i.soon, λ o s h. reads_lets g.process g.limit o h)
 
 -- ---- an order arrives
@@ -87,7 +85,7 @@ same_lets : (p : Process) (number target : ℕ) (l : Limit) (o : Order) → Lets
 same_lets p number target l (Target n t) h = tt
 same_lets p number target l (Grant n) h = h
 
-let_go_lets : (p : Process) (l : Limit) (o : Order) → p.pages - (p.balloon - p.held) ≤ l.force → p.pages - (p.balloon - p.held) ≤ l.asked → Lets (record p { balloon = p.balloon - p.held; held = 0 }) l o
+let_go_lets : (p : Process) (l : Limit) (o : Order) → p.pages - (p.balloon - p.held) + p.outside ≤ l.force → p.pages - (p.balloon - p.held) + p.outside ≤ l.asked → Lets (record p { balloon = p.balloon - p.held; held = 0 }) l o
 let_go_lets p l (Target n t) a b = tt
 let_go_lets p l (Grant n) a b = λ e. (omega (arith, a), omega (arith, b))
 
@@ -109,7 +107,8 @@ seat_limited : (g : Guest) (s : Seat) → IsLimited g → IsLimited (record g { 
 seat_limited g s i = record { now = i.now; soon = i.soon; sure = i.sure; sure_soon = i.sure_soon; orders = i.orders }
 
 grant_within : (p : Process) (s : Seat) (l : Limit) → IsKnown p s → lent s ≤ l.sure → l.sure ≤ l.force → l.sure ≤ l.asked → Lets p l (Grant s.granted)
-grant_within p s l k a b c = λ e. (omega (arith, k.memory.without e, k.memory.pages, k.memory.removed, a, b), omega (arith, k.memory.without e, k.memory.pages, k.memory.removed, a, c))
+grant_within p s l k a b c = λ e. let m = k.memory in
+    (omega (arith, m.used_without e, m.pages, m.removed, m.held, m.balloon, a, b), omega (arith, m.used_without e, m.pages, m.removed, m.held, m.balloon, a, c))
 
 sends_lets : (p : Process) (s : Seat) (b : Bool) (l : Limit) (orders : List Order) → IsKnown p s → l.sure ≤ l.force → l.sure ≤ l.asked
     → AllByRecursion (Lets p l) orders → AllByRecursion (Lets p l) (sending b l s orders)
@@ -130,13 +129,13 @@ send_limited g t i = record {
 
 write_lets : (p : Process) (s : Seat) (l : Limit) (o : Order) → IsKnown p s → IsSent p s o → Lets p l o → Lets p (record l { asked = lent s; sure = min l.sure (lent s); writing = true }) o
 write_lets p s l (Target n t) k i h = tt
-write_lets p s l (Grant n) k i h = λ e. ((h e).0, omega (arith, k.memory.pages, k.memory.removed, k.memory.without (omega (arith, i, e, k.memory.granted)), k.memory.counted))
+write_lets p s l (Grant n) k i h = λ e. let m = k.memory in ((h e).0, omega (arith, m.pages, m.removed, m.held, m.balloon, m.used_without (omega (arith, i, e, m.granted))))
 
 write_limited : (g : Guest) → IsSound g → IsLimited g → IsLimited (record g { limit = writes (lent g.seat) g.limit })
 write_limited g t i = either (λ (l : Limit). IsLimited (record g { limit = l })) g.limit.writing _ _ (λ _. i)
     (λ _. record {
       now = i.now;
-      soon = omega (arith, t.known.memory.pages, t.known.memory.counted, t.known.memory.removed);
+      soon = omega (arith, t.known.memory.pages, t.known.memory.used, t.known.memory.removed, t.known.memory.balloon);
       sure = omega (arith, i.sure);
       sure_soon = omega arith;
       orders = both (IsSent g.process g.seat) (Lets g.process g.limit) _ g.orders (λ o s h. write_lets g.process g.seat g.limit o t.known s h) t.orders i.orders;
@@ -213,7 +212,7 @@ either_limited : (b : Bool) (h k : Host) → AllByRecursion IsBounded k.guests �
 either_limited true h k f a = f
 either_limited false h k f a = a
 
-joined_lets : (p q : Process) (l k : Limit) (w : Bool) (o : Order) → p.held ≤ p.balloon → q.pages - q.balloon ≤ k.force → q.pages - q.balloon ≤ k.asked → Lets p l o
+joined_lets : (p q : Process) (l k : Limit) (w : Bool) (o : Order) → p.held ≤ p.balloon → q.pages - q.balloon + q.outside ≤ k.force → q.pages - q.balloon + q.outside ≤ k.asked → Lets p l o
     → Lets (record p { pages = p.pages + q.pages; balloon = p.balloon + q.balloon }) (record { force = l.force + k.force; asked = l.asked + k.asked; sure = l.sure + k.sure; writing = w }) o
 joined_lets p q l k w (Target n t) a b c h = tt
 joined_lets p q l k w (Grant n) a b c h = λ e. (omega (arith, a, b, (h e).0), omega (arith, a, c, (h e).1))

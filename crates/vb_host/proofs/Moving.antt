@@ -9,13 +9,14 @@ use Rattle.vb_host.specs.declared.seat.Seat.{Seat}
 use Rattle.vb_host.specs.Lending.{owed, value_at, test_at, held_at, is_first, may_grant}
 use Rattle.vb_host.specs.Line.{GrantsNone}
 use Rattle.vb_host.specs.Promises.{IsQuiet, HasGiven, HasTold, keeps, all_keep}
-use Rattle.vb_host.specs.Seats.{believed, is_uncounted, lent, asked, waits, covers, granting, served, counting, raised, queuing, is_stale, heard, due_target}
+use Rattle.vb_host.specs.Seats.{believed, is_uncounted, lent, asked, waits, covers, granting, served, counting, raised, queuing, is_stale, heard, due_target, is_news, noting}
 use Rattle.vb_host.specs.System.{Process, Guest, Step, seats, lending, snapshot, opened, through, view, viewed, at}
 use Rattle.vb_host.proofs.Budget.{opened_safe, run_true}
 use Rattle.vb_host.proofs.Changes.{is_fresh}
 use Rattle.vb_host.proofs.Lines.{by_waits}
 use Rattle.vb_host.proofs.Lists.{waits_at, all_get, some_is}
-use Rattle.vb_host.proofs.Sound.{believes, either, IsKnown, and_left, eq_false, eq_true, lt_false, queues, IsTrusty}
+use Rattle.vb_host.proofs.Shown.{IsSeen, news, news_held, seen_all, seen_empty}
+use Rattle.vb_host.proofs.Sound.{believes, counts, either, notes, IsKnown, and_left, eq_false, eq_true, lt_false, queues, IsTrusty}
 use Rattle.vb_host.proofs.Toward.{waits_by}
 
 both_false : (a b c d : ℕ) → ((a == b) && (c == d)) ≡ false → a ≡ b → c ≡ d → ⊥
@@ -43,7 +44,7 @@ SameTargets s t = (t.target ≡ s.target) × (t.target_number ≡ s.target_numbe
 pub targets_stay : (r : Report) (s : Seat) → SameTargets s (served (counting r s))
 targets_stay r s = either (λ (x : Seat). SameTargets s x) (covers (counting r s)) _ _ (λ _. counting_stays r s) (λ _. counting_stays r s) where
   counting_stays : (r : Report) (s : Seat) → SameTargets s (counting r s)
-  counting_stays r s = either (λ (x : Seat). SameTargets s x) (r.deflates == s.granted) _ _ (λ _. (refl, refl, refl)) (λ _. (refl, refl, refl))
+  counting_stays r s = counts (λ (x : Seat). SameTargets s x) r s (λ _ _. (refl, refl, refl)) (λ _. (refl, refl, refl))
 
 -- a report that isn't stale, of a driver that has read the last target, raises the least one to it
 heard_least : (turn : ℕ) (r : Report) (s : Seat) → s.granted ≤ r.deflates → s.removed ≤ r.removed → s.least_target ≤ s.target
@@ -58,7 +59,7 @@ not_due r s e = grind (arith, nat_tests)
 -- ---- what each keeps
 
 kept : (g : Guest) (b u : Bool) → waits g.seat ≡ b → is_uncounted g.seat ≡ u → g.seat.least_target ≡ g.seat.target → (b ≡ false → g.seat.uncounted ≡ 0 → g.seat.target ≤ g.seat.ballooned)
-    → lent g.seat ≤ (if b then lent (granting g.seat) else if u then g.seat.pages else g.seat.pages - g.seat.target)
+    → lent g.seat ≤ (if b then lent (granting g.seat) else if u then g.seat.pages + g.seat.outside else g.seat.pages + g.seat.outside - g.seat.target)
 kept g true u e f l h = omega arith
 kept g false true e f l h = omega arith
 kept g false false e f l h = omega (arith, l, h refl (omega (arith, lt_false 0 g.seat.uncounted f)))
@@ -165,18 +166,25 @@ nobody_waits frames overdraft sizes steps n g q h l none at =
 
 -- what counting, serving, raising and queueing leave of this, where this many pages count
 abbrev Tells : Process → ℕ → Seat → Type 0
-Tells p b x = (p.deflates ≢ x.granted → (x.held ≡ p.held) × (b ≤ x.ballooned)) × (b - p.held ≤ x.ballooned) × (x.pages ≡ p.pages) × (x.line ≡ p.line)
+Tells p b x = (p.deflates ≢ x.granted → (x.held ≡ p.held) × (b ≤ x.ballooned)) × (b - p.held ≤ x.ballooned) × (x.pages ≡ p.pages) × (x.line ≡ p.line) × (x.outside ≡ p.outside)
 
 abbrev with_balloon : Process → ℕ → Report
 with_balloon p b = record (snapshot p) { ballooned = b }
 
-counts_hold : (p : Process) (b : ℕ) (s : Seat) → IsKnown p s → Tells p b (counting (with_balloon p b) s)
-counts_hold p b s k = let m = k.memory in either (λ (x : Seat). Tells p b x) (p.deflates == s.granted) _ _
-    (λ e. (λ f. absurd (f (eq_true p.deflates s.granted e)), omega arith, omega (arith, m.pages, m.removed), refl))
-    (λ _. (λ _. (refl, omega arith), omega arith, omega (arith, m.pages, m.removed), refl))
+notes_hold : (p : Process) (b ballooned held : ℕ) (s : Seat) → IsKnown p s → is_news ballooned (with_balloon p b) s ≡ true → (p.deflates ≢ s.granted → (held ≡ p.held) × (b ≤ ballooned))
+    → b - p.held ≤ ballooned → Tells p b (noting ballooned held (with_balloon p b) s)
+notes_hold p b ballooned held s k e h l = let m = k.memory in notes (λ (x : Seat). Tells p b x) ballooned held (with_balloon p b) s
+    (λ _. (h, l, omega (arith, m.pages, m.removed), refl, refl)) (λ f. absurd (not_so (is_news ballooned (with_balloon p b) s) e f)) where
+      not_so : (c : Bool) → c ≡ true → c ≡ false → ⊥
+      not_so c e f = absurd (cc)
+
+counts_hold : (p : Process) (b : ℕ) (s : Seat) → IsKnown p s → IsSeen p b s → Tells p b (counting (with_balloon p b) s)
+counts_hold p b s k n = either (λ (x : Seat). Tells p b x) (p.deflates == s.granted) _ _
+    (λ e. let f = eq_true p.deflates s.granted e in notes_hold p b (b - p.held) 0 s k (news_held p b s k n f) (λ g. absurd (g f)) (omega arith))
+    (λ _. notes_hold p b b p.held s k (news p b s k n) (λ _. (refl, omega arith)) (omega arith))
 
 serves_hold : (p : Process) (b : ℕ) (s : Seat) → s.deflates ≡ p.deflates → b - p.held ≤ s.ballooned - s.held → Tells p b s → Tells p b (served s)
-serves_hold p b s e m h = either (λ (x : Seat). Tells p b x) (covers s) _ _ (λ _. (λ f. absurd (f (sym e)), m, h.2, h.3)) (λ _. h)
+serves_hold p b s e m h = either (λ (x : Seat). Tells p b x) (covers s) _ _ (λ _. (λ f. absurd (f (sym e)), m, h.2, h.3, h.4)) (λ _. h)
 
 raises_hold : (p : Process) (b : ℕ) (r : Report) (s : Seat) → Tells p b s → Tells p b (raised r s)
 raises_hold p b r s h = either (λ (x : Seat). Tells p b x) ((r.target_number == s.target_number) && (r.read_target == s.target)) _ _ (λ _. h) (λ _. h)
@@ -184,20 +192,27 @@ raises_hold p b r s h = either (λ (x : Seat). Tells p b x) ((r.target_number ==
 queues_hold : (p : Process) (b turn : ℕ) (old s : Seat) → Tells p b s → Tells p b (queuing turn old s)
 queues_hold p b turn old s h = queues (λ (x : Seat). Tells p b x) turn old s h (λ _. h)
 
-counted_so : (p : Process) (b : ℕ) (s : Seat) → ((counting (with_balloon p b) s).deflates ≡ p.deflates)
-    × (b - p.held ≤ (counting (with_balloon p b) s).ballooned - (counting (with_balloon p b) s).held)
-counted_so p b s = either (λ (x : Seat). (x.deflates ≡ p.deflates) × (b - p.held ≤ x.ballooned - x.held)) (p.deflates == s.granted) _ _
-    (λ _. (refl, omega arith)) (λ _. (refl, omega arith))
+abbrev IsSo : Process → ℕ → Seat → Type 0
+IsSo p b x = (x.deflates ≡ p.deflates) × (b - p.held ≤ x.ballooned - x.held)
 
-counted_holds : (p : Process) (b turn : ℕ) (s : Seat) → IsKnown p s → Tells p b (queuing turn s (raised (snapshot p) (served (counting (with_balloon p b) s))))
-counted_holds p b turn s k = let c = counted_so p b s in let x = counting (with_balloon p b) s in queues_hold p b turn s (raised (snapshot p) (served x))
-    (raises_hold p b (snapshot p) (served x) (serves_hold p b x c.0 c.1 (counts_hold p b s k)))
+notes_so : (p : Process) (b ballooned held : ℕ) (s : Seat) → is_news ballooned (with_balloon p b) s ≡ true → b - p.held ≤ ballooned - held → IsSo p b (noting ballooned held (with_balloon p b) s)
+notes_so p b ballooned held s e l = notes (λ (x : Seat). IsSo p b x) ballooned held (with_balloon p b) s (λ _. (refl, l)) (λ f. absurd (not_so (is_news ballooned (with_balloon p b) s) e f)) where
+  not_so : (c : Bool) → c ≡ true → c ≡ false → ⊥
+  not_so c e f = absurd (cc)
+
+counted_so : (p : Process) (b : ℕ) (s : Seat) → IsKnown p s → IsSeen p b s → IsSo p b (counting (with_balloon p b) s)
+counted_so p b s k n = either (λ (x : Seat). IsSo p b x) (p.deflates == s.granted) _ _
+    (λ e. notes_so p b (b - p.held) 0 s (news_held p b s k n (eq_true p.deflates s.granted e)) (omega arith)) (λ _. notes_so p b b p.held s (news p b s k n) (omega arith))
+
+counted_holds : (p : Process) (b turn : ℕ) (s : Seat) → IsKnown p s → IsSeen p b s → Tells p b (queuing turn s (raised (snapshot p) (served (counting (with_balloon p b) s))))
+counted_holds p b turn s k n = let c = counted_so p b s k n in let x = counting (with_balloon p b) s in queues_hold p b turn s (raised (snapshot p) (served x))
+    (raises_hold p b (snapshot p) (served x) (serves_hold p b x c.0 c.1 (counts_hold p b s k n)))
 
 hears_hold : (p : Process) (turn : ℕ) (s : Seat) → IsKnown p s → Tells p (believed s (snapshot p)).ballooned (heard turn (snapshot p) s)
 hears_hold p turn s k = either (λ (x : Seat). Tells p (believed s (snapshot p)).ballooned x) (is_stale (snapshot p) s) _ _
     (λ e. absurd (is_fresh (snapshot p) s k.memory.granted k.memory.removed e))
     (λ _. believes (λ (q : Report). Tells p q.ballooned (queuing turn s (raised (snapshot p) (served (counting q s))))) (snapshot p) s
-    (λ _. counted_holds p 0 turn s k) (λ _. counted_holds p p.balloon turn s k))
+    (λ u. counted_holds p 0 turn s k (seen_empty p s k (k.empty u))) (λ _. counted_holds p p.balloon turn s k (seen_all p s k)))
 
 believed_balloon : (r : Report) (s : Seat) → s.uncounted ≡ 0 → (believed s r).ballooned ≡ r.ballooned
 believed_balloon r s e = believes (λ (q : Report). q.ballooned ≡ r.ballooned) r s (λ u. absurd (omega (arith, e, u))) (λ _. refl)
@@ -219,6 +234,7 @@ has_told p turn s k = let h = hears_hold p turn s k in record {
   without = λ u. omega (arith, h.1, believed_balloon (snapshot p) s u);
   pages = h.2;
   line = h.3;
+  outside = h.4;
 }
 
 pub reports_tell : (frames overdraft : ℕ) (sizes : List ℕ) (steps : List Step) (n turn : ℕ) (g : Guest)

@@ -16,7 +16,7 @@ waiting line turn = record (newcomer 60) { ballooned = 30; held = 6; line = line
 
 -- what its process reports, with the number of the deflate and its line
 abbrev report : ℕ → ℕ → Report
-report deflates line = record { ballooned = 30; target = 60; read_target = 60; held = 6; line = line; target_number = 0; deflates = deflates; removed = 0 }
+report deflates line = record { ballooned = 30; target = 60; read_target = 60; held = 6; line = line; outside = 0; target_number = 0; deflates = deflates; removed = 0 }
 
 -- ---- who may, and what it does
 

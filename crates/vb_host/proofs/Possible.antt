@@ -30,7 +30,7 @@ again : (s : Seat) (room less number : ℕ) → s.ballooned ≤ s.pages → less
     → possible_target room s ≡ possible_target less (with_target s (possible_target room s) number)
 again s room less number w l = sym (possible_again s.wanted (reclaimed s) (possible_target room s) (if needs_grant s then 0 else room) (if needs_grant s then 0 else less)
     (reclaimed (with_target s (possible_target room s) number)) refl (lowered s (possible_target room s))
-    (room_by (needs_grant s) room less s.pages (reclaimed s) (reclaimed (with_target s (possible_target room s) number)) (omega (arith, w)) (lowers s (possible_target room s)) l)) where
+    (room_by (needs_grant s) room less (s.pages + s.outside) (reclaimed s) (reclaimed (with_target s (possible_target room s) number)) (omega (arith, w)) (lowers s (possible_target room s)) l)) where
       lowered : (s : Seat) (t : ℕ) → min s.ballooned (min s.least_target t) ≡ min (reclaimed s) t
       lowered s t = omega arith
 
@@ -64,7 +64,7 @@ all_possible room less (x ∷ xs) l w = (single x room less w.0 (omega (arith, l
 
 pub lends_more : (room : ℕ) (s : Seat) → lent s ≤ lent (retargeted room s)
 lends_more room s = retargets (λ (x : Seat). lent s ≤ lent x) room s (omega arith) (λ number. lends_more_by s (possible_target room s)) where
-  lends_more_by : (s : Seat) (t : ℕ) → lent s ≤ s.pages - min s.ballooned (min s.least_target t)
+  lends_more_by : (s : Seat) (t : ℕ) → lent s ≤ s.pages + s.outside - min s.ballooned (min s.least_target t)
   lends_more_by s t = omega arith
 
 waits_reclaims : (b : Bool) (w R room : ℕ) → b ≡ true → R ≤ max w (R - (if b then 0 else room))

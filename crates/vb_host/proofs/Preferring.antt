@@ -16,7 +16,7 @@ use Rattle.vb_host.proofs.LentBy.{retargets}
 use Rattle.vb_host.proofs.Lines.{first_is, first_place, turn_place}
 use Rattle.vb_host.proofs.Passing.{lends_no_more_by, none_is_passed, not_after}
 use Rattle.vb_host.proofs.Places.{value_elsewhere, value_same}
-use Rattle.vb_host.proofs.Sound.{either, eq_false, eq_true, queues}
+use Rattle.vb_host.proofs.Sound.{counts, either, eq_false, eq_true, queues}
 use Rattle.vb_host.proofs.Targeting.{at_length}
 
 -- ---- no guest is preferred, one after another
@@ -72,7 +72,7 @@ becomes_preferred l n h = by_place n l.seats h where
 -- ---- it stays so
 
 pub counts_preferred : (r : Report) (s : Seat) → (counting r s).preferred ≡ s.preferred
-counts_preferred r s = either (λ (x : Seat). x.preferred ≡ s.preferred) (r.deflates == s.granted) _ _ (λ _. refl) (λ _. refl)
+counts_preferred r s = counts (λ (x : Seat). x.preferred ≡ s.preferred) r s (λ _ _. refl) (λ _. refl)
 
 pub serves_preferred : (s : Seat) → (served s).preferred ≡ s.preferred
 serves_preferred s = either (λ (x : Seat). x.preferred ≡ s.preferred) (covers s) _ _ (λ _. refl) (λ _. refl)

@@ -33,6 +33,9 @@ gives s p pages k = let m = k.memory in record {
       pages = m.pages;
       counted = omega (arith, m.counted, m.balloon);
       without = λ e. omega (arith, m.without e, m.balloon);
+      used = omega (arith, m.used, m.balloon);
+      used_without = λ e. omega (arith, m.used_without e, m.balloon);
+      outside = m.outside;
       waiting = m.waiting;
       waited = m.waited;
       waits_for = m.waits_for;
@@ -49,6 +52,10 @@ gives s p pages k = let m = k.memory in record {
       later = λ e. omega (arith, n.later e, m.balloon);
       same = λ e. omega (arith, n.same e, m.balloon);
       without = λ e f. omega (arith, n.without e f, m.balloon);
+      later_used = λ e. omega (arith, n.later_used e, m.balloon);
+      same_used = λ e. omega (arith, n.same_used e, m.balloon);
+      without_used = λ e f. omega (arith, n.without_used e f, m.balloon);
+      outside = n.outside;
     };
     targets = h.targets;
   };
@@ -66,6 +73,9 @@ holds s p line pages l k = let m = k.memory in record {
       pages = m.pages;
       counted = m.counted;
       without = λ f. absurd (omega (arith, m.granted, f));
+      used = m.used;
+      used_without = λ f. absurd (omega (arith, m.granted, f));
+      outside = m.outside;
       waiting = m.waiting;
       waited = λ w. omega (arith, m.waited w);
       waits_for = λ w f. absurd (omega (arith, m.waited w, f));
@@ -82,6 +92,10 @@ holds s p line pages l k = let m = k.memory in record {
       later = n.later;
       same = n.same;
       without = λ _ f. absurd (omega (arith, m.granted, f));
+      later_used = n.later_used;
+      same_used = n.same_used;
+      without_used = λ _ f. absurd (omega (arith, m.granted, f));
+      outside = n.outside;
     };
     targets = h.targets;
   };
@@ -99,6 +113,9 @@ drops s p k = let m = k.memory in record {
       pages = m.pages;
       counted = m.counted;
       without = λ _. omega (arith, m.counted);
+      used = m.used;
+      used_without = λ _. omega (arith, m.used);
+      outside = m.outside;
       waiting = m.waiting;
       waited = m.waited;
       waits_for = λ _ _. omega arith;
@@ -108,7 +125,18 @@ drops s p k = let m = k.memory in record {
   };
   sent = λ o h. received_sent s p (does Drops p) o (omega arith) h;
   past = λ r h. let n = h.memory in record {
-    memory = record { deflates = n.deflates; held = λ _. omega arith; removed = n.removed; later = n.later; same = n.same; without = λ e _. omega (arith, n.same e) };
+    memory = record {
+      deflates = n.deflates;
+      held = λ _. omega arith;
+      removed = n.removed;
+      later = n.later;
+      same = n.same;
+      without = λ e _. omega (arith, n.same e);
+      later_used = n.later_used;
+      same_used = n.same_used;
+      without_used = λ e _. omega (arith, n.same_used e);
+      outside = n.outside;
+    };
     targets = h.targets;
   };
 }
@@ -124,18 +152,20 @@ reads s p k = let m = k.targets in record {
   past = λ r h. record { memory = h.memory; targets = record { number = h.targets.number; same = λ t _ _ f. f } };
 }
 
--- What is left of its memory, its balloon and its deflate.
-pub record IsLeft (pages balloon held : ℕ) (p : Process) : Type 0 where
+-- What is left of its memory, its balloon and its deflate, and what is outside.
+pub record IsLeft (pages balloon held outside : ℕ) (p : Process) : Type 0 where
   pub memory : pages ≤ p.pages
   pub ballooned : balloon ≤ p.balloon
   pub deflate : held ≤ p.held
   pub inside : balloon ≤ pages
   pub within : held ≤ balloon
   pub beyond : pages + p.balloon ≤ p.pages + balloon
+  pub used : pages + outside + p.balloon ≤ p.pages + p.outside + balloon
 
-pub shrink_facts : (pages balloon held : ℕ) (p : Process) → may_shrink pages balloon held p ≡ true → IsLeft pages balloon held p
-shrink_facts pages balloon held p e =
-    let a = and_left ((((nat_le pages p.pages && nat_le balloon p.balloon) && nat_le held p.held) && nat_le balloon pages) && nat_le held balloon) _ e in
+pub shrink_facts : (pages balloon held outside : ℕ) (p : Process) → may_shrink pages balloon held outside p ≡ true → IsLeft pages balloon held outside p
+shrink_facts pages balloon held outside p e =
+    let g = and_left (((((nat_le pages p.pages && nat_le balloon p.balloon) && nat_le held p.held) && nat_le balloon pages) && nat_le held balloon) && nat_le (pages + p.balloon) (p.pages + balloon)) _ e in
+    let a = and_left ((((nat_le pages p.pages && nat_le balloon p.balloon) && nat_le held p.held) && nat_le balloon pages) && nat_le held balloon) _ g in
     let b = and_left (((nat_le pages p.pages && nat_le balloon p.balloon) && nat_le held p.held) && nat_le balloon pages) _ a in
     let c = and_left ((nat_le pages p.pages && nat_le balloon p.balloon) && nat_le held p.held) _ b in
     let d = and_left (nat_le pages p.pages && nat_le balloon p.balloon) _ c in
@@ -145,12 +175,15 @@ shrink_facts pages balloon held p e =
       deflate = le_true _ _ (and_right (nat_le pages p.pages && nat_le balloon p.balloon) _ c);
       inside = le_true _ _ (and_right ((nat_le pages p.pages && nat_le balloon p.balloon) && nat_le held p.held) _ b);
       within = le_true _ _ (and_right (((nat_le pages p.pages && nat_le balloon p.balloon) && nat_le held p.held) && nat_le balloon pages) _ a);
-      beyond = le_true _ _ (and_right ((((nat_le pages p.pages && nat_le balloon p.balloon) && nat_le held p.held) && nat_le balloon pages) && nat_le held balloon) _ e);
+      beyond = le_true _ _ (and_right ((((nat_le pages p.pages && nat_le balloon p.balloon) && nat_le held p.held) && nat_le balloon pages) && nat_le held balloon) _ g);
+      used = le_true _ _ (and_right (((((nat_le pages p.pages && nat_le balloon p.balloon) && nat_le held p.held) && nat_le balloon pages) && nat_le held balloon) && nat_le (pages + p.balloon) (p.pages + balloon)) _ e);
     }
 
-shrinks : (s : Seat) (p : Process) (pages balloon held : ℕ) → IsLeft pages balloon held p → IsKnown p s
-    → Moves s p (record p { pages = pages; balloon = balloon; held = held; removed = p.removed + (p.pages - pages) })
-shrinks s p pages balloon held f k = let m = k.memory in record {
+abbrev pub shrunk : ℕ → ℕ → ℕ → ℕ → Process → Process
+shrunk pages balloon held outside p = record p { pages = pages; balloon = balloon; held = held; removed = p.removed + (p.pages - pages); outside = outside }
+
+shrinks : (s : Seat) (p : Process) (pages balloon held outside : ℕ) → IsLeft pages balloon held outside p → IsKnown p s → Moves s p (shrunk pages balloon held outside p)
+shrinks s p pages balloon held outside f k = let m = k.memory in record {
   known = record {
     memory = record {
       balloon = f.inside;
@@ -161,6 +194,9 @@ shrinks s p pages balloon held f k = let m = k.memory in record {
       pages = omega (arith, m.pages, f.memory);
       counted = omega (arith, m.counted, f.memory, f.beyond);
       without = λ e. omega (arith, m.without e, f.memory, f.beyond, f.deflate);
+      used = omega (arith, m.used, f.memory, f.used);
+      used_without = λ e. omega (arith, m.used_without e, f.memory, f.used, f.deflate);
+      outside = omega (arith, m.outside, f.memory, f.used, f.ballooned);
       waiting = m.waiting;
       waited = m.waited;
       waits_for = λ w e. omega (arith, m.waits_for w e, f.deflate);
@@ -168,7 +204,7 @@ shrinks s p pages balloon held f k = let m = k.memory in record {
     targets = k.targets;
     empty = k.empty;
   };
-  sent = λ o h. received_sent s p (record p { pages = pages; balloon = balloon; held = held; removed = p.removed + (p.pages - pages) }) o (omega arith) h;
+  sent = λ o h. received_sent s p (shrunk pages balloon held outside p) o (omega arith) h;
   past = λ r h. let n = h.memory in record {
     memory = record {
       deflates = n.deflates;
@@ -177,6 +213,10 @@ shrinks s p pages balloon held f k = let m = k.memory in record {
       later = λ e. omega (arith, n.later e, f.memory, f.beyond);
       same = λ e. omega (arith, n.same e, f.memory, f.beyond);
       without = λ e g. omega (arith, n.without e g, f.memory, f.beyond, f.deflate);
+      later_used = λ e. omega (arith, n.later_used e, f.memory, f.used);
+      same_used = λ e. omega (arith, n.same_used e, f.memory, f.used);
+      without_used = λ e g. omega (arith, n.without_used e g, f.memory, f.used, f.deflate);
+      outside = omega (arith, n.outside, f.memory, f.used, f.ballooned);
     };
     targets = h.targets;
   };
@@ -191,8 +231,8 @@ does_moves s p (Holds line pages) k = either (λ (x : Process). Moves s p x) ((p
     (λ t. holds s p line pages (hold_facts p pages t) k) (λ _. moves_same s p k)
 does_moves s p Drops k = drops s p k
 does_moves s p Reads k = reads s p k
-does_moves s p (Shrinks pages balloon held) k = either (λ (x : Process). Moves s p x) (may_shrink pages balloon held p) _ _
-    (λ t. shrinks s p pages balloon held (shrink_facts pages balloon held p t) k) (λ _. moves_same s p k)
+does_moves s p (Shrinks pages balloon held outside) k = either (λ (x : Process). Moves s p x) (may_shrink pages balloon held outside p) _ _
+    (λ t. shrinks s p pages balloon held outside (shrink_facts pages balloon held outside p t) k) (λ _. moves_same s p k)
 
 -- ---- an order arrives
 
@@ -212,7 +252,7 @@ receives s p number target l i k = let m = k.targets in record {
 }
 
 lets_go : (s : Seat) (p : Process) → p.deflates ≤ s.granted → IsKnown p s → Moves s p (record p { balloon = p.balloon - p.held; held = 0 })
-lets_go s p l k = let m = k.memory in let same : p.deflates ≡ s.granted = omega (arith, m.granted, l) in let w = m.without same in record {
+lets_go s p l k = let m = k.memory in let same : p.deflates ≡ s.granted = omega (arith, m.granted, l) in let w = m.without same in let u = m.used_without same in record {
   known = record {
     memory = record {
       balloon = omega (arith, m.balloon);
@@ -223,6 +263,9 @@ lets_go s p l k = let m = k.memory in let same : p.deflates ≡ s.granted = omeg
       pages = m.pages;
       counted = omega (arith, w, m.held);
       without = λ _. omega (arith, w, m.held);
+      used = omega (arith, u, m.held);
+      used_without = λ _. omega (arith, u, m.held);
+      outside = m.outside;
       waiting = m.waiting;
       waited = m.waited;
       waits_for = λ _ _. omega arith;
@@ -239,6 +282,10 @@ lets_go s p l k = let m = k.memory in let same : p.deflates ≡ s.granted = omeg
       later = λ e. absurd (omega (arith, n.deflates, e, same));
       same = λ e. omega (arith, n.without e same, m.held);
       without = λ e _. omega (arith, n.without e same, m.held);
+      later_used = λ e. absurd (omega (arith, n.deflates, e, same));
+      same_used = λ e. omega (arith, n.without_used e same, m.held);
+      without_used = λ e _. omega (arith, n.without_used e same, m.held);
+      outside = n.outside;
     };
     targets = h.targets;
   };
@@ -261,6 +308,10 @@ reports_now s p k = record {
     later = λ _. omega arith;
     same = λ _. omega arith;
     without = λ _ _. omega (arith, k.memory.held);
+    later_used = λ _. omega arith;
+    same_used = λ _. omega arith;
+    without_used = λ _ _. omega (arith, k.memory.held);
+    outside = omega arith;
   };
   targets = record { number = omega arith; same = λ t _ e _. e };
 }

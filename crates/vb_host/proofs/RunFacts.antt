@@ -47,7 +47,7 @@ drops = Does 0 (Holds 1 1) ∷ Reports 0 ∷ Hears 0 0 ∷ Does 0 Drops ∷ Repo
 
 -- A page of the second is taken away, which wasn't in its balloon.
 abbrev shrinks : List Step
-shrinks = Does 1 (Shrinks 3 1 0) ∷ Reports 1 ∷ Hears 1 0 ∷ []
+shrinks = Does 1 (Shrinks 3 1 0 0) ∷ Reports 1 ∷ Hears 1 0 ∷ []
 
 -- A page is added to it, waits as a guest of its own, and joins it.
 abbrev joins : List Step
@@ -257,7 +257,7 @@ not_ordinary = (λ l. l, λ l. l, λ l. l, λ l. l, λ l. l)
 -- ---- the second guest isn't strict: it uses all its pages, and says that they are in its balloon; the first is lent no more than there is
 
 abbrev lying : Process
-lying = record { pages = 4; balloon = 0; target = 9; read_target = 9; held = 0; line = 0; target_number = 0; deflates = 9; removed = 0 }
+lying = record { pages = 4; balloon = 0; target = 9; read_target = 9; held = 0; line = 0; target_number = 0; deflates = 9; removed = 0; outside = 0 }
 
 abbrev deviates : Host
 deviates = through (Deviates 1 lying (snapshot (record lying { balloon = 4 }) ∷ []) ∷ Hears 1 0 ∷ []) after_lacks

@@ -6,7 +6,7 @@ use Rattle.vb_host.specs.declared.report.Report.{Report}
 use Rattle.vb_host.specs.declared.seat.Seat.{Seat}
 use Rattle.vb_host.specs.Lending.{value_at, pages_at, each_at, may_grant, may_overdraw, next_turn, preferring_at, room}
 use Rattle.vb_host.specs.Promises.{IsTheLender, IsKnownAt}
-use Rattle.vb_host.specs.Seats.{deferring, reclaimed, grown, granting, heard, newcomer, preferring, taken_over, uncounting, queued, retargeted, starting}
+use Rattle.vb_host.specs.Seats.{deferring, apart, grown, granting, heard, newcomer, preferring, taken_over, uncounting, queued, retargeted, starting}
 use Rattle.vb_host.specs.System.{Guest, Host, seats, lending, view, viewed, changed, by_lender, arriving, taken_up, snapshot, hearing, report_at}
 use Rattle.vb_host.specs.System.{joined, may_join, joining}
 use Rattle.vb_host.proofs.Lists.{some_is}
@@ -118,10 +118,10 @@ is_the_lender h n m = record {
   joins = λ k g x l e f w r few. ap (λ (o : Option Guest). lending (joining o n m h)) e
       ∙ (either_lends (may_join n m x) h _ (each_at m (λ _. newcomer 0) (each_at n (grown (pages_at (seats h.guests) m)) (seats h.guests))) refl refl (joined_seats h n m x k e f)
       ∙ ap (λ (b : Bool). record (lending h) { seats = if b then each_at m (λ _. newcomer 0) (each_at n (grown (pages_at (seats h.guests) m)) (seats h.guests)) else seats h.guests })
-      (same_tests (nat_lt n (length (seats h.guests))) (nat_lt m (length (seats h.guests))) (not (n == m)) (value_at reclaimed (seats h.guests) m == 0)
-      (nat_lt (pages_at (seats h.guests) n + pages_at (seats h.guests) m) 4294967296) (reclaimed x.seat == 0) (x.process.held == 0) (x.process.removed == x.seat.removed)
+      (same_tests (nat_lt n (length (seats h.guests))) (nat_lt m (length (seats h.guests))) (not (n == m)) (value_at apart (seats h.guests) m == 0)
+      (nat_lt (pages_at (seats h.guests) n + pages_at (seats h.guests) m) 4294967296) (apart x.seat == 0) (x.process.held == 0) (x.process.removed == x.seat.removed)
       (lt_by _ _ (is_there h.guests n g l)) (lt_by _ _ (is_there h.guests m x e)) (lt_by _ _ few) (zero_by _ w) (same_by _ _ r)
-      (ap (λ (i : ℕ). i == 0) (value_seen reclaimed h.guests m x e ∙ ap (λ (b : Bool). reclaimed (viewed b x.seat)) f))));
+      (ap (λ (i : ℕ). i == 0) (value_seen apart h.guests m x e ∙ ap (λ (b : Bool). apart (viewed b x.seat)) f))));
   takes_over = λ g e. with_seats h _ _ (seen_at n (taken_up (next_turn (seats h.guests))) (λ _. queued (next_turn (seats h.guests)) (taken_over g.process.pages (snapshot g.process))) h.guests
       (λ x l. ap (λ (y : Guest). queued (next_turn (seats h.guests)) (taken_over y.process.pages (snapshot y.process))) (some_is x g (sym l ∙ e))));
   sets = λ frames. refl;

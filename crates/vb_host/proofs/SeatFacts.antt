@@ -22,6 +22,7 @@ seat ballooned least told number = record {
   wanted = 10;
   held = 0;
   line = 0;
+  outside = 0;
   target_number = number;
   deflates = 2;
   granted = 2;
@@ -40,6 +41,7 @@ report ballooned read heard held deflates = record {
   read_target = read;
   held = held;
   line = 0;
+  outside = 0;
   target_number = heard;
   deflates = deflates;
   removed = 0;
@@ -177,8 +179,8 @@ shrinks_once : (heard 9 (report 30 25 3 0 2) (heard 9 smaller (seat 30 25 30 4))
     × (heard 9 smaller (heard 9 smaller (seat 30 25 30 4)) ≡ heard 9 smaller (seat 30 25 30 4))
 shrinks_once = (refl, refl)
 
--- one that was made before the last deflate was granted shows no pages less in the balloon than are certain
-shrinks_by : map (λ ballooned. (heard 9 (record (report ballooned 25 3 0 2) { removed = 10 }) (seat 30 25 30 4)).ballooned) (19 ∷ 20 ∷ 21 ∷ []) ≡ 20 ∷ 20 ∷ 21 ∷ []
+-- one that shows more pages gone from the balloon than were taken away says nothing of the memory
+shrinks_by : map (λ ballooned. (heard 9 (record (report ballooned 25 3 0 2) { removed = 10 }) (seat 30 25 30 4)).ballooned) (19 ∷ 20 ∷ 21 ∷ []) ≡ 30 ∷ 20 ∷ 21 ∷ []
 shrinks_by = refl
 
 -- no more is taken away than there is
@@ -245,11 +247,11 @@ limits = refl
 
 -- 4 pages, 2 of them in the balloon
 abbrev shrinkable : Process
-shrinkable = record { pages = 4; balloon = 2; target = 2; read_target = 2; held = 0; line = 0; target_number = 1; deflates = 1; removed = 0 }
+shrinkable = record { pages = 4; balloon = 2; target = 2; read_target = 2; held = 0; line = 0; target_number = 1; deflates = 1; removed = 0; outside = 0 }
 
 -- In the evening one page of the first guest's balloon and one beside it are taken away: the lender counts 2 as lent until that is reported.
 abbrev smaller_host : List Step → Host
-smaller_host steps = through steps (through (Does 0 (Shrinks 2 1 0) ∷ []) (through evening (through day (opened 6 0 (4 ∷ 4 ∷ [])))))
+smaller_host steps = through steps (through (Does 0 (Shrinks 2 1 0 0) ∷ []) (through evening (through day (opened 6 0 (4 ∷ 4 ∷ [])))))
 
 by_shrinking : (map used (smaller_host []).guests ≡ 1 ∷ 4 ∷ []) × (map (λ s. lent s) (seats (smaller_host []).guests) ≡ 2 ∷ 4 ∷ [])
     × (map (λ s. lent s) (seats (smaller_host (Reports 0 ∷ Hears 0 0 ∷ [])).guests) ≡ 1 ∷ 4 ∷ [])
@@ -257,7 +259,7 @@ by_shrinking : (map used (smaller_host []).guests ≡ 1 ∷ 4 ∷ []) × (map (�
 by_shrinking = (refl, refl, refl, refl)
 
 -- what is left has no more pages outside of its balloon than before, and no more in its balloon or its deflate
-may_shrink_which : may_shrink 2 1 0 shrinkable ∷ may_shrink 2 0 0 shrinkable ∷ may_shrink 3 1 0 shrinkable ∷ may_shrink 1 2 0 shrinkable ∷ may_shrink 4 2 1 shrinkable ∷ may_shrink 5 2 0 shrinkable ∷ may_shrink 3 3 0 shrinkable ∷ []
+may_shrink_which : may_shrink 2 1 0 0 shrinkable ∷ may_shrink 2 0 0 0 shrinkable ∷ may_shrink 3 1 0 0 shrinkable ∷ may_shrink 1 2 0 0 shrinkable ∷ may_shrink 4 2 1 0 shrinkable ∷ may_shrink 5 2 0 0 shrinkable ∷ may_shrink 3 3 0 0 shrinkable ∷ []
     ≡ true ∷ true ∷ true ∷ false ∷ false ∷ false ∷ false ∷ []
 may_shrink_which = refl
 
@@ -278,10 +280,10 @@ abbrev told_again : Seat
 told_again = targeted 4 (targeted 2 (record (newcomer 4) { target_number = 1; deflates = 1; granted = 1 }))
 
 abbrev of_before : Report
-of_before = record { ballooned = 4; target = 4; read_target = 4; held = 0; line = 0; target_number = 1; deflates = 1; removed = 0 }
+of_before = record { ballooned = 4; target = 4; read_target = 4; held = 0; line = 0; outside = 0; target_number = 1; deflates = 1; removed = 0 }
 
 abbrev of_after : Report
-of_after = record { ballooned = 4; target = 2; read_target = 2; held = 2; line = 0; target_number = 2; deflates = 2; removed = 0 }
+of_after = record { ballooned = 4; target = 2; read_target = 2; held = 2; line = 0; outside = 0; target_number = 2; deflates = 2; removed = 0 }
 
 waits_by_value : (lent (by_value of_before told_again) ≡ 0) × (asked (heard 1 of_after (by_value of_before told_again)) ≡ 2)
 waits_by_value = (refl, refl)

@@ -17,7 +17,7 @@ use Rattle.vb_host.proofs.Lists.{all_get, some_is}
 use Rattle.vb_host.proofs.Moving.{has_told, target_same, targets_stay}
 use Rattle.vb_host.proofs.Processes.{does_moves, obeys_moves}
 use Rattle.vb_host.proofs.LentBy.{hears_lend}
-use Rattle.vb_host.proofs.Sound.{IsKnown, IsTrusty, and_left, and_right, either, eq_false, eq_true, lt_false, lt_true, queues}
+use Rattle.vb_host.proofs.Sound.{IsKnown, IsTrusty, and_left, and_right, counts, either, eq_false, eq_true, lt_false, lt_true, queues}
 
 -- ---- what the process is then
 
@@ -76,7 +76,7 @@ heard_uncounted turn r s = let q = believed s r in either (λ (x : Seat). x.unco
       served_same s = either (λ (x : Seat). x.uncounted ≡ s.uncounted) (covers s) _ _ (λ _. refl) (λ _. refl)
 
       counted_same : (r : Report) (s : Seat) → (counting r s).uncounted ≡ s.uncounted
-      counted_same r s = either (λ (x : Seat). x.uncounted ≡ s.uncounted) (r.deflates == s.granted) _ _ (λ _. refl) (λ _. refl)
+      counted_same r s = counts (λ (x : Seat). x.uncounted ≡ s.uncounted) r s (λ _ _. refl) (λ _. refl)
 
 -- ---- nothing is on its way
 

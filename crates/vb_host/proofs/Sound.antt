@@ -4,13 +4,13 @@ use Rattle.std.proofs.lemmas.Bool.Decides.{nat_tests}
 use Rattle.std.specs.List.{AllByRecursion}
 use Rattle.vb_host.specs.declared.report.Report.{Report}
 use Rattle.vb_host.specs.declared.seat.Seat.{Seat}
-use Rattle.vb_host.specs.Seats.{believed, is_uncounted, keeps_turn, queuing, waits}
+use Rattle.vb_host.specs.Seats.{believed, counting, holding, is_news, is_uncounted, keeps_turn, noting, queuing, remembered, waits}
 use Rattle.vb_host.specs.System.{Grant, Guest, Order, Process, Target}
 
--- Of a guest's pages P, its balloon b, the deflate that its process holds h, the number of that one d and the pages that were taken away x, the lender
--- knows P', b', h', d' and x', and has granted g'. It may lag, but isn't wrong: no more pages count as ballooned than are in the balloon or were taken
--- away since, without those of a granted deflate.
-pub record IsCounted (P b h d x P' b' h' d' g' x' : ℕ) : Type 0 where
+-- Of a guest's pages P, its balloon b, the deflate that its process holds h, the number of that one d, the pages that were taken away x and those outside o,
+-- the lender knows P', b', h', d', x' and o', and has granted g'. It may lag, but isn't wrong: no more pages count as ballooned than are in the balloon or
+-- were taken away since, without those of a granted deflate; no fewer count as used than are; and what is outside since was taken away since.
+pub record IsCounted (P b h d x o P' b' h' d' g' x' o' : ℕ) : Type 0 where
   pub balloon : b ≤ P
   pub held : h ≤ b
   pub numbered : 0 < h → 0 < d
@@ -19,6 +19,9 @@ pub record IsCounted (P b h d x P' b' h' d' g' x' : ℕ) : Type 0 where
   pub pages : P' + x' ≡ P + x
   pub counted : b' + x' ≤ b + x
   pub without : d ≡ g' → b' + h + x' ≤ b + x
+  pub used : b' + x' + o ≤ b + x + o'
+  pub used_without : d ≡ g' → b' + h + x' + o ≤ b + x + o'
+  pub outside : o + x' ≤ o' + x
   pub waiting : 0 < h' → g' < d'
   pub waited : 0 < h' → d' ≤ d
   pub waits_for : 0 < h' → d' ≡ d → h ≤ h'
@@ -33,26 +36,30 @@ pub record IsTargeted (t read n t' n' least : ℕ) : Type 0 where
   pub least_read : least ≤ read
 
 pub record IsKnown (p : Process) (s : Seat) : Type 0 where
-  pub memory : IsCounted p.pages p.balloon p.held p.deflates p.removed s.pages s.ballooned s.held s.deflates s.granted s.removed
+  pub memory : IsCounted p.pages p.balloon p.held p.deflates p.removed p.outside s.pages s.ballooned s.held s.deflates s.granted s.removed s.outside
   pub targets : IsTargeted p.target p.read_target p.target_number s.target s.target_number s.least_target
   pub empty : 0 < s.uncounted → s.ballooned ≡ 0
 
 -- A report is of an earlier state of the process, or of this one; unless it was made before the
 -- last grant was heard of, no page has left the balloon since but for those of that grant, and those that were taken away.
-pub record IsPastMemory (granted b h d x : ℕ) (r : Report) : Type 0 where
+pub record IsPastMemory (granted b h d x o : ℕ) (r : Report) : Type 0 where
   pub deflates : r.deflates ≤ d
   pub held : r.deflates ≡ d → h ≤ r.held
   pub removed : r.removed ≤ x
   pub later : granted < r.deflates → r.ballooned + r.removed ≤ b + x
   pub same : r.deflates ≡ granted → r.ballooned - r.held + r.removed ≤ b + x
   pub without : r.deflates ≡ granted → d ≡ granted → r.ballooned - r.held + h + r.removed ≤ b + x
+  pub later_used : granted < r.deflates → r.ballooned + r.removed + o ≤ b + x + r.outside
+  pub same_used : r.deflates ≡ granted → r.ballooned - r.held + r.removed + o ≤ b + x + r.outside
+  pub without_used : r.deflates ≡ granted → d ≡ granted → r.ballooned - r.held + h + r.removed + o ≤ b + x + r.outside
+  pub outside : o + r.removed ≤ r.outside + x
 
 pub record IsPastTarget (t read n : ℕ) (r : Report) : Type 0 where
   pub number : r.target_number ≤ n
   pub same : (k : ℕ) → r.target_number ≡ n → r.read_target ≡ k → t ≡ k → read ≡ k
 
 pub record IsPast (granted : ℕ) (p : Process) (r : Report) : Type 0 where
-  pub memory : IsPastMemory granted p.balloon p.held p.deflates p.removed r
+  pub memory : IsPastMemory granted p.balloon p.held p.deflates p.removed p.outside r
   pub targets : IsPastTarget p.target p.read_target p.target_number r
 
 -- An order may still be obeyed: a target that isn't below the least, or a deflate that was granted.
@@ -106,6 +113,15 @@ either P false t s h k = k refl
 -- what a turn leaves as it is
 pub queues : (P : Seat → Type 0) (turn : ℕ) (old s : Seat) → P s → ((t : ℕ) → P (record s { turn = t; deferred = 0 })) → P (queuing turn old s)
 queues P turn old s h k = either P (keeps_turn old s) _ _ (λ _. h) (λ _. k (if waits s then turn else 0))
+
+-- what a report makes of the memory and the deflate, whatever numbers it has
+pub notes : (P : Seat → Type 0) (ballooned held : ℕ) (r : Report) (s : Seat) → (is_news ballooned r s ≡ true → P (holding held r (remembered ballooned r s)))
+    → (is_news ballooned r s ≡ false → P (holding held r s)) → P (noting ballooned held r s)
+notes P ballooned held r s h k = either (λ (x : Seat). P (holding held r x)) (is_news ballooned r s) (remembered ballooned r s) s h k
+
+pub counts : (P : Seat → Type 0) (r : Report) (s : Seat) → ((ballooned held : ℕ) → P (holding held r (remembered ballooned r s))) → ((held : ℕ) → P (holding held r s)) → P (counting r s)
+counts P r s h k = either P (r.deflates == s.granted) _ _ (λ _. notes P (r.ballooned - r.held) 0 r s (λ _. h (r.ballooned - r.held) 0) (λ _. k 0))
+    (λ _. notes P r.ballooned r.held r s (λ _. h r.ballooned r.held) (λ _. k r.held))
 
 -- what a report shows
 pub believes : (P : Report → Type 0) (r : Report) (s : Seat) → (0 < s.uncounted → P (record r { ballooned = 0 })) → (s.uncounted ≡ 0 → P r) → P (believed s r)

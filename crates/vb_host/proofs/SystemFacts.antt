@@ -7,7 +7,7 @@ use Rattle.vb_host.specs.System.{Drops, Gives, Grant, Holds, Limit, Process, Rea
 
 -- a process of 10 pages, with its balloon, and the pages and the number of its deflate
 abbrev process : ℕ → ℕ → ℕ → Process
-process balloon held deflates = record { pages = 10; balloon = balloon; target = 6; read_target = 5; held = held; line = 0; target_number = 2; deflates = deflates; removed = 0 }
+process balloon held deflates = record { pages = 10; balloon = balloon; target = 6; read_target = 5; held = held; line = 0; target_number = 2; deflates = deflates; removed = 0; outside = 0 }
 
 -- ---- deeds
 
@@ -25,7 +25,7 @@ drops = refl
 reads : (does Reads (process 4 0 1)).read_target ≡ 6
 reads = refl
 
-shrinks : does (Shrinks 7 2 1) (process 4 3 2) ≡ record (process 2 1 2) { pages = 7; removed = 3 }
+shrinks : does (Shrinks 7 2 1 0) (process 4 3 2) ≡ record (process 2 1 2) { pages = 7; removed = 3 }
 shrinks = refl
 
 -- ---- orders: no older target, and no grant of another deflate
@@ -43,7 +43,7 @@ written : (writes 7 (limit 5 5 5 false) ≡ limit 5 7 5 true) × (writes 3 (limi
     × (lands (limit 5 7 5 true) ≡ limit 7 7 5 true) × (confirms (limit 5 7 5 true) ≡ limit 7 7 7 false) × (fails (limit 5 7 5 true) ≡ limit 5 5 0 false)
 written = (refl, refl, refl, refl, refl, refl)
 
--- ---- memory joins another guest, of which nothing is reclaimed, and up to 2^32 - 1 pages
+-- ---- memory joins another guest, of which nothing is reclaimed or outside, and up to 2^32 - 1 pages
 
 abbrev places : List Seat
 places = record (newcomer 6) { ballooned = 0 } ∷ newcomer 6 ∷ record (newcomer 4294967290) { ballooned = 0 } ∷ record (newcomer 4294967289) { ballooned = 0 } ∷ []

@@ -1,19 +1,19 @@
 -- A guest whose balloon counts no longer has all its pages lent, until another guest is at its place.
-use Rattle.std.proofs.Common.{◌≡◌, ◌≢◌, ℕ, zero, suc, ◌<◌, Bool, true, false, ◌&&◌, ◌==◌, nat_lt, if◌then◌else◌, List, [], ◌∷◌, length, map, refl, subst, sym, ap, arith}
+use Rattle.std.proofs.Common.{◌≡◌, ◌≢◌, ℕ, zero, suc, ◌+◌, ◌-◌, ◌<◌, Bool, true, false, ◌&&◌, ◌==◌, nat_lt, if◌then◌else◌, List, [], ◌∷◌, length, map, refl, subst, sym, ap, arith}
 use Rattle.std.proofs.lemmas.Bool.Decides.{nat_tests}
 use Rattle.vb_host.specs.declared.event.Event.{Event}
 use Rattle.vb_host.specs.declared.event.Event.TheVariants.{Hears, Grants, Overdraws, Wants, Targets, Arrives, Joins, TakesOver, Uncounts, Budget, Prefers, Defers}
 use Rattle.vb_host.specs.declared.report.Report.{Report}
 use Rattle.vb_host.specs.declared.seat.Seat.{Seat}
 use Rattle.vb_host.specs.Lending.{Lending, all_targeted, each_at, happens, held_at, may_grant, may_join_at, may_overdraw, next_turn, pages_at, room}
-use Rattle.vb_host.specs.Lending.{lent_at, test_at}
+use Rattle.vb_host.specs.Lending.{lent_at, outside_at, test_at}
 use Rattle.vb_host.specs.Line.{ByGrants, Granted, IsStep, Stays}
 use Rattle.vb_host.specs.Promises.{IsStillThere, counts_nothing}
 use Rattle.vb_host.specs.Seats.{believed, counting, covers, deferring, granting, grown, heard, is_stale, may_defer, is_uncounted, newcomer, preferring, queued}
 use Rattle.vb_host.specs.Seats.{raised, retargeted, room_after, served, starting, taken_over, uncounting, waits}
 use Rattle.vb_host.proofs.LentBy.{retargets}
 use Rattle.vb_host.proofs.Passing.{step_settles}
-use Rattle.vb_host.proofs.Sound.{and_left, and_right, believes, either, eq_true, lt_true, queues}
+use Rattle.vb_host.proofs.Sound.{and_left, and_right, believes, either, eq_true, lt_true, notes, queues}
 use Rattle.vb_host.proofs.Toward.{asks_empty, covers_by}
 
 -- ---- one seat
@@ -33,7 +33,8 @@ empty_stays : (f : Seat → Seat) (s : Seat) → (IsEmpty s → IsEmpty (f s)) �
 empty_stays f s h e = empty_is (f s) (h (empty_by s e))
 
 counts_empty : (r : Report) (s : Seat) → IsEmpty s → IsEmpty (counting (record r { ballooned = 0 }) s)
-counts_empty r s e = either IsEmpty (r.deflates == s.granted) _ _ (λ _. (e.0, omega (arith, e.1))) (λ _. (e.0, omega (arith, e.1)))
+counts_empty r s e = either IsEmpty (r.deflates == s.granted) _ _ (λ _. notes IsEmpty (0 - r.held) 0 (record r { ballooned = 0 }) s (λ _. (e.0, omega arith)) (λ _. e))
+    (λ _. notes IsEmpty 0 r.held (record r { ballooned = 0 }) s (λ _. (e.0, refl)) (λ _. e))
 
 believes_empty : (r : Report) (s : Seat) → IsEmpty s → IsEmpty (counting (believed s r) s)
 believes_empty r s e = believes (λ (q : Report). IsEmpty (counting q s)) r s (λ _. counts_empty r s e) (λ z. absurd (omega (arith, z, e.0)))
@@ -121,7 +122,7 @@ targets_stay room n [] e = e
 targets_stay room zero (x ∷ xs) e = empty_stays (retargeted room) x (targets_empty room x) e
 targets_stay room (suc n) (x ∷ xs) e = targets_stay (room_after room x) n xs e
 
-lends_all : (n : ℕ) (xs : List Seat) → test_at counts_nothing xs n ≡ true → lent_at xs n ≡ pages_at xs n
+lends_all : (n : ℕ) (xs : List Seat) → test_at counts_nothing xs n ≡ true → lent_at xs n ≡ pages_at xs n + outside_at xs n
 lends_all n [] e = absurd (cc)
 lends_all zero (x ∷ xs) e = omega (arith, (empty_by x e).1)
 lends_all (suc n) (x ∷ xs) e = lends_all n xs e
@@ -144,5 +145,5 @@ stays_by l m e n s c = subst (λ (k : Lending). test_at counts_nothing k.seats n
     (targets_stay (room s.granted) n s.granted.seats (grants_stay (happens l e) s.granted n s.by_grants c))
 
 pub uncounted_has_all : (l m : Lending) (e : Event) (n : ℕ) → IsStep l e m → test_at counts_nothing (happens l e).seats n ≡ true
-    → (test_at counts_nothing m.seats n ≡ true) × (lent_at m.seats n ≡ pages_at m.seats n) × (held_at m.seats n ≡ 0)
+    → (test_at counts_nothing m.seats n ≡ true) × (lent_at m.seats n ≡ pages_at m.seats n + outside_at m.seats n) × (held_at m.seats n ≡ 0)
 uncounted_has_all l m e n s c = let k = stays_by l m e n s c in (k, lends_all n m.seats k, waits_none n m.seats k ((step_settles l m e s).none_covered n))

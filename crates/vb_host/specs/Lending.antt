@@ -8,7 +8,7 @@ use Rattle.vb_host.specs.declared.event.Event.TheVariants.{Hears, Grants, Overdr
 use Rattle.vb_host.specs.declared.event.Event.TheVariants.{Arrives, Joins, TakesOver, Uncounts}
 use Rattle.vb_host.specs.declared.event.Event.TheVariants.{Budget, Prefers, Defers}
 use Rattle.vb_host.specs.declared.seat.Seat.{Seat}
-use Rattle.vb_host.specs.Seats.{reclaimed, grown, lent, asked, waits, covers, granting, heard}
+use Rattle.vb_host.specs.Seats.{apart, grown, lent, asked, waits, covers, granting, heard}
 use Rattle.vb_host.specs.Seats.{is_done, newcomer, taken_over, uncounting, queued, rank, retargeted}
 use Rattle.vb_host.specs.Seats.{room_after, starting, line_rank, preferring, deferring}
 
@@ -108,15 +108,19 @@ may_overdraw l n =
 abbrev pub lent_at : List Seat → ℕ → ℕ
 lent_at seats n = value_at lent seats n
 
--- The memory at a place may join a guest, where none of it has to stay in a balloon, and both have
--- fewer than 2^32 pages together.
 abbrev pub pages_at : List Seat → ℕ → ℕ
 pages_at seats n = value_at (λ s. s.pages) seats n
+
+abbrev pub outside_at : List Seat → ℕ → ℕ
+outside_at seats n = value_at (λ s. s.outside) seats n
+
+-- The memory at a place may join a guest, where none of it has to stay in a balloon or is outside,
+-- and both have fewer than 2^32 pages together.
 
 abbrev pub may_join_at : List Seat → ℕ → ℕ → Bool
 may_join_at seats n m =
     nat_lt n (length seats) && nat_lt m (length seats) && not (n == m)
-    && (value_at reclaimed seats m == 0) && nat_lt (pages_at seats n + pages_at seats m) 4294967296
+    && (value_at apart seats m == 0) && nat_lt (pages_at seats n + pages_at seats m) 4294967296
 
 abbrev pub joined_at : ℕ → ℕ → List Seat → List Seat
 joined_at n m seats =

@@ -18,7 +18,7 @@ use Rattle.vb_host.specs.declared.event.Event.TheVariants.{Prefers as EventPrefe
 use Rattle.vb_host.specs.declared.event.Event.TheVariants.{Defers as EventDefers}
 use Rattle.vb_host.specs.declared.report.Report.{Report}
 use Rattle.vb_host.specs.declared.seat.Seat.{Seat}
-use Rattle.vb_host.specs.Lending.{pages_at, test_at, Lending, owed, lent_at}
+use Rattle.vb_host.specs.Lending.{outside_at, pages_at, test_at, Lending, owed, lent_at}
 use Rattle.vb_host.specs.Lending.{waited, is_first, may_grant, happens, held_at, room, run}
 use Rattle.vb_host.specs.Line.{GrantsNone, IsStep}
 use Rattle.vb_host.specs.Seats.{lent, waits, granting, heard, possible_target, covers, taken_over}
@@ -31,9 +31,9 @@ use Rattle.vb_host.specs.System.{Defers}
 
 -- ---- 1. the budget
 
--- what a guest uses: its pages that aren't in its balloon
+-- what a guest uses: its pages that aren't in its balloon, and those outside
 abbrev pub used : Guest → ℕ
-used g = g.process.pages - g.process.balloon
+used g = g.process.pages - g.process.balloon + g.process.outside
 
 -- of a strict guest this number, of another one none
 abbrev pub strictly : Bool → ℕ → ℕ
@@ -143,6 +143,7 @@ pub record IsQuiet (g : Guest) : Type 0 where
 -- the balloon, where that counts.
 pub record HasTold (p : Process) (old new : Seat) : Type 0 where
   pub pages : new.pages ≡ p.pages
+  pub outside : new.outside ≡ p.outside
   pub read_target : due_target (snapshot p) old ≡ false → p.read_target ≡ old.target
       → new.least_target ≡ new.target
   pub held : 0 < p.held → p.deflates ≢ new.granted → waits new ≡ true
@@ -164,7 +165,9 @@ HasGiven g = (waits g.seat ≡ false) → g.seat.uncounted ≡ 0 → g.seat.targ
 -- its balloon counts no longer
 abbrev pub keeps : Seat → ℕ
 keeps s =
-    if waits s then lent (granting s) else if is_uncounted s then s.pages else s.pages - s.target
+    if waits s then lent (granting s)
+    else if is_uncounted s then s.pages + s.outside
+    else s.pages + s.outside - s.target
 
 abbrev pub all_keep : Host → ℕ
 all_keep h = sum_by (λ g. keeps g.seat) h.guests
@@ -250,13 +253,13 @@ StaysUncounted =
     → test_at counts_nothing l.seats n ≡ true
     → test_at counts_nothing (happens l e).seats n ≡ true
 
--- After each step then all its pages are lent to it, and it doesn't wait.
+-- After each step then all its pages are lent to it, with those outside, and it doesn't wait.
 abbrev pub UncountedHasAll : Type 0
 UncountedHasAll =
     (l m : Lending) (e : Event) (n : ℕ) → IsStep l e m
     → test_at counts_nothing (happens l e).seats n ≡ true
-    → (test_at counts_nothing m.seats n ≡ true) × (lent_at m.seats n ≡ pages_at m.seats n)
-    × (held_at m.seats n ≡ 0)
+    → (test_at counts_nothing m.seats n ≡ true)
+    × (lent_at m.seats n ≡ pages_at m.seats n + outside_at m.seats n) × (held_at m.seats n ≡ 0)
 
 -- ---- the lender is the one of the system
 

@@ -12,12 +12,16 @@ use Rattle.vb_host.specs.declared.seat.Seat.{Seat}
 
 -- The pages that its balloon has given up for good: those below the least target that its driver
 -- may still obey. All other pages are lent to it, also those that it gave for an earlier target and
--- may deflate for a later one.
+-- may deflate for a later one, and those outside of its memory slots.
 abbrev pub reclaimed : Seat → ℕ
 reclaimed s = min s.ballooned s.least_target
 
 abbrev pub lent : Seat → ℕ
-lent s = s.pages - reclaimed s
+lent s = s.pages + s.outside - reclaimed s
+
+-- what keeps memory from joining a guest: pages that stay in its balloon, or are outside
+abbrev pub apart : Seat → ℕ
+apart s = reclaimed s + s.outside
 
 -- ---- the line of those that wait
 
@@ -89,19 +93,35 @@ served s = if covers s then granting s else s
 
 -- ---- a report
 
--- Pages that were taken away from its memory since the last report leave its memory, and count as
--- pages of its balloon: which of them were there is known by the balloon that is reported. No other
--- page leaves a balloon unless that was granted, so no fewer pages count than before.
-abbrev pub noting : ℕ → ℕ → Report → Seat → Seat
-noting ballooned held r s =
+-- the pages of its memory of which none was taken away since the last report
+abbrev pub left : Report → Seat → ℕ
+left r s = s.pages - (r.removed - s.removed)
+
+-- A page leaves its balloon by a grant or with the memory alone, and what is outside was taken away
+-- from its memory, and wasn't in the balloon. A report of more is an older one, or its process
+-- deviates: it says nothing of the memory.
+abbrev pub is_news : ℕ → Report → Seat → Bool
+is_news ballooned r s =
+    nat_le (s.ballooned - ballooned) (r.removed - s.removed)
+    && nat_le (left r s + r.outside + (s.ballooned - ballooned)) (s.pages + s.outside)
+
+abbrev pub remembered : ℕ → Report → Seat → Seat
+remembered ballooned r s =
     record s {
-      pages = s.pages - (r.removed - s.removed);
-      ballooned = max (s.ballooned - (r.removed - s.removed)) ballooned;
-      held = held;
-      line = r.line;
-      deflates = r.deflates;
+      pages = left r s;
+      ballooned = ballooned;
+      outside = r.outside;
       removed = r.removed;
     }
+
+abbrev pub remembering : ℕ → Report → Seat → Seat
+remembering ballooned r s = if is_news ballooned r s then remembered ballooned r s else s
+
+abbrev pub holding : ℕ → Report → Seat → Seat
+holding held r s = record s { held = held; line = r.line; deflates = r.deflates }
+
+abbrev pub noting : ℕ → ℕ → Report → Seat → Seat
+noting ballooned held r s = holding held r (remembering ballooned r s)
 
 -- its balloon counts no longer
 abbrev pub is_uncounted : Seat → Bool
@@ -213,6 +233,7 @@ newcomer pages =
       wanted = 0;
       held = 0;
       line = 0;
+      outside = 0;
       target_number = 0;
       deflates = 0;
       granted = 0;
@@ -240,6 +261,7 @@ taking_over granted pages r =
       wanted = r.target;
       held = r.held;
       line = r.line;
+      outside = r.outside;
       target_number = r.target_number;
       deflates = r.deflates;
       granted = granted;

@@ -5,15 +5,15 @@ use Rattle.std.specs.Prelude.{Option, Some, None, slice_get}
 use Rattle.vb_host.specs.declared.report.Report.{Report}
 use Rattle.vb_host.specs.declared.seat.Seat.{Seat}
 use Rattle.vb_host.specs.Lending.{Lending, each_at, may_grant, may_overdraw, next_turn, room}
-use Rattle.vb_host.specs.Seats.{reclaimed, lent, granting, heard, newcomer, taken_over, uncounting}
+use Rattle.vb_host.specs.Seats.{apart, lent, granting, heard, newcomer, taken_over, uncounting}
 use Rattle.vb_host.specs.Seats.{queued, preferring, deferring, retargeted, starting}
 
 -- ---- a guest and its process
 
 -- A guest's pages, those in its balloon, the last target that its process has received and that
 -- one's number, the target that its driver has read last, the pages of the deflate that its process
--- holds back (0: none), in which line that waits, how many it has held back, and how many pages
--- were taken away from its memory.
+-- holds back (0: none), in which line that waits, how many it has held back, how many pages were
+-- taken away from its memory, and how many have frames outside of it.
 pub record Process : Type 0 where
   pub pages : ℕ
   pub balloon : ℕ
@@ -24,6 +24,7 @@ pub record Process : Type 0 where
   pub target_number : ℕ
   pub deflates : ℕ
   pub removed : ℕ
+  pub outside : ℕ
 
 -- what it reports at this moment
 abbrev pub snapshot : Process → Report
@@ -34,6 +35,7 @@ snapshot p =
       read_target = p.read_target;
       held = p.held;
       line = p.line;
+      outside = p.outside;
       target_number = p.target_number;
       deflates = p.deflates;
       removed = p.removed;
@@ -58,21 +60,23 @@ obeys (Grant n) p =
 -- may give pages, too); a deflate is held back, in a line, of any pages of the balloon: toward the
 -- target that was read, or deeper, as by a driver that is out of memory; it is dropped, as by a
 -- reset; the target is read; memory is taken away, with pages of the balloon and of the deflate
--- among it.
+-- among it, and what is outside goes, or is a part of what was taken away.
 pub data Deed : Type 0 where
   Gives : ℕ → Deed
   Holds : ℕ → ℕ → Deed
   Drops : Deed
   Reads : Deed
-  Shrinks : ℕ → ℕ → ℕ → Deed
+  Shrinks : ℕ → ℕ → ℕ → ℕ → Deed
 
--- What is left has this many pages, these of them in its balloon and in the deflate that is held.
--- No page leaves the balloon but with the memory, so no more pages than before are outside of it.
-abbrev pub may_shrink : ℕ → ℕ → ℕ → Process → Bool
-may_shrink pages balloon held p =
+-- What is left has this many pages, these of them in its balloon and in the deflate that is held,
+-- and these are outside. No page leaves the balloon but with the memory, and no frame appears: no
+-- more than before are in use.
+abbrev pub may_shrink : ℕ → ℕ → ℕ → ℕ → Process → Bool
+may_shrink pages balloon held outside p =
     nat_le pages p.pages && nat_le balloon p.balloon && nat_le held p.held
     && nat_le balloon pages && nat_le held balloon
     && nat_le (pages + p.balloon) (p.pages + balloon)
+    && nat_le (pages + outside + p.balloon) (p.pages + p.outside + balloon)
 
 abbrev pub does : Deed → Process → Process
 does (Gives pages) p = record p { balloon = min (p.balloon + pages) p.pages }
@@ -82,13 +86,14 @@ does (Holds line pages) p =
     else p
 does Drops p = record p { held = 0 }
 does Reads p = record p { read_target = p.target }
-does (Shrinks pages balloon held) p =
-    if may_shrink pages balloon held p
+does (Shrinks pages balloon held outside) p =
+    if may_shrink pages balloon held outside p
     then record p {
       pages = pages;
       balloon = balloon;
       held = held;
       removed = p.removed + (p.pages - pages);
+      outside = outside;
     }
     else p
 
@@ -134,10 +139,10 @@ pub record Guest : Type 0 where
   pub limit : Limit
 
 -- The seat that the lender goes by. Of a guest that a later lender doesn't know yet, it knows how
--- many pages the one before counted: all are lent to it.
+-- many pages the one before counted, with those outside: all are lent to it.
 abbrev pub viewed : Bool → Seat → Seat
 viewed true s = s
-viewed false s = uncounting (newcomer s.pages)
+viewed false s = record (uncounting (newcomer s.pages)) { outside = s.outside }
 
 abbrev pub view : Guest → Seat
 view g = viewed g.known g.seat
@@ -197,6 +202,7 @@ arriving pages ballooned =
         target_number = 0;
         deflates = 1;
         removed = 0;
+        outside = 0;
       };
       seat = starting pages ballooned;
       known = true;
@@ -224,8 +230,8 @@ taken_up turn g =
 -- ---- memory that is added
 
 -- Memory that is added to a guest waits as a guest of its own, of as many pages. Once it was let
--- in, and none of its pages has to stay in a balloon, it joins the guest that it was added to. What
--- both may use is what both were lent, and so is their limit.
+-- in, and none of its pages has to stay in a balloon or is outside, it joins the guest that it was
+-- added to. What both may use is what both were lent, and so is their limit.
 abbrev pub joined : Guest → Guest → Guest
 joined x g =
     record g {
@@ -245,7 +251,7 @@ joined x g =
 
 abbrev pub may_join : ℕ → ℕ → Guest → Bool
 may_join n m x =
-    not (n == m) && (reclaimed x.seat == 0)
+    not (n == m) && (apart x.seat == 0)
     && (x.process.held == 0) && (x.process.removed == x.seat.removed)
 
 -- ---- a host

@@ -1,33 +1,59 @@
 //! What a report makes of a seat.
 
-ghost use Rattle.std.specs.Prelude.{◌≡◌, ◌-◌};
+ghost use Rattle.std.specs.Prelude.{◌≡◌};
 ghost use Rattle.vb_host.specs.Seats.{noting, counting, believed, served, raised, is_stale, heard};
-ghost use Rattle.vb_host.specs.Seats.{keeps_turn};
+ghost use Rattle.vb_host.specs.Seats.{holding, is_news, keeps_turn, left, remembering};
 
 use crate::{Report, Seat};
 
 impl Seat {
-    /// The pages of this many of which none was taken away since its last report.
-    fn without_removed(&self, pages: u32, removed: u64) -> u32
-        ensures { result ≡ pages - (removed - self.now.removed) }
+    /// The pages of its memory of which none was taken away since its last report.
+    fn left(&self, report: &Report) -> u32
+        ensures { result ≡ left report.now self.now }
     {
-        let taken = removed.saturating_sub(self.removed);
-        let all = u64::from(pages);
+        let taken = report.removed.saturating_sub(self.removed);
+        let all = u64::from(self.pages);
         if taken < all { (all - taken) as u32 } else { 0 }
+    }
+
+    /// Whether what was taken away is all that has left its balloon, or is outside since.
+    fn is_news(&self, ballooned: u32, report: &Report) -> bool
+        ensures { result ≡ is_news ballooned report.now self.now }
+    {
+        let fallen = u64::from(self.ballooned.saturating_sub(ballooned));
+        let taken = report.removed.saturating_sub(self.removed);
+        let then = u64::from(self.left(report)) + u64::from(report.outside) + fallen;
+        let before = u64::from(self.pages) + u64::from(self.outside);
+        fallen <= taken && then <= before
+    }
+
+    /// Notes what its process reports of its memory and its balloon, if that may be.
+    fn remember(&mut self, ballooned: u32, report: &Report)
+        ensures { self.new ≡ remembering ballooned report.now self.old }
+    {
+        if self.is_news(ballooned, report) {
+            self.pages = self.left(report);
+            self.ballooned = ballooned;
+            self.outside = report.outside;
+            self.removed = report.removed;
+        }
+    }
+
+    /// Notes the deflate that its process holds back.
+    fn hold(&mut self, held: u32, report: &Report)
+        ensures { self.new ≡ holding held report.now self.old }
+    {
+        self.held = held;
+        self.line = report.line;
+        self.deflates = report.deflates;
     }
 
     /// Notes what its process reports of its memory, its balloon, and a deflate.
     fn note(&mut self, ballooned: u32, held: u32, report: &Report)
         ensures { self.new ≡ noting ballooned held report.now self.old }
     {
-        let pages = self.without_removed(self.pages, report.removed);
-        let counted = self.without_removed(self.ballooned, report.removed);
-        self.pages = pages;
-        self.ballooned = counted.max(ballooned);
-        self.held = held;
-        self.line = report.line;
-        self.deflates = report.deflates;
-        self.removed = report.removed;
+        self.remember(ballooned, report);
+        self.hold(held, report);
     }
 
     /// What a report shows: an empty balloon, where that counts no longer.

@@ -14,7 +14,7 @@ use crate::Seat;
 /// How many frames are lent to all guests together.
 pub fn owed(seats: &[Seat]) -> u128
     ensures value { result ≡ owed seats.now }
-    ensures small { result ≤ 4294967295 * length seats.now }
+    ensures small { result ≤ 8589934590 * length seats.now }
 {
     let mut pages: u128 = 0;
     for seat in seats {

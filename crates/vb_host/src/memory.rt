@@ -2,7 +2,7 @@
 
 ghost use Rattle.std.specs.Prelude.{◌≡◌, ◌+◌, ◌<◌, ◌^◌, length, nat_lt};
 ghost use Rattle.vb_host.specs.Lending.{each_at, may_join_at, joined_at, pages_at, value_at};
-ghost use Rattle.vb_host.specs.Seats.{grown, reclaimed};
+ghost use Rattle.vb_host.specs.Seats.{apart, grown};
 
 use crate::Seat;
 
@@ -24,12 +24,12 @@ fn pages_of(seats: &[Seat], guest: usize) -> u32
     seats[guest].pages
 }
 
-/// The pages of a guest's balloon that it may not deflate.
-fn reclaimed_of(seats: &[Seat], guest: usize) -> u32
+/// The pages of a guest that stay in its balloon, or are outside.
+fn apart_of(seats: &[Seat], guest: usize) -> u64
     requires { guest < length seats.now }
-    ensures { result ≡ value_at reclaimed seats.now guest }
+    ensures { result ≡ value_at apart seats.now guest }
 {
-    seats[guest].reclaimed()
+    seats[guest].apart()
 }
 
 /// Whether two guests have fewer than 2^32 pages together.
@@ -56,7 +56,7 @@ fn may_join(seats: &[Seat], guest: usize, added: usize) -> bool
     if guest == added {
         return false;
     }
-    if reclaimed_of(seats, added) > 0 {
+    if apart_of(seats, added) > 0 {
         return false;
     }
     are_few(seats, guest, added)

@@ -59,6 +59,8 @@ pub struct Report {
     pub held: u32,
     /// The number of the line in which that deflate waits (`WaitingLine::of`).
     pub line: u32,
+    /// The pages that have frames outside of its memory slots: of memory that was taken away.
+    pub outside: u32,
     /// The number of the last target that it has received.
     pub target_number: u64,
     /// How many deflates it has held back, this one included: the number of this one.

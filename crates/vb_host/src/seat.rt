@@ -1,7 +1,7 @@
 //! What a lender knows of one guest, and what each event makes of it.
 
-ghost use Rattle.std.specs.Prelude.{◌≡◌, ◌+◌, ◌-◌, ◌<◌, ◌^◌};
-ghost use Rattle.vb_host.specs.Seats.{lent, asked, waits, covers, granting, possible_target};
+ghost use Rattle.std.specs.Prelude.{◌≡◌, ◌+◌, ◌-◌, ◌<◌, ◌≤◌, ◌^◌};
+ghost use Rattle.vb_host.specs.Seats.{apart, lent, asked, waits, covers, granting, possible_target};
 ghost use Rattle.vb_host.specs.Seats.{targeted, retargeted, uncounting};
 ghost use Rattle.vb_host.specs.Seats.{is_done, is_uncounted, is_preferred, place_in_line};
 ghost use Rattle.vb_host.specs.Seats.{preferring, waiting_line, line_rank, may_defer, deferring};
@@ -18,8 +18,7 @@ const PLACES: u128 = (1 << 64) + 1;
 #[repr(C)]
 #[derive(Clone, Copy, Debug, Default, PartialEq, Eq)]
 pub struct Seat {
-    /// The pages that it may have frames for, in a memory slot or outside; 0 where no guest is
-    /// there.
+    /// The pages of its memory, which it may have frames for; 0 where no guest is there.
     pub pages: u32,
     /// The pages in its balloon, as last reported, without those of a granted deflate.
     pub ballooned: u32,
@@ -33,6 +32,8 @@ pub struct Seat {
     pub held: u32,
     /// The number of the line in which it waits (`WaitingLine::of`).
     pub line: u32,
+    /// The pages that have frames outside of its memory slots, by its last report.
+    pub outside: u32,
     /// The number of its last target: how many it was sent.
     pub target_number: u64,
     /// How many deflates its process has held back, by its last report.
@@ -59,11 +60,29 @@ impl Seat {
         self.ballooned.min(self.least_target)
     }
 
-    /// What is lent to it: all its pages but for those of its balloon that it may not deflate.
-    pub fn lent(&self) -> u32
-        ensures { result ≡ lent self.now }
+    /// The pages that stay in its balloon, or are outside.
+    pub(crate) fn apart(&self) -> u64
+        ensures { result ≡ apart self.now }
     {
-        self.pages.saturating_sub(self.reclaimed())
+        u64::from(self.reclaimed()) + u64::from(self.outside)
+    }
+
+    /// What is lent to it where this many pages of its balloon may not be deflated.
+    fn lent_but(&self, reclaimed: u32) -> u64
+        ensures value { result ≡ self.now.pages + self.now.outside - reclaimed }
+        ensures small { result ≤ 8589934590 }
+    {
+        let all = u64::from(self.pages) + u64::from(self.outside);
+        all.saturating_sub(u64::from(reclaimed))
+    }
+
+    /// What is lent to it: all its pages, with those outside, but for those of its balloon that it
+    /// may not deflate.
+    pub fn lent(&self) -> u64
+        ensures value { result ≡ lent self.now }
+        ensures small { result ≤ 8589934590 }
+    {
+        self.lent_but(self.reclaimed())
     }
 
     /// Whether a deflate waits.
@@ -85,11 +104,12 @@ impl Seat {
     }
 
     /// What is lent to it once its deflate is granted.
-    fn lent_then(&self) -> u32
-        ensures { result ≡ lent (granting self.now) }
+    fn lent_then(&self) -> u64
+        ensures value { result ≡ lent (granting self.now) }
+        ensures more { result ≤ lent self.now + 4294967295 }
     {
         let ballooned = self.ballooned.saturating_sub(self.held);
-        self.pages.saturating_sub(ballooned.min(self.least_target))
+        self.lent_but(ballooned.min(self.least_target))
     }
 
     /// What a grant would lend to it beyond what is lent.
@@ -97,7 +117,7 @@ impl Seat {
         ensures { result ≡ asked self.now }
     {
         if self.waits() {
-            self.lent_then().saturating_sub(self.lent())
+            self.lent_then().saturating_sub(self.lent()) as u32
         } else {
             0
         }
@@ -240,7 +260,7 @@ impl Seat {
         let target = self.possible_target(room);
         self.set_target(target);
         let after = self.lent();
-        room.saturating_sub(after.saturating_sub(before))
+        u64::from(room).saturating_sub(after.saturating_sub(before)) as u32
     }
 
     /// This many pages are wanted in its balloon.

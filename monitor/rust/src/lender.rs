@@ -80,7 +80,7 @@ impl Event {
 
 impl Seat {
     /// How many frames are lent to it: its limit.
-    pub fn lent(&self) -> u32 {
+    pub fn lent(&self) -> u64 {
         // SAFETY: the pointer is of a `&`.
         unsafe { vb_seat_lent(self) }
     }

@@ -157,13 +157,14 @@ fn a_later_lender_goes_by_the_first_report() {
         read_target: 30,
         held: 12,
         line: Line::Resets as u32,
+        outside: 2,
         target_number: 7,
         deflates: 5,
         removed: 3,
     };
     lender.step(Event::TakesOver { guest: 0, pages: 60, report });
     let seat = lender.seats()[0];
-    assert_eq!((seat.lent(), seat.asked(), seat.granted, seat.turn), (30, 4, 4, 1));
+    assert_eq!((seat.lent(), seat.asked(), seat.granted, seat.turn), (32, 4, 4, 1));
     lender.step(Event::Uncounts { guest: 0 });
-    assert_eq!((lender.owed(), lender.seats()[0].ballooned), (60, 0));
+    assert_eq!((lender.owed(), lender.seats()[0].ballooned), (62, 0));
 }

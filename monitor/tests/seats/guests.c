@@ -23,6 +23,11 @@ static uint32_t less(uint32_t one, uint32_t other)
     return one < other ? one : other;
 }
 
+uint32_t guest_uses(const struct guest *guest)
+{
+    return guest->pages - guest->now.ballooned + guest->now.outside;
+}
+
 /* It uses no page: its process holds a deflate of all but those that stay in its balloon. */
 void guest_arrive(struct guest *guest, uint32_t pages, uint32_t ballooned)
 {
@@ -98,7 +103,8 @@ static void hold(struct guest *guest)
     now->deflates++;
 }
 
-/* Memory is taken away, a part of it from the balloon and from the deflate that is held. */
+/* Memory is taken away, a part of it from the balloon and from the deflate that is held; some of the
+ * rest stays outside, and what was there before may go. */
 static void shrink(struct guest *guest)
 {
     VbReport *now = &guest->now;
@@ -111,6 +117,7 @@ static void shrink(struct guest *guest)
     now->ballooned -= from;
     now->held = less(now->held, now->ballooned);
     now->removed += taken;
+    now->outside = chance(now->outside + taken - from + 1);
 }
 
 /* Up to its target, or any pages. */
@@ -143,6 +150,8 @@ void guest_live(struct guest *guest)
     case 5:
         if (chance(16) == 0)
             shrink(guest);
+        else
+            guest->now.outside = chance(guest->now.outside + 1);
         return;
     default:
         obey(guest);

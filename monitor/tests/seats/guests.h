@@ -16,6 +16,9 @@ struct guest {
 uint64_t any(void);
 uint32_t chance(uint32_t below);
 
+/* The frames that it uses. */
+uint32_t guest_uses(const struct guest *guest);
+
 void guest_arrive(struct guest *guest, uint32_t pages, uint32_t ballooned);
 void guest_connect(struct guest *guest);
 void guest_join(struct guest *guest, struct guest *added);

@@ -62,13 +62,13 @@ static const struct {
     VbReport report;
     uint32_t target, grant;
 } orders[] = {
-    {"all is received", {20, 30, 30, 0, 0, 4, 6, 0}, 0, 0},
-    {"an older target", {20, 30, 30, 0, 0, 3, 6, 0}, 1, 0},
-    {"a target of an earlier lender", {20, 30, 30, 0, 0, 5, 6, 0}, 1, 0},
-    {"another target of this number", {20, 31, 29, 0, 0, 4, 6, 0}, 0, 0},
-    {"it still holds what was granted", {20, 30, 30, 2, 0, 4, 6, 0}, 0, 1},
-    {"an older deflate", {20, 30, 30, 2, 0, 4, 5, 0}, 0, 0},
-    {"the deflate that waits", {20, 30, 30, 2, 0, 3, 7, 0}, 1, 0},
+    {"all is received", {20, 30, 30, 0, 0, 0, 4, 6, 0}, 0, 0},
+    {"an older target", {20, 30, 30, 0, 0, 0, 3, 6, 0}, 1, 0},
+    {"a target of an earlier lender", {20, 30, 30, 0, 0, 0, 5, 6, 0}, 1, 0},
+    {"another target of this number", {20, 31, 29, 0, 0, 0, 4, 6, 0}, 0, 0},
+    {"it still holds what was granted", {20, 30, 30, 2, 0, 0, 4, 6, 0}, 0, 1},
+    {"an older deflate", {20, 30, 30, 2, 0, 0, 4, 5, 0}, 0, 0},
+    {"the deflate that waits", {20, 30, 30, 2, 0, 0, 3, 7, 0}, 1, 0},
 };
 
 void check_orders(void)
@@ -89,6 +89,10 @@ void check_orders(void)
     expect(vb_seat_waits(&seat) == 0 && vb_seat_asked(&seat) == 0, "it doesn't wait");
     seat.pages = 16;
     expect(vb_seat_lent(&seat) == 0, "more in its balloon than it has");
+    seat.outside = 3;
+    expect(vb_seat_lent(&seat) == 2, "with those outside");
+    seat.pages = seat.outside = UINT32_MAX;
+    expect(vb_seat_lent(&seat) == 2ull * UINT32_MAX - 17, "more than 32 bits say");
 }
 
 /* ---- targets */
@@ -225,7 +229,7 @@ static void check_last(void)
     seats[0].held = 1;
     seats[0].turn = UINT64_MAX;
     seats[1].target_number = UINT64_MAX;
-    VbHostEvent event = {.kind = VB_HEARS, .guest = 1, .report = {30, 30, 30, 4, 0, 0, 2, 0}};
+    VbHostEvent event = {.kind = VB_HEARS, .guest = 1, .report = {30, 30, 30, 4, 0, 0, 0, 2, 0}};
     expect(step(&host, seats, event) == VB_OK && seats[1].turn == UINT64_MAX, "the last turn");
     expect(vb_host_first(seats, 2) == 0, "of one turn the lower place");
     expect(step(&host, seats, (VbHostEvent){.kind = VB_WANTS, .guest = 1, .pages = 35}) == VB_OK,
@@ -254,6 +258,9 @@ static void check_sums(void)
     seats[1].pages = 6;
     expect(step(&host, seats, event) == VB_OK && seats[1].pages == 6, "2^32 pages together");
     seats[1].pages = 5;
+    seats[1].outside = 1;
+    expect(step(&host, seats, event) == VB_OK && seats[1].pages == 5, "a page of it is outside");
+    seats[1].outside = 0;
     expect(step(&host, seats, event) == VB_OK && seats[1].pages == 0, "2^32 - 1 pages together");
     expect(seats[0].pages == UINT32_MAX, "they have joined");
 }
@@ -273,11 +280,11 @@ static void check_less(void)
 {
     VbHost host = {.frames = 0};
     VbSeat seats[2] = {guest(50, 30, 0), guest(50, 30, 0)};
-    VbHostEvent event = {.kind = VB_HEARS, .report = {20, 30, 30, 0, 0, 0, 1, UINT64_MAX}};
+    VbHostEvent event = {.kind = VB_HEARS, .report = {20, 30, 30, 0, 0, 0, 0, 1, UINT64_MAX}};
     expect(step(&host, seats, event) == VB_OK, "heard");
     expect(seats[0].pages == 0 && seats[0].ballooned == 20, "nothing is left but what is reported");
     event = (VbHostEvent){.kind = VB_TAKES_OVER, .guest = 1, .pages = 70};
-    event.report = (VbReport){9, 7, 8, 6, 1, 5, 0, 3};
+    event.report = (VbReport){9, 7, 8, 6, 1, 0, 5, 0, 3};
     expect(step(&host, seats, event) == VB_OK && seats[1].pages == 70, "taken over");
     expect(seats[1].least_target == 7 && seats[1].target == 7, "the lower of both targets");
     expect(seats[1].granted == 0 && seats[1].turn == 1, "none was granted before");

@@ -49,7 +49,7 @@ static uint64_t odd_count(void)
 
 static VbReport odd_report(const VbSeat *seat)
 {
-    VbReport report = {odd_number(), odd_number(), odd_number(), odd_number(),
+    VbReport report = {odd_number(), odd_number(), odd_number(), odd_number(), odd_number(),
                        odd_number(), odd_count(),  odd_count(),  odd_count()};
     if (chance(2))
         report.read_target = seat->target, report.target_number = seat->target_number;
@@ -57,6 +57,8 @@ static VbReport odd_report(const VbSeat *seat)
         report.held = 0;
     if (chance(2))
         report.deflates = seat->granted + chance(2);
+    if (chance(2))
+        report.outside = seat->outside, report.removed = seat->removed + chance(2);
     return report;
 }
 
@@ -68,6 +70,7 @@ static VbSeat odd_seat(void)
     seat.wanted = odd_number();
     seat.held = chance(2) ? odd_number() : 0;
     seat.line = odd_number();
+    seat.outside = chance(3) ? odd_number() : 0;
     seat.target_number = odd_count();
     seat.deflates = odd_count();
     seat.granted = odd_count();
@@ -202,7 +205,7 @@ static void check_laws(const struct day *day, const VbSeat *before)
         vb_host_owed(day->seats, day->count) > (most > budget ? most : budget))
         fail(day, "more is lent than there is");
     for (size_t i = 0; i < day->count; i++)
-        if (day->guests[i].pages - day->guests[i].now.ballooned > vb_seat_lent(&day->seats[i]))
+        if (guest_uses(&day->guests[i]) > vb_seat_lent(&day->seats[i]))
             fail(day, "a guest uses more than it is lent");
 }
 

@@ -12,4 +12,4 @@ pub returns-then-guest-added : goal.returns-then-guest-added
 returns-then-guest-added c = join_itself c.args.seats.now c.args.guest c.args.added c.if-guest-added.true
 
 pub returns : goal.returns
-returns c = c.are_few.ensures ∙ join_few c.args.seats.now c.args.guest c.args.added c.if-guest-seats.false c.if-added-seats.false c.if-guest-added.false (omega (arith, c.reclaimed_of.ensures, c.if-reclaimed_of-gt0.false))
+returns c = c.are_few.ensures ∙ join_few c.args.seats.now c.args.guest c.args.added c.if-guest-seats.false c.if-added-seats.false c.if-guest-added.false (omega (arith, c.apart_of.ensures, c.if-apart_of-gt0.false))
