@@ -216,6 +216,14 @@ static bool can_offer(uint64_t features)
            refuse("the device can't offer the features 0x%llx", (unsigned long long)features);
 }
 
+/* The library has seats as this program was built with them. */
+static bool can_seat(void)
+{
+    return vb_host_version() == VB_HOST_VERSION ||
+           refuse("the library has layout %u of vb_host.h, and not %u", vb_host_version(),
+                  VB_HOST_VERSION);
+}
+
 /* Ends all guests' processes, which have a moment for it. */
 static void end_all(struct host *host)
 {
@@ -268,8 +276,9 @@ int main(int count, char **words)
         return line == LINE_WRONG ? 2 : 0;
     process_allow_files(FILES_OF_LENDER + MOST_GUESTS * FILES_OF_SEAT +
                         CONTROL_SOCKETS * MOST_CONTROL_CLIENTS);
-    if (!can_overdraw(&host) || !can_be_shown(host.folder) || !can_offer(host.features) ||
-        !find_program(&host) || !folder_lock(&host) || !answers_begin(&host.answers))
+    if (!can_seat() || !can_overdraw(&host) || !can_be_shown(host.folder) ||
+        !can_offer(host.features) || !find_program(&host) || !folder_lock(&host) ||
+        !answers_begin(&host.answers))
         return 2;
     folder_take_over(&host);
     if (!service_begin(&service, &host, host.folder))

@@ -29,8 +29,8 @@ pub const PAGE: u64 = 4096;
 
 /// Whether the library is of the version that this crate is written for, so that structs and codes are the same.
 pub fn is_library_of_this_version() -> bool {
-    // SAFETY: it has no arguments.
-    is_compatible(unsafe { raw::vb_version() })
+    // SAFETY: they have no arguments.
+    unsafe { is_compatible(raw::vb_version()) && raw::vb_host_version() == raw::HOST_VERSION }
 }
 
 /// Whether a version is that of this crate, or differs in its third number alone.

@@ -1,7 +1,8 @@
 """Hosts whose event loop is wrong on purpose (tests/mutants/wrong_loop.c): each is refused by the
-test that is for it, and that alone is run."""
+test that is for it, and that alone is run. And one of another layout than the library's."""
 
 import os
+import subprocess
 
 import linux_kit
 import pytest
@@ -31,3 +32,17 @@ def test_a_wrong_loop_is_refused(name):
         HOST_PROGRAM=linux_kit.built("loop/vhost_user_host"),
     )
     print(f"{name} is refused by {LOOPS[name]}: {fault}")
+
+
+def test_a_host_of_another_layout_of_seats_doesnt_begin(tmp_path):
+    """Its library says another number than the header that it was built with (wrong_host.c)."""
+    words = [linux_kit.built("wrong-plain/vhost_user_host"), tmp_path, "--budget", "1"]
+    ran = subprocess.run(
+        words,
+        env=os.environ | {"HOST_WRONG": "21"},
+        capture_output=True,
+        text=True,
+        stdin=subprocess.DEVNULL,
+    )
+    assert (ran.returncode, ran.stdout) == (2, "")
+    assert "the library has layout 3 of vb_host.h, and not 2" in ran.stderr, ran.stderr

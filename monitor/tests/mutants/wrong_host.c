@@ -18,6 +18,7 @@
  *    18  never says that there is a budget, once all guests have reported
  *    19  takes a report for that of the guest at the next place
  *    20  sends no target
+ *    21  is built with another layout of vb_host.h than the library's
  *
  * 5 and 8 are wrong in guests' processes (wrong_lent.c).
  */
@@ -43,7 +44,8 @@ enum {
     COUNTS_TWICE,
     NO_BUDGET,
     NEXT_PLACE,
-    TELLS_NONE
+    TELLS_NONE,
+    OTHER_LAYOUT
 };
 
 VbDecision __real_vb_policy_decide(const VbPolicyBudget *, const VbFigures *, size_t,
@@ -61,6 +63,7 @@ bool __wrap_limit_allows(const struct seat *);
 uint32_t __real_vb_host_step(VbHost *, VbSeat *, size_t, const VbHostEvent *);
 uint32_t __wrap_vb_host_step(VbHost *, VbSeat *, size_t, const VbHostEvent *);
 
+uint32_t __wrap_vb_host_version(void);
 uint32_t __real_vb_seat_due_grant(const VbSeat *, const VbReport *);
 uint32_t __wrap_vb_seat_due_grant(const VbSeat *, const VbReport *);
 void __real_seat_tell(struct seat *);
@@ -155,6 +158,11 @@ bool __wrap_limit_allows(const struct seat *seat)
 uint32_t __wrap_vb_seat_due_grant(const VbSeat *seat, const VbReport *report)
 {
     return wrong() == GRANTS_ALL ? report->held > 0 : __real_vb_seat_due_grant(seat, report);
+}
+
+uint32_t __wrap_vb_host_version(void)
+{
+    return VB_HOST_VERSION + (wrong() == OTHER_LAYOUT);
 }
 
 void __wrap_seat_tell(struct seat *seat)
