@@ -66,6 +66,16 @@ def wrong_shims(*paths):
     return lambda: sum(it.file.startswith(paths) for it in tool("wrong-shims").WRONG)
 
 
+def headline(path):
+    """Returns how many lines a page's headline rests on."""
+
+    def count():
+        it = tool("headline")
+        return sum(it.reached_by(it.PAGES[path], False, False)[-1].values())
+
+    return count
+
+
 SHIM, CALLS, OBEY = (
     ("monitor/include/balloon.h", "monitor/include/balloon_discards.h"),
     ("monitor/include/balloon_calls.h", "monitor/include/balloon_notices.h"),
@@ -74,6 +84,11 @@ SHIM, CALLS, OBEY = (
 
 # A page, the pattern of a number in it, and what the number has to be.
 COUNTS = (
+    (
+        "crates/vb_host/README.md",
+        r"first\s+headline\S+:\s+(\w+) lines",
+        headline("crates/vb_host/README.md"),
+    ),
     ("README.md", r"the shims \((\w+) lines of C", lines_of(*SHIM)),
     ("README.md", r"lines of C, (\w+) of Rust\)", lines_of(OBEY)),
     ("CHANGELOG.md", r"shims in C and Rust obey it:\s+(\w+) and \w+ lines", lines_of(*SHIM)),

@@ -18,6 +18,7 @@ CHANGES = (
         "'1' in place of",
     ),
     ("counts", "README.md", r"the shims \(", "the code (", "0 texts"),
+    ("counts", "crates/vb_host/README.md", r": \d+ lines\. In", ": 1 lines. In", "'1' in place of"),
     (
         "counts",
         "docs/LINUX.md",
