@@ -12,7 +12,7 @@ use Rattle.vb_host.specs.declared.event.Event.{Event}
 use Rattle.vb_host.specs.declared.event.Event.TheVariants.{Hears, Grants, Overdraws, Wants, Targets, Arrives, Joins, TakesOver, Uncounts, Budget, Prefers, Defers}
 use Rattle.vb_host.specs.declared.seat.Seat.{Seat}
 use Rattle.vb_host.specs.Lending.{Lending, each_at, happens, is_first, may_grant, may_join_at, may_overdraw, next_turn, owed, pages_at, room, test_at, value_at}
-use Rattle.vb_host.specs.Seats.{asked, covers, deferring, granting, grown, heard, is_done, lent, may_defer, newcomer, preferring, reclaimed, retargeted, starting, waits}
+use Rattle.vb_host.specs.Seats.{apart, asked, covers, deferring, granting, grown, heard, is_done, lent, may_defer, newcomer, preferring, retargeted, starting, waits}
 
 -- what is lent, what may be, and the frames there are
 pub record IsWithin (l : Lending) (frames : ℕ) : Type 0 where
@@ -60,8 +60,8 @@ owed_if false xs ys frames f h = h
 
 -- ---- memory that joins
 
--- a guest that has gone was lent all its pages, as none of them was reclaimed
-gone_owes : (m : ℕ) (xs : List Seat) → value_at reclaimed xs m ≡ 0 → owed (each_at m (λ _. newcomer 0) xs) + pages_at xs m ≤ owed xs
+-- a guest that has gone was lent just its pages, as none of them was reclaimed, and none outside
+gone_owes : (m : ℕ) (xs : List Seat) → value_at apart xs m ≡ 0 → owed (each_at m (λ _. newcomer 0) xs) + pages_at xs m ≤ owed xs
 gone_owes m [] e = omega arith
 gone_owes zero (x ∷ xs) e = omega (arith, e, sum_by-cons lent (newcomer 0) xs, sum_by-cons lent x xs)
 gone_owes (suc m) (x ∷ xs) e = omega (arith, gone_owes m xs e, sum_by-cons lent x (each_at m (λ _. newcomer 0) xs), sum_by-cons lent x xs)
@@ -70,14 +70,14 @@ is_not : (b : Bool) → not b ≡ true → b ≡ false
 is_not true e = absurd cc
 is_not false e = refl
 
--- what may join is memory at another place, of which nothing is reclaimed
+-- what may join is memory at another place, of which nothing is reclaimed or outside
 record MayJoin (xs : List Seat) (n m : ℕ) : Type 0 where
   pub other : n ≢ m
-  pub empty : value_at reclaimed xs m ≡ 0
+  pub empty : value_at apart xs m ≡ 0
 
 may_join : (xs : List Seat) (n m : ℕ) → may_join_at xs n m ≡ true → MayJoin xs n m
 may_join xs n m e =
-    let a = and_left (((nat_lt n (length xs) && nat_lt m (length xs)) && not (n == m)) && (value_at reclaimed xs m == 0)) _ e in
+    let a = and_left (((nat_lt n (length xs) && nat_lt m (length xs)) && not (n == m)) && (value_at apart xs m == 0)) _ e in
     let b = and_left ((nat_lt n (length xs) && nat_lt m (length xs)) && not (n == m)) _ a in
     record {
       other = eq_false n m (is_not (n == m) (and_right (nat_lt n (length xs) && nat_lt m (length xs)) _ b));
@@ -93,14 +93,11 @@ joins_owe l n m e =
     omega (
       arith,
       owed_less n more (grown more) l.seats (λ s. omega arith),
-      gone_owes m (each_at n (grown more) l.seats) (value_elsewhere reclaimed n (grown more) l.seats m other ∙ c.empty),
+      gone_owes m (each_at n (grown more) l.seats) (value_elsewhere apart n (grown more) l.seats m other ∙ c.empty),
       value_elsewhere (λ s. s.pages) n (grown more) l.seats m other,
     )
 
 -- ---- an event of the lender
-
-defers_lend : (turn : ℕ) (s : Seat) → lent (deferring turn s) ≤ lent s + 0
-defers_lend turn s = either (λ (x : Seat). lent x ≤ lent s + 0) (may_defer s) _ s (λ _. omega arith) (λ _. omega arith)
 
 targets_owe : (l : Lending) (n frames : ℕ) → IsWithin l frames → owed (each_at n (retargeted (room l)) l.seats) ≤ frames
 targets_owe l n frames h = omega (arith, owed_less n (room l) (retargeted (room l)) l.seats (targets_lend (room l)), h.owed, h.budget)
@@ -111,6 +108,9 @@ IsOrdinary (TakesOver n pages r) = ⊥
 IsOrdinary (Uncounts n) = ⊥
 IsOrdinary (Budget frames) = ⊥
 IsOrdinary _ = ⊤
+
+defers_lend : (turn : ℕ) (s : Seat) → lent (deferring turn s) ≤ lent s + 0
+defers_lend turn s = either (λ (x : Seat). lent x ≤ lent s + 0) (may_defer s) _ _ (λ _. omega arith) (λ _. omega arith)
 
 pub lends_within : (l : Lending) (e : Event) (frames : ℕ) → IsWithin l frames → IsOrdinary e → IsWithin (happens l e) frames
 lends_within l (Hears n r) frames h o = record { owed = omega (arith, owed_less n 0 (heard (next_turn l.seats) r) l.seats (λ s. omega (arith, hears_lend (next_turn l.seats) r s)), h.owed); budget = h.budget }

@@ -26,19 +26,20 @@ events_leave_seats limited w event reply v seats step lowers have n g at =
       },
     )
 
--- it has as many pages, and no more of them are reclaimed
+-- it has as many pages, also outside, and no more of them are reclaimed
 pub record Less (s t : Seat) : Type 0 where
   pub pages : t.pages ≡ s.pages
   pub reclaimed : reclaimed t ≤ reclaimed s
+  pub outside : t.outside ≡ s.outside
 
 less_same : (s : Seat) → Less s s
-less_same s = record { pages = refl; reclaimed = omega arith }
+less_same s = record { pages = refl; reclaimed = omega arith; outside = refl }
 
 less_seat : (limited : Bool) (s t : Seat) (g : Guest) → Less s t → IsSeatOf limited s g → IsSeatOf limited t g
 less_seat limited s t g l h = record {
   pages = l.pages ∙ h.pages;
   reclaimed = λ e. omega (arith, l.reclaimed, h.reclaimed e);
-  held = λ e. omega (arith, l.pages, l.reclaimed, h.held e);
+  held = λ e. omega (arith, l.pages, l.outside, l.reclaimed, h.held e);
 }
 
 -- what is at a number, after a change at one, and of all
@@ -76,27 +77,27 @@ have_if limited true xs ys w a c = a
 have_if limited false xs ys w a c = c
 
 granting_less : (s : Seat) → Less s (granting s)
-granting_less s = record { pages = refl; reclaimed = omega arith }
+granting_less s = record { pages = refl; reclaimed = omega arith; outside = refl }
 
 targets_less : (room : ℕ) (s : Seat) → Less s (retargeted room s)
-targets_less room s = retargets (λ (x : Seat). Less s x) room s (less_same s) (λ number. record { pages = refl; reclaimed = omega arith })
+targets_less room s = retargets (λ (x : Seat). Less s x) room s (less_same s) (λ number. record { pages = refl; reclaimed = omega arith; outside = refl })
 
 prefers_less : (preferred : ℕ) (s : Seat) → Less s (preferring preferred s)
-prefers_less preferred s = record { pages = refl; reclaimed = omega arith }
+prefers_less preferred s = record { pages = refl; reclaimed = omega arith; outside = refl }
 
 defers_less : (turn : ℕ) (s : Seat) → Less s (deferring turn s)
-defers_less turn s = either (Less s) (may_defer s) _ s (λ _. record { pages = refl; reclaimed = omega arith }) (λ _. less_same s)
+defers_less turn s = either (λ (x : Seat). Less s x) (may_defer s) _ _ (λ _. record { pages = refl; reclaimed = omega arith; outside = refl }) (λ _. less_same s)
 
 pub seat_events_leave_seats : SeatEventsLeaveSeats
 seat_events_leave_seats limited l (Hears n r) w o h = absurd o
 seat_events_leave_seats limited l (Grants n) w o h = have_if limited (may_grant l n) l.seats _ w (have_at limited n granting l.seats w granting_less h) h
 seat_events_leave_seats limited l (Overdraws n) w o h = have_if limited (may_overdraw l n) l.seats _ w (have_at limited n granting l.seats w granting_less h) h
-seat_events_leave_seats limited l (Wants n pages) w o h = have_at limited n (λ s. record s { wanted = pages }) l.seats w (λ s. record { pages = refl; reclaimed = omega arith }) h
+seat_events_leave_seats limited l (Wants n pages) w o h = have_at limited n (λ s. record s { wanted = pages }) l.seats w (λ s. record { pages = refl; reclaimed = omega arith; outside = refl }) h
 seat_events_leave_seats limited l (Targets n) w o h = have_at limited n (retargeted (room l)) l.seats w (targets_less (room l)) h
 seat_events_leave_seats limited l (Arrives n pages ballooned) w o h = absurd o
 seat_events_leave_seats limited l (Joins n m) w o h = absurd o
 seat_events_leave_seats limited l (TakesOver n pages r) w o h = absurd o
-seat_events_leave_seats limited l (Uncounts n) w o h = have_at limited n uncounting l.seats w (λ s. record { pages = refl; reclaimed = omega arith }) h
+seat_events_leave_seats limited l (Uncounts n) w o h = have_at limited n uncounting l.seats w (λ s. record { pages = refl; reclaimed = omega arith; outside = refl }) h
 seat_events_leave_seats limited l (Budget frames) w o h = h
 seat_events_leave_seats limited l (Prefers n) w o h =
     have_at limited n (preferring 1) (map (preferring 0) l.seats) w (prefers_less 1) (have_all limited (preferring 0) l.seats w (prefers_less 0) h)

@@ -69,6 +69,7 @@ silent = record {
   read_target = 0;
   held = 0;
   line = 0;
+  outside = 0;
   target_number = 0;
   deflates = 0;
   removed = 0;
