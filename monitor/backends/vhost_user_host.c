@@ -34,9 +34,9 @@
  *                         without --config SIGHUP
  *
  * Each period (200 ms) it counts what the guests' files hold, and asks each for its statistics.
- * Targets are decided anew where the old ones don't serve any longer: by vb_guest_targets and
- * vb_needs_guest_targets of the library. A guest that breaks a rule or goes ends alone: a line on
- * standard error says so. A guest whose memory has no room beside the others is refused.
+ * Targets are decided by vb_policy_decide of the library. A guest that breaks a rule or goes ends
+ * alone: a line on standard error says so. A guest whose memory has no room beside the others is
+ * refused.
  *
  * `bigvasta` speaks to it by its control socket, FOLDER/.control (--control), and by one that only
  * shows the host, FOLDER/.status (--status): docs/CONTROL.md. --config: a file that says the same,

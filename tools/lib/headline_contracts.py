@@ -26,6 +26,6 @@ PAGES = {
     "crates/vb_c/README.md": [
         ("vb_begin", "vb_c/src/serving.rt", 'pub extern "C" fn vb_begin('),
         ("vb_go_on", "vb_c/src/serving.rt", 'pub extern "C" fn vb_go_on('),
-        ("vb_guest_targets", "vb_c/src/hosting.rt", 'pub extern "C" fn vb_guest_targets('),
+        ("vb_policy_decide", "vb_c/src/policy.rt", 'pub extern "C" fn vb_policy_decide('),
     ],
 }

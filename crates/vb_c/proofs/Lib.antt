@@ -12,7 +12,6 @@ mod RegisterFacts
 mod HintingFacts
 mod LeftFacts
 mod QueueFacts
-mod HostingFacts
 mod SeatsFacts
 mod HandingFacts
 mod BeginFacts

@@ -9,5 +9,4 @@ pub mod Serving
 pub mod Places
 pub mod Queues
 pub mod Seats
-pub mod Hosting
 pub mod Policy

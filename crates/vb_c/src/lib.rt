@@ -1,11 +1,10 @@
-//! `vb_core`, `vb_monitor`, `vb_host`, `vb_policy` and `vb_lender` for C: the headers say what each
-//! call is for. Each export takes any argument, and answers by a code; the device is one plain
-//! struct in the caller's memory, and nothing is allocated.
+//! `vb_core`, `vb_monitor`, `vb_host` and `vb_policy` for C: the headers say what each call is for.
+//! Each export takes any argument, and answers by a code; the device is one plain struct in the
+//! caller's memory, and nothing is allocated.
 #![tactic(auto)]
 
 mod bits;
 mod hinting;
-mod hosting;
 mod kinds;
 mod marks;
 mod notice;

@@ -8,7 +8,6 @@ mod balloon;
 mod held;
 mod hints;
 pub mod lender;
-pub mod lending;
 mod obey;
 mod pause;
 mod raw;

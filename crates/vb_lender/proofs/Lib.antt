@@ -1,5 +1,0 @@
-pub mod Zips
-pub mod Joins
-pub mod ByClass
-mod ClassFacts
-mod GuestFacts
