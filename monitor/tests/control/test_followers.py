@@ -124,13 +124,13 @@ def test_a_guest_that_is_removed_while_it_is_there_has_gone(host, arrive):
 
 
 def test_a_name_that_comes_back_is_a_new_guest_s(host):
-    with Connection(host.control) as follower:
-        events = follower.follow()
-        for _ in range(3):
-            host.ask("add", name="a")
-            assert next(events)["event"] == "added"
-            host.ask("remove", name="a")
-            assert next(events)["event"] == "removed"
+    for _ in range(3):
+        follower = Follower(host)
+        host.ask("add", name="a")
+        follower.hears("added")
+        host.ask("remove", name="a")
+        follower.hears("removed")
+        follower.connection.close()
 
 
 def test_twenty_clients_of_which_some_never_read_and_one_sends_trash(host, arrive):
