@@ -2,14 +2,21 @@
 
 import time
 
+# Seconds in which a host has decided on what has changed.
+DECIDED = 0.5
 
-def test_a_guest_that_is_asked_for_is_as_it_was(host, arrive):
-    arrive("a")
-    before = host.status()["counters"]["decisions"]
-    while (found := host.status()["counters"]["decisions"]) != before:
-        before = found
-        time.sleep(0.5)
-    for _ in range(10):
-        host.ask("guest", name="a"), host.ask("budget"), host.ask("floor"), host.ask("log")
-    time.sleep(0.5)
-    assert host.status()["counters"]["decisions"] == before
+
+def decisions(host):
+    """Returns how often a host has decided, once it has on what came before."""
+    time.sleep(DECIDED)
+    return host.status()["counters"]["decisions"]
+
+
+def test_what_is_asked_for_is_as_it_was(host):
+    host.ask("add", name="a")
+    before = decisions(host)
+    host.ask("floor", bytes=0)
+    changed = decisions(host)
+    for request in ({"request": "guest", "name": "a"}, {"request": "budget"}, {"request": "floor"}):
+        host.ask(**request)
+    assert before < changed == decisions(host)
