@@ -288,46 +288,5 @@ static inline void balloon_obey(struct balloon *balloon, struct balloon_result *
     }
 }
 
-/* ---- pauses */
-
-/* Where the notice of a queue of this kind is kept that pauses: there is none for other kinds than
- * those of requests. */
-static inline struct balloon_pause *balloon_pause_of(struct balloon *balloon, uint32_t kind)
-{
-    return kind <= VB_DEFLATE ? &balloon->paused[kind] : NULL;
-}
-
-/* Forgets a notice that pauses: its chain begins again from its first number. */
-static inline void balloon_forget_pause(struct balloon *balloon, uint32_t kind)
-{
-    struct balloon_pause *pause = balloon_pause_of(balloon, kind);
-    if (pause)
-        pause->notice.what = 0;
-}
-
-/* Keeps the notice, which pauses: other notices need its room. */
-static inline void balloon_keep_pause(struct balloon *balloon)
-{
-    struct balloon_pause *pause = balloon_pause_of(balloon, balloon->notice.kind);
-    if (pause) {
-        pause->notice = balloon->notice;
-        memcpy(pause->pieces, balloon->room.pieces, sizeof pause->pieces);
-    }
-    balloon->notice.what = 0;
-}
-
-/* Continues the notice of this queue that pauses; false where none does, or its device is another
- * one by now (VB_STALE). */
-static inline bool balloon_continue(struct balloon *balloon, uint32_t kind)
-{
-    struct balloon_pause *pause = balloon_pause_of(balloon, kind);
-    if (!pause || !pause->notice.what)
-        return false;
-    balloon->notice = pause->notice;
-    memcpy(balloon->room.pieces, pause->pieces, sizeof pause->pieces);
-    pause->notice.what = 0;
-    return balloon_go_on(balloon, 0) || balloon->notice.code != VB_STALE;
-}
-
 #include "balloon_calls.h"
 #endif

@@ -4,7 +4,8 @@ import os
 
 import linux_kit
 import pytest
-from vhost_client import MIGRATION, QEMU_PROTOCOL
+from vhost_client import QEMU_PROTOCOL
+from vhost_moves import PROTOCOL
 from vhost_served import Served
 
 PROGRAMS = (
@@ -13,7 +14,7 @@ PROGRAMS = (
     "loop-checked/vhost_user_balloon",
 )
 
-pytest.register_assert_rewrite("vhost_demands")
+pytest.register_assert_rewrite("vhost_demands", "vhost_moves")
 
 
 @pytest.fixture(scope="session")
@@ -101,7 +102,7 @@ def ready(serve):
 
     def make(*options):
         client = serve(*options)
-        client.start_by_events(protocol=QEMU_PROTOCOL | MIGRATION)
+        client.start_by_events(protocol=PROTOCOL)
         return client
 
     return make

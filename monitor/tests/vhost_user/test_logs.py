@@ -105,8 +105,11 @@ def test_what_is_not_to_be_logged(begin):
     demand_served(client, INFLATE, [FIRST + 1])
     assert logged(file) == []
     set_logging(client, True)
-    set_logging(client, False)
+    client.accepted(SET_FEATURES, word(FEATURES | HAS_PROTOCOL))
     demand_served(client, INFLATE, [FIRST + 2])
+    assert logged(file) == []
+    set_logging(client, False)
+    demand_served(client, INFLATE, [FIRST + 3])
     assert logged(file) == []
 
 

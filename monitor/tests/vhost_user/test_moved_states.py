@@ -1,11 +1,14 @@
-"""Tests of what a client hands over as a device, and of pipes, that are none."""
+"""Tests of pipes and states of a device that are none: each is refused by name, and harms nobody
+else."""
 
 import fcntl
 import os
 import struct
 
 import pytest
-from moving import (
+from vhost_client import CHECK_DEVICE_STATE, INFLATE
+from vhost_demands import FIRST, demand_served
+from vhost_moves import (
     BADLY,
     HEAD,
     LOAD,
@@ -21,8 +24,14 @@ from moving import (
     sum_of,
     with_pages,
 )
-from vhost_client import CHECK_DEVICE_STATE, INFLATE
-from vhost_demands import FIRST, demand_served
+
+
+def test_while_queues_run(ready):
+    client = ready()
+    for direction in (SAVE, LOAD):
+        assert ask(client, os.pipe()[direction == SAVE], direction) == BADLY
+    assert "while queues run" in client.why()
+    demand_served(client, INFLATE, [FIRST])
 
 
 def edited(data, at, new):

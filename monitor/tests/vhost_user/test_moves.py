@@ -1,10 +1,8 @@
-"""Tests of a device that moves to another process, as its guest migrates: one saves it into a pipe,
-and the other loads it from a pipe."""
+"""Tests of a device that moves to another process, as its guest migrates: it is saved into a pipe
+by one, and loaded from a pipe by the other."""
 
-import os
 import struct
 
-from moving import BADLY, LOAD, PROTOCOL, SAVE, arrive, ask, load, saved, stopped, with_pages
 from vhost_client import (
     FEATURES,
     GET_CONFIG,
@@ -15,6 +13,7 @@ from vhost_client import (
     SET_VRING_KICK,
 )
 from vhost_demands import FIRST, demand_refused, demand_served
+from vhost_moves import PROTOCOL, arrive, load, saved, stopped, with_pages
 
 
 def test_a_balloon_goes_on_elsewhere(ready, serve):
@@ -127,14 +126,6 @@ def test_a_state_of_another_memory(ready, serve):
     other.send(SET_VRING_KICK, struct.pack("<Q", INFLATE | NO_FILE), flags=1)
     other.send(SET_VRING_ENABLE, struct.pack("<II", INFLATE, 1), flags=1)
     demand_refused(other, "the device that was loaded has memory up to 0x1c0000, and this guest")
-
-
-def test_while_queues_run(ready):
-    client = ready()
-    for direction in (SAVE, LOAD):
-        assert ask(client, os.pipe()[direction == SAVE], direction) == BADLY
-    assert "while queues run" in client.why()
-    demand_served(client, INFLATE, [FIRST])
 
 
 def test_the_balloon_is_shown_while_no_queue_runs(ready, serve):

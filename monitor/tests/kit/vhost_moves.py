@@ -1,4 +1,4 @@
-"""A device that moves to another process: how a client has it saved, and loaded."""
+"""A device that moves: its bytes, and how a client has it saved and loaded."""
 
 import os
 import struct
