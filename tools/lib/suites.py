@@ -87,6 +87,11 @@ SUITES = {
         ),
         ("monitor/tests/linux/test_linux.py", "-v", "-rP"),
     ),
+    "migrate": Suite(
+        "a Linux guest that migrates between two QEMUs of Debian 13, by emulation",
+        ("monitor/tests/migrate", "-v", "-rP"),
+        "ninja-build python3-venv libglib2.0-dev libfdt-dev zlib1g-dev patch",
+    ),
     "rust-vmm": Suite(
         "the backend of one guest, by the frontend of rust-vmm's crate `vhost`, and the example "
         "on `vhost-user-backend`: Debian 13's crates, which "

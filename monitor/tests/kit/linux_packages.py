@@ -56,7 +56,9 @@ def apt_of(suite):
     folder = os.path.join(CACHE, f"apt-{suite}")
     os.makedirs(os.path.join(folder, "lists", "partial"), exist_ok=True)
     files = {
-        "sources.list": f"deb [signed-by={keyring()}] {MIRROR} {suite} main\n",
+        "sources.list": "".join(
+            f"{kind} [signed-by={keyring()}] {MIRROR} {suite} main\n" for kind in ("deb", "deb-src")
+        ),
         "status": "",
         "apt.conf": "".join(
             f'{name} "{it}";\n'
