@@ -13,7 +13,16 @@
 #include <sys/socket.h>
 #include <unistd.h>
 
-enum { SEATS = 3, FRAMES = 512, PERIOD = 200, MOST_READ = 8, STEP_MS = 50, TELLS_IN = 500 };
+enum {
+    SEATS = 3,
+    FRAMES = 512,
+    OVERDRAFT = 64,
+    START = 50,
+    PERIOD = 200,
+    MOST_READ = 8,
+    STEP_MS = 50,
+    TELLS_IN = 500
+};
 
 struct script script;
 
@@ -74,7 +83,9 @@ static void operator_says(void)
                                         "guests",
                                         "counters",
                                         "log",
-                                        "a target %u"};
+                                        "a target %u",
+                                        "terms a memory=%u",
+                                        "b ask"};
     char line[64];
     const char *format = lines[next_below(sizeof lines / sizeof lines[0])];
     unsigned value = next_byte();
@@ -97,6 +108,8 @@ static void look(unsigned number)
     demand(!seat_is_taken(seat) || comes || seat_is_behind(seat) ||
            seat->target <= place_of(seat)->wanted);
     seat_step(seat, STEP_MS);
+    seat_retell(seat);
+    places_relieve(&host);
     if (!seat_rests(seat))
         seat_remind(seat);
 }
@@ -180,6 +193,14 @@ static void check(void)
     }
 }
 
+/* A process goes; that of the second guest with an order that it hasn't read. */
+static void leave(unsigned number)
+{
+    if (number == 1)
+        seat_look(host.seats[number], false);
+    process_goes(&processes[number]);
+}
+
 static void act(void)
 {
     unsigned what = next_byte(), number = what / 16 % SEATS;
@@ -189,7 +210,7 @@ static void act(void)
     else if (what < 11)
         process_obeys(&processes[number]);
     else if (what == 11)
-        process_goes(&processes[number]);
+        leave(number);
     else if (what == 12)
         process_begins(number, next_byte() % 4 == 0);
     else if (what == 13)
@@ -221,7 +242,7 @@ static void begin(void)
 {
     unsigned kind = next_byte();
     memset(host.places, 0, sizeof host.places);
-    host.lends = (VbHost){0};
+    host.lends = (VbHost){.overdraft = kind & 16 ? OVERDRAFT : 0};
     now = (struct timespec){1, 0};
     host.frames = most_frames = FRAMES;
     lent_before = 0;
@@ -234,6 +255,7 @@ static void begin(void)
         host.seats[i]->terms = host_usual_terms(&host);
         host.seats[i]->terms.strict = kind >> i & 1;
         host.seats[i]->terms.overhead = 0;
+        host.seats[i]->terms.start = kind & 64 ? START : UINT32_MAX;
         process_begins(i, false);
     }
 }

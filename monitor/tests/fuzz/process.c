@@ -44,7 +44,7 @@ void process_tells(struct process *process, uint64_t number)
     for (unsigned changes = next_below(4); changes > 0; changes--)
         change_report(report);
     unsigned kind = next_byte();
-    report->number = kind % 2 ? number : 0;
+    report->number = kind % 2 ? number + (kind % 16 == 15) : 0;
     other = *report;
     if (kind < 200) {
         lending_send(process->channel, report);
