@@ -105,6 +105,7 @@ def branches(program, folder, corpus):
     found = {
         os.path.relpath(it["filename"], BACKENDS)[:-2]: it["summary"]["branches"]
         for it in said["data"][0]["files"]
+        if it["filename"].endswith(".c")
     }
     return {
         name: (its["count"], its["covered"])
