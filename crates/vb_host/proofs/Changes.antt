@@ -3,7 +3,7 @@ use Rattle.std.proofs.Common.{◌≡◌, ℕ, ◌+◌, ◌-◌, ◌<◌, ◌≤�
 use Rattle.std.proofs.lemmas.Bool.Decides.{nat_tests}
 use Rattle.vb_host.specs.declared.report.Report.{Report}
 use Rattle.vb_host.specs.declared.seat.Seat.{Seat}
-use Rattle.vb_host.specs.Seats.{believed, counting, covers, deferring, granting, heard, holding, is_stale, may_defer, noting, preferring, raised, remembered, served, targeted, uncounting}
+use Rattle.vb_host.specs.Seats.{believed, counting, covers, deferring, granting, heard, holding, is_stale, may_defer, noting, preferring, raised, remembered, served, targeted}
 use Rattle.vb_host.specs.System.{Grant, Order, Process, Target}
 use Rattle.vb_host.proofs.Sound.{IsKnown, IsPast, IsPastTarget, IsSent, and_left, and_right, believes, either, eq_false, eq_true, lt_false, lt_true, or_either}
 use Rattle.vb_host.proofs.Sound.{counts, notes, queues}
@@ -318,38 +318,6 @@ prefers_sent p s preferred (Grant n) h = h
 
 pub prefers_follow : (p : Process) (s : Seat) (preferred : ℕ) → IsKnown p s → Follows p s (preferring preferred s)
 prefers_follow p s preferred k = record { known = record { memory = k.memory; targets = k.targets; empty = k.empty }; sent = λ o h. prefers_sent p s preferred o h; past = λ q h. h }
-
--- ---- its balloon counts no longer
-
-uncounts_sent : (p : Process) (s : Seat) (o : Order) → IsSent p s o → IsSent p (uncounting s) o
-uncounts_sent p s (Target number target) h = (h.0, h.1, λ _. omega arith)
-uncounts_sent p s (Grant n) h = h
-
-pub uncounts_follow : (p : Process) (s : Seat) → IsKnown p s → Follows p s (uncounting s)
-uncounts_follow p s k = let m = k.memory in let n = k.targets in record {
-  known = record {
-    memory = record {
-      balloon = m.balloon;
-      held = m.held;
-      numbered = m.numbered;
-      granted = m.granted;
-      removed = m.removed;
-      pages = m.pages;
-      counted = omega (arith, m.removed);
-      without = λ _. omega (arith, m.removed, m.held);
-      used = omega (arith, m.outside);
-      used_without = λ _. omega (arith, m.outside, m.held);
-      outside = m.outside;
-      waiting = m.waiting;
-      waited = m.waited;
-      waits_for = m.waits_for;
-    };
-    targets = record { number = n.number; target = n.target; least_given = omega arith; least_received = omega arith; least_read = omega arith };
-    empty = λ _. refl;
-  };
-  sent = uncounts_sent p s;
-  past = λ r h. h;
-}
 
 -- ---- what it sends
 

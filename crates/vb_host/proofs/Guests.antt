@@ -7,7 +7,8 @@ use Rattle.vb_host.specs.declared.seat.Seat.{Seat}
 use Rattle.vb_host.specs.Seats.{apart, deferring, lent, possible_target, preferring, taking_over, waits, granting, taken_over, uncounting, retargeted}
 use Rattle.vb_host.specs.System.{Process, snapshot, Order, Target, Grant, Deed, does, Guest, arriving, taken_up, forgotten, obeying, order_at}
 use Rattle.vb_host.specs.System.{hearing, report_at, view, viewed, changed, by_lender, sending, Limit, joined, may_join}
-use Rattle.vb_host.proofs.Changes.{Follows, follows_same, grants_follow, hears_follow, sends_grant, sends_target, targets_follow, uncounts_follow}
+use Rattle.vb_host.proofs.Changes.{Follows, follows_same, grants_follow, hears_follow, sends_grant, sends_target, targets_follow}
+use Rattle.vb_host.proofs.Emptied.{uncounts_follow}
 use Rattle.vb_host.proofs.Changes.{defers_follow, prefers_follow, turn_follows, wants_follow}
 use Rattle.vb_host.proofs.Processes.{Moves, does_moves, obeys_moves, reports_now, moves_same}
 use Rattle.vb_host.proofs.Sound.{IsKnown, IsPast, IsSent, IsSound, all_of, either, lt_false, and_left, and_right, eq_true, lt_true}

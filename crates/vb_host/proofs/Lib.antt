@@ -2,6 +2,7 @@ pub mod Places
 pub mod Lines
 pub mod Sound
 pub mod Changes
+pub mod Emptied
 pub mod Processes
 pub mod Shown
 pub mod LentBy

@@ -103,8 +103,8 @@ static void hold(struct guest *guest)
     now->deflates++;
 }
 
-/* Memory is taken away, a part of it from the balloon and from the deflate that is held; some of the
- * rest stays outside, and what was there before may go. */
+/* Memory is taken away, a part of it from the balloon and from the deflate that is held; some of
+ * the rest stays outside, and what was there before may go. */
 static void shrink(struct guest *guest)
 {
     VbReport *now = &guest->now;
