@@ -134,7 +134,7 @@ json_t *answer_host(const struct control *control, const struct host *host)
     host_see(host, &view);
     return json_pack("{s:s, s:s, s:i, s:o, s:o, s:o, s:o, s:s, s:o, s:o, s:o, s:o, s:o, s:i, s:i, "
                      "s:i, s:b, s:f, "
-                     "s:i, s:s?, s:b, s:s?, s:o, s:o, s:o, s:o}",
+                     "s:o, s:s?, s:b, s:s?, s:o, s:o, s:o, s:o}",
                      "version", VB_VERSION, "folder", view.folder, "guests", (int)view.guests,
                      "budget", part_bytes(view.budget), "overdraft", part_bytes(view.overdraft),
                      "floor", part_bytes(view.floor), "reserve", count(view.reserve), "tier",
@@ -143,7 +143,7 @@ json_t *answer_host(const struct control *control, const struct host *host)
                      part_bytes(view.overdrawn), "waiting", (int)view.waiting, "silent",
                      (int)view.silent, "uncooperative", (int)view.uncooperative, "strict",
                      view.strict, "period", (double)view.period / 1000, "patience",
-                     (int)view.patience, "on_short", view.on_short, "short", view.is_short,
+                     count(view.patience), "on_short", view.on_short, "short", view.is_short,
                      "gives_first", view.gives_first, "counters", answer_host_counters(&view),
                      "control", answer_control_counters(&control->sockets[MAY_CHANGE].counters),
                      "status", answer_control_counters(&control->sockets[MAY_LOOK].counters),

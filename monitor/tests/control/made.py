@@ -166,7 +166,9 @@ class MadeHost:
     def __init__(self):
         made = Made()
         self.hosts = [
-            made.struct("host/view.h", "host_view", guests=GUESTS, strict=True, tier=it)
+            made.struct(
+                "host/view.h", "host_view", guests=GUESTS, strict=True, tier=it, is_short=True
+            )
             for it in ("cache", "short")
         ]
         self.hosts[1]["decisions"] = self.hosts[0]["decisions"] + 1

@@ -13,7 +13,11 @@ from waiting import eventually, patience_from_now
 # counts; with both.
 OF_LENDERS, OF_CLIENTS, OF_BOTH = {"lender"}, {"client"}, {"lender", "client"}
 HOST = dict.fromkeys(
-    "looks above peak decisions changed shorts admitted refused gone dropped".split(), OF_LENDERS
+    (
+        "looks above peak decisions changed shorts admitted refused gone dropped shortages "
+        "command_failures"
+    ).split(),
+    OF_LENDERS,
 )
 SOCKET = dict.fromkeys("accepted dropped turned_away requests refused".split(), OF_LENDERS)
 MEASURES = dict.fromkeys("above gone waits ungranted decisions turns processor".split(), OF_LENDERS)

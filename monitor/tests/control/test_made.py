@@ -234,7 +234,9 @@ def test_each_field_of_an_event(made, host):
         (state["leaving"], {"event": "silent"}),
         ({"event": "gone"},),
     )
-    wanted = [{"event": "budget", "budget": budget}]
+    its = made[0].hosts[1]
+    short = {"event": "short", "guest": its["gives_first"], "missing": its["short_by"] * PAGE}
+    wanted = [{"event": "budget", "budget": budget}, {"event": "enough"}, short]
     wanted += [
         its | {"guest": f"guest-{number}"} for number, events in enumerate(about) for its in events
     ]
@@ -271,6 +273,8 @@ METRICS = {
     "decisions_total": "counters.decisions",
     "targets_changed_total": "counters.changed",
     "decisions_short_total": "counters.shorts",
+    "shortages_total": "counters.shortages",
+    "command_failures_total": "counters.command_failures",
     "guests_admitted_total": "counters.admitted",
     "guests_refused_total": "counters.refused",
     "lines_dropped_total": "counters.dropped",
