@@ -131,10 +131,12 @@ static void put_region(struct sent *sent, unsigned region)
     sent->kinds[sent->files++] = region == 0 ? MEMORY : OTHER_MEMORY;
 }
 
-static void put_addresses(struct sent *sent, unsigned queue)
+/* Where a queue is; now and then writes to its used ring are to be logged, there or elsewhere. */
+static void put_addresses(struct sent *sent, unsigned queue, unsigned choice)
 {
-    uint64_t at = user_at[0] + queue * (uint64_t)OF_QUEUE;
-    const uint64_t numbers[] = {queue, at, at + 2 * PAGE, at + PAGE, 0};
+    uint64_t here = queue * (uint64_t)OF_QUEUE, at = user_at[0] + here, logs = choice % 4 == 3;
+    uint64_t log = choice % 8 == 3 ? guest_at[0] + here + 2 * PAGE : 0;
+    const uint64_t numbers[] = {queue | logs << 32, at, at + 2 * PAGE, at + PAGE, log};
     memcpy(sent->body, numbers, sizeof numbers);
     sent->size = sizeof numbers;
 }
@@ -171,7 +173,7 @@ static void fill(struct sent *sent, unsigned queue, unsigned choice)
     if (request == SET_FEATURES || request == SET_PROTOCOL_FEATURES || request == SET_STATUS) {
         put(sent, words[request][choice % 4], 8);
     } else if (request == SET_VRING_ADDR) {
-        put_addresses(sent, queue);
+        put_addresses(sent, queue, choice);
     } else if (request == SET_VRING_KICK || request == SET_VRING_CALL || request == SET_VRING_ERR) {
         put_event(sent, queue, choice);
     } else if (request == SET_MEM_TABLE) {
