@@ -115,7 +115,7 @@ stepped_so new seats n h =
     (it.0, step_one (lending_of host before) (lending_of new seats) (lending_of host after) (Wants 0 10) it.1 steps)
 
 -- a kind that is none, with an event that would change all
-refused_so : (new : VbHost) (seats : List Seat) (n : ℕ) → StepsFor host new before seats (record told { kind = 12 }) n
+refused_so : (new : VbHost) (seats : List Seat) (n : ℕ) → StepsFor host new before seats (record told { kind = 13 }) n
     → (n ≡ 7) × (new ≡ host) × (seats ≡ before)
 refused_so new seats n h = h.refused refl
 
