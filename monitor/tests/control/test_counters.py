@@ -266,6 +266,7 @@ OF_GUESTS = {
     "process": ("process", 1),
     **{it: (f"terms.{it}", PAGE) for it in ("least", "most", "overhead")},
     "priority": ("terms.priority", 1),
+    "weight": ("terms.weight", 1),
     "answers": ("answers", 1),
     "reports": ("reports", 1),
     "waits": ("waits_for", 1),
@@ -277,6 +278,7 @@ OF_HOST = {
     "held_kib": ("held", KIB),
     "lent": ("lent", PAGE),
     "peak_kib": ("counters.peak", KIB),
+    "tier": ("tier", 1),
     **{
         it: (f"counters.{it}", 1)
         for it in "looks above decisions changed shorts admitted refused gone dropped".split()
@@ -287,13 +289,14 @@ OF_DECISIONS = {
     "frames": ("budget", PAGE),
     "floor": ("floor", PAGE),
     "short": ("missing", PAGE),
+    "tier": ("tier", 1),
 }
 OF_SHARES = {"pages": ("memory", PAGE), **{it: (it, PAGE) for it in ("spare", "old", "target")}}
 # What only a line has.
 MORE = {
     "guests": {"here", "ready", "asked", "cooperates"},
     "counters": {"grants"},
-    "log": {"most", "ballooned", "by"},
+    "log": {"unused", "cached", "most", "ballooned", "by"},
 }
 
 

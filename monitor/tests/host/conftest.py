@@ -104,7 +104,7 @@ def one(lend, come, limits):
     """A host, a guest that has a limit and is asked for 50 of its pages, and one that has none."""
     lender, its = lend(1, *STRICT), limits("a")
     guest = come(lender, "a", {FREE: 100}, f"overhead=0 limit={its.term}")
-    other = come(lender, "b", {FREE: 100})
+    other = come(lender, "b", {FREE: 100}, "priority=1")
     lender.become("a", limit=128)
     lender.set_budget(256 - 50)
     lender.become("a", asked=50)

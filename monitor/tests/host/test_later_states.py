@@ -185,6 +185,7 @@ def test_terms_go_on_whatever_the_later_lender_has_others(lend, come, first, sec
         "least": 1 << 20,
         "most": 2 << 20,
         "priority": 3,
+        "weight": 1,
         "strict": strict,
         "overhead": 4 << 20,
         "limit": None,
@@ -209,9 +210,13 @@ def test_terms_go_on_whatever_the_later_lender_has_others(lend, come, first, sec
     later.become("a", waits="deflate" if strict else "nothing", ballooned=10 if strict else 5)
 
 
+# Terms of three guests, of which the second gives first, then the first.
+FIRST_B = ("priority=1", "", "priority=2")
+
+
 def test_a_later_lender_with_a_smaller_budget_lends_nothing_before_there_is_room(lend, come):
     first = lend(2, *STRICT)
-    a, b, c = (come(first, it, {FREE: 100}) for it in "abc")
+    a, b, c = (come(first, *it) for it in zip("abc", [{FREE: 100}] * 3, FIRST_B))
     b.give(GIVEN[:10])
     first.become("b", ballooned=10)
     first.kill()
@@ -236,7 +241,8 @@ def test_a_later_lender_with_a_smaller_budget_lends_nothing_before_there_is_room
 def test_a_later_lender_names_who_holds_more_than_its_loan(lend, come):
     """As the earlier one has."""
     first = lend(2, *STRICT)
-    a, _, _ = (come(first, it, {FREE: 100}, "overhead=0") for it in "abc")
+    a = come(first, "a", {FREE: 100}, "overhead=0")
+    come(first, "b", {FREE: 100}, "priority=1"), come(first, "c", {FREE: 100}, "priority=1")
     first.set_budget(3 * ALL - 50)
     a.give(GIVEN[:50])
     first.become("a", ballooned=50, lent=ALL - 50)
@@ -333,14 +339,14 @@ def test_a_folder_keeps_what_is_no_guests(lend, tmp_path_factory):
     lender = lend(1, *STRICT, folder=str(folder))
     assert (lender.guests(), lender.ask("add a")) == ({}, "error: a: Address already in use")
     lender.demand("add c overhead=3")
-    assert os.readlink(folder / "=c") == f"terms 0 {ANY} 0 1 {3 * 256} {ANY} {ANY} {ANY} 0 none"
+    assert os.readlink(folder / "=c") == f"terms 0 {ANY} 0 1 {3 * 256} {ANY} {ANY} {ANY} 1 0 none"
     assert [(folder / it).read_text() for it in ("+b", "a")] == ["x", "x"]
 
 
-# A guest that has 4096 pages, of which 3000 are in its balloon, and is asked for 2560: those that
-# are missing of 6144 frames, as another one has 4096, and a third one 512, all of which are in its
-# balloon.
-FRAMES, MEMORY, BALLOONED, TARGET, EARLIER, SURPLUS = 6144, 4096, 3000, 2560, 2048, 512
+# A guest that has 4096 pages, of which 3000 are in its balloon, and is asked for 2524: 2560 are
+# missing of 6144 frames, as another one has 4096, and a third one 512, all of which are in its
+# balloon; and 476 stay to each of both.
+FRAMES, MEMORY, BALLOONED, TARGET, EARLIER, SURPLUS = 6144, 4096, 3000, 2524, 2048, 512
 
 
 @pytest.mark.parametrize(

@@ -151,7 +151,7 @@ def test_a_process_tells_no_terms_of_its_own(lend):
     later, found = terms_after(lend, later, "0 none")
     assert found == {"least": 7 * PAGE, "most": 9 * PAGE, "priority": 8, "strict": False}
     os.unlink(f"{later.folder}/=a"), os.symlink(
-        f"terms 0 256 3 1 0 {HUGE} {HUGE} {HUGE} {ALL} none", f"{later.folder}/=a"
+        f"terms 0 256 3 1 0 {HUGE} {HUGE} {HUGE} 1 {ALL} none", f"{later.folder}/=a"
     )
     assert terms_after(lend, later)[1] == {
         "least": 0,

@@ -237,7 +237,7 @@ def test_what_is_no_limit_is_refused(lend, terms, why):
     lender.demand("add a")
     assert lender.ask(f"terms a {terms}") == f"error: {why}"
     assert lender.guests()["a"]["overhead"] == 64 * 256
-    assert os.readlink(f"{lender.folder}/=a").endswith(f" 16384 {ANY} {ANY} {ANY} 0 none")
+    assert os.readlink(f"{lender.folder}/=a").endswith(f" 16384 {ANY} {ANY} {ANY} 1 0 none")
 
 
 def test_a_limit_is_one_guests(lend, limits):
