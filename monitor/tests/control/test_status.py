@@ -32,6 +32,8 @@ CHANGES = (
     ("guest", {"name": "a", "limit": None}, "limit", "limit"),
     ("guest", {"name": "a", "user": None}, "user", "user"),
     ("guest", {"name": "a", "memory": None}, "memory", "memory"),
+    ("guest", {"name": "a", "start": None}, "start", "start"),
+    ("guest", {"name": "a", "weight": 2}, "weight", "weight"),
     ("guest", {"name": "a", "target": 0}, "target", "target"),
     ("guest", {"name": "none", "target": "x", "colour": "red"}, "target", "target"),
     ("budget", {"bytes": 100 * MIB}, "bytes", "bytes"),
