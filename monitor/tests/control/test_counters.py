@@ -265,8 +265,7 @@ OF_GUESTS = {
     "limit_failures": ("counters.limit_failures", 1),
     "process": ("process", 1),
     **{it: (f"terms.{it}", PAGE) for it in ("least", "most", "overhead")},
-    "priority": ("terms.priority", 1),
-    "weight": ("terms.weight", 1),
+    **{it: (f"terms.{it}", 1) for it in ("priority", "weight")},
     "answers": ("answers", 1),
     "reports": ("reports", 1),
     "waits": ("waits_for", 1),
@@ -333,11 +332,8 @@ def test_lines_say_what_answers_do(town):
     town.host.ask("budget", bytes=200 * PAGE)
     eventually(lambda: town.host.status()["counters"]["shorts"] > 0)
     for _ in range(20):
-        looks, lines, guests = (
-            town.host.status()["counters"]["looks"],
-            lines_of(town.host, "counters"),
-            lines_of(town.host, "guests"),
-        )
+        looks = town.host.status()["counters"]["looks"]
+        lines, guests = lines_of(town.host, "counters"), lines_of(town.host, "guests")
         status, log = town.host.ask("status"), lines_of(town.host, "log")
         if status["host"]["counters"]["looks"] == looks:
             break
