@@ -58,11 +58,16 @@ class Side:
         words = vmm.words(folder, shape, self.socket)
         words += ["-incoming", "defer"] if incoming else []
         self.guest = Guest(words, vmm.environment(), (), folder, shape.memory)
-        if not incoming:
-            self.guest.boot()
-        self.qmp = eventually(self.connected, self.guest.why)
-        if incoming:
-            self.guest.held = self.guest.memory_file()
+        self.qmp = None
+        try:
+            if not incoming:
+                self.guest.boot()
+            self.qmp = eventually(self.connected, self.guest.why)
+            if incoming:
+                self.guest.held = self.guest.memory_file()
+        except BaseException:
+            self.close()
+            raise
 
     def connected(self):
         """Returns a client of QEMU's control socket, once there is one."""
@@ -103,13 +108,20 @@ class Side:
 
     def close(self):
         """Ends both: also a guest that doesn't run, or that has gone."""
+        if self.qmp:
+            self.end_qemu()
+        else:
+            self.guest.process.kill()
+        self.guest.close()
+        self.backend.close()
+
+    def end_qemu(self):
+        """Has QEMU end, whether its guest runs or not."""
         try:
             self.qmp.do("quit")
         except (Fault, OSError):
             pass
         self.qmp.close()
-        self.guest.close()
-        self.backend.close()
 
 
 class Pair:
@@ -118,8 +130,12 @@ class Pair:
     def __init__(self, vmm, program, folder, shape, options=()):
         self.vmm, self.program, self.folder, self.shape = vmm, program, str(folder), shape
         self.options, self.number, self.sides = options, 0, []
-        self.source = self.side(False)
-        self.destination = self.side(True)
+        try:
+            self.source = self.side(False)
+            self.destination = self.side(True)
+        except BaseException:
+            self.close()
+            raise
 
     def side(self, incoming):
         """Starts one more side."""

@@ -13,8 +13,10 @@ from waiting import eventually
 # its balloon, of 256.
 MORE, SMALL, LARGE = 1.02, 128, 192
 
-# MiB of the files that the guest keeps, and bytes a second of a migration that is to take a while.
+# MiB of the file that the guest keeps; bytes a second of a migration that is to take a while; what
+# a busy guest does meanwhile, and the MiB that it may take for that.
 KEPT, SLOWLY = 20, 32 << 20
+BUSY, BUSY_MIB = "for i in $(seq 60); do fill busy 4 && drop busy; done", 16
 
 
 def with_balloon(pair, mib=SMALL):
@@ -74,9 +76,8 @@ def test_qemu_s_commands(pair):
 def test_a_busy_guest(pair):
     """It writes and drops files, and its target moves, while it migrates slowly."""
     pair = pair()
-    with_balloon(pair)
-    before = pair.source.held_mib()
-    pair.source.guest.begin("while [ ! -e /t/stop ]; do fill busy 4; drop busy; done")
+    sums, before = with_balloon(pair), pair.source.held_mib()
+    pair.source.guest.begin(BUSY)
     pair.begin(**{"max-bandwidth": SLOWLY})
     for turn in range(8):
         pair.source.set_size(SMALL + 8 * (turn % 2))
@@ -85,11 +86,11 @@ def test_a_busy_guest(pair):
     pair.end()
     eventually(lambda: pair.destination.qmp.do("query-status")["status"] == "running")
     side = pair.destination
-    side.guest.begin("\x03")
-    side.guest.begin("touch /t/stop")
+    assert side.guest.end(BUSY)[0] == 0
     side.settle()
-    demand_held(pair, before + 16)
+    demand_held(pair, before + BUSY_MIB)
     assert side.size_mib() == SMALL
+    demand_right(side, sums)
 
 
 def test_a_migration_that_is_cancelled(pair):
@@ -118,6 +119,24 @@ def test_a_destination_s_backend_that_ends(pair):
     demand_right(pair.source, sums)
     pair.source.set_size(LARGE)
     pair.source.settle()
+
+
+def test_a_backend_that_is_killed(pair):
+    """QEMU says what it knew of the balloon meanwhile, and another backend goes on with it."""
+    pair = pair()
+    sums, side = with_balloon(pair), pair.source
+    side.restart()
+    assert side.size_mib() == SMALL
+    eventually(lambda: side.backend.counters()["status"] == 15, side.backend.why)
+    assert (side.counter("actual"), side.counter("target")) == (SMALL << 8, SMALL << 8)
+    for mib in (LARGE, SMALL):
+        side.set_size(mib)
+        side.settle()
+        assert side.size_mib() == mib
+    before = side.held_mib()
+    pair.migrate()
+    demand_held(pair, before)
+    demand_right(pair.destination, sums)
 
 
 def test_a_large_ring_that_the_device_alone_writes(pair):
