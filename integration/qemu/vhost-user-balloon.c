@@ -380,6 +380,8 @@ static void balloon_disconnect(DeviceState *dev)
     struct vhost_virtqueue *vqs = vub->vhost_dev.vqs;
 
     if (vub->connected) {
+        /* It was marked as stopped as the socket closed, and isn't yet */
+        vub->vhost_dev.started = VHOST_USER_BALLOON(dev)->was_started;
         base_class->set_status(vdev, 0);
         vub->connected = false;
         vhost_dev_cleanup(&vub->vhost_dev);
@@ -398,9 +400,6 @@ static bool balloon_restore_backend(VHostUserBalloon *b, Error **errp)
     if (vdev->guest_features & ~vub->vhost_dev.features) {
         error_setg(errp, "vhost-user-balloon: the backend that connects lacks "
                    "features of the driver");
-        return false;
-    }
-    if (!backend_check(b, errp)) {
         return false;
     }
     if (!write_target(b)) {
@@ -449,6 +448,7 @@ static void balloon_event(void *opaque, QEMUChrEvent event)
         qemu_chr_fe_disconnect(&vub->chardev);
     }
     if (event == CHR_EVENT_CLOSED) {
+        b->was_started = vhost_dev_is_started(&vub->vhost_dev);
         /* Later, as a message may be amid */
         vhost_user_async_close(DEVICE(b), &vub->chardev, &vub->vhost_dev,
                                balloon_disconnect);

@@ -35,6 +35,10 @@ class Migrating(Qemu):
         loader = next(i for i, it in enumerate(words) if "ld-linux" in it)
         return [*words[: loader + 1], "--preload", module(), *words[loader + 1 :]], DEVICE
 
+    def words(self, folder, shape, path):
+        """Returns the guest's command; a backend that has gone is looked for again."""
+        return super().words(folder, shape, f"{path},reconnect-ms=200")
+
     def accelerator(self):
         """Returns QEMU's word for its own emulation."""
         return "tcg"
@@ -77,6 +81,12 @@ class Side:
             if self.guest.process.poll() is not None:
                 raise Fault(f"QEMU has gone: {self.guest.why()}") from None
             return None
+
+    def restart(self):
+        """Kills the backend, and starts another one in its place."""
+        self.backend.process.kill()
+        self.backend.close()
+        self.backend = Backend(self.program, self.folder, [self.socket, *self.options])
 
     def counter(self, name):
         """Returns one of the backend's counters."""
