@@ -16,8 +16,8 @@
 /* The version of this header. Until 1.0.0 the second number changes with each change that a caller
  * may have to follow, else the third one. vb_version says the library's: it has to be
  * VB_VERSION_NUMBER, or to differ in the third number alone. */
-#define VB_VERSION "0.3.0"
-#define VB_VERSION_NUMBER 0x000300u
+#define VB_VERSION "0.4.0"
+#define VB_VERSION_NUMBER 0x000400u
 /* VB_VERSION_NUMBER: 65536 times the first number, 256 times the second, and the third */
 
 #include "vb_types.h" /* and vb_numbers.h: codes, limits and bits */

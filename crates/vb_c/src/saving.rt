@@ -8,7 +8,7 @@ use vb_monitor::{BAD_LENGTH, BAD_SUM, IMPOSSIBLE, NOT_A_STATE, OK, OTHER_VERSION
 
 /// The version of the library: 65,536 times the first number, 256 times the second, and the third.
 /// `tools/list-codes --write` has it of the file VERSION.
-const VERSION: u32 = 0x00_0300;
+const VERSION: u32 = 0x00_0400;
 
 /// The code of a denial.
 pub(crate) fn code_of_state(denial: StateDenial) -> u32
