@@ -645,6 +645,11 @@ static void balloon_realize(DeviceState *dev, Error **errp)
 
     vub->virtio_id = VIRTIO_ID_BALLOON;
     vub->config_size = VHOST_USER_BALLOON_CONFIG_SIZE;
+    /* A chardev that connects anew does so later, unless it is waited for */
+    if (vub->chardev.chr &&
+        qemu_chr_fe_wait_connected(&vub->chardev, errp) < 0) {
+        return;
+    }
     base_class->realize(dev, &err);
     if (err) {
         error_propagate(errp, err);
