@@ -71,9 +71,9 @@ ELSEWHERE = {
     "outcome": ("test_anew.py", "handles-twice"),
 }
 
-# What is 0 for each guest of these tests: a kick is an eventfd, no memory has huge pages, and the
-# set has words for all pages.
-ZEROS = ("rings.kick.is_socket", "counters.waiting", "counters.unmarked")
+# What is 0 for each guest of these tests: a kick is an eventfd, no memory has huge pages, the set
+# has words for all pages, and a lender's process offers no log of writes.
+ZEROS = ("rings.kick.is_socket", "rings.logged", "counters.waiting", "counters.unmarked")
 
 
 class File(str):
