@@ -31,7 +31,7 @@ extern "C" {
 #endif
 
 /* The layout of this header: another number for each change of a struct or an event here. A caller
- * that begins compares it with what the library says, and goes on where both are the same: the
+ * that begins compares it with what the library says, and continues where both are the same: the
  * library can't see which header its caller was built with. */
 #define VB_HOST_VERSION 2u
 uint32_t vb_host_version(void);

@@ -353,7 +353,7 @@ static struct vhost_dev *balloon_get_vhost(VirtIODevice *vdev)
     return &VHOST_USER_BASE(vdev)->vhost_dev;
 }
 
-/* ---- A socket that connects anew */
+/* ---- A socket that reconnects */
 
 static void balloon_event(void *opaque, QEMUChrEvent event);
 
@@ -645,7 +645,7 @@ static void balloon_realize(DeviceState *dev, Error **errp)
 
     vub->virtio_id = VIRTIO_ID_BALLOON;
     vub->config_size = VHOST_USER_BALLOON_CONFIG_SIZE;
-    /* A chardev that connects anew does so later, unless it is waited for */
+    /* A chardev that reconnects does so later, unless it is waited for */
     if (vub->chardev.chr &&
         qemu_chr_fe_wait_connected(&vub->chardev, errp) < 0) {
         return;

@@ -28,7 +28,7 @@ struct VHostUserBalloon {
     NotifierWithReturn precopy_notifier;
     Error *migration_blocker;
 
-    /* What a backend that connects anew is told */
+    /* What a backend that reconnects is told */
     uint32_t target;
     bool keep_pages;
     bool was_started;

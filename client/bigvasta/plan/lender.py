@@ -71,7 +71,7 @@ class Lender:
         return self.library.vb_spare(pages, 0, max(self.unused[guest], 0), 1, floor, 0)
 
     def figure(self, guest):
-        """Says anew what a guest can spare: after each change of what it uses, or of its seat."""
+        """Says again what a guest can spare: after each change of what it uses, or of its seat."""
         pages = self.seats.seats[guest].pages
         for needs, floor in ((self.spares, self.terms.floor), (self.needs, self.low)):
             needs[guest].pages, needs[guest].spare = pages, self.spare(guest, floor)
@@ -115,8 +115,8 @@ class Lender:
     # ---- waits
 
     def ask(self, guest, *words):
-        """A guest holds a deflate back, by which targets are decided anew: the wait goes on until
-        it asks for nothing more."""
+        """A guest holds a deflate back, by which targets are decided again: the wait lasts until it
+        asks for nothing more."""
         self.anew = True
         if self.since[guest] is None:
             self.since[guest] = self.now
@@ -144,7 +144,7 @@ class Lender:
         raise Unclear("plan: the guests of a moment don't come to rest")
 
     def decide(self):
-        """Keeps the targets that serve, or has them decided anew; where all that the guests can
+        """Keeps the targets that serve, or has them decided again; where all that the guests can
         spare is too little, each is asked for all."""
         library, frames, count = self.library, self.terms.frames, self.count
         if not self.anew and not library.vb_needs_targets(

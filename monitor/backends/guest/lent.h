@@ -48,7 +48,7 @@ int lent_run(const struct options *options, struct kept *kept);
 uint32_t lent_ballooned(const struct lent *lent);
 enum lending_hold lent_hold(const struct lent *lent);
 
-/* It starts, or begins anew, while these count in its balloon; whether it does: added memory has
+/* It starts, or restarts, while these count in its balloon; whether it does: added memory has
  * them in it already. */
 bool awaited_begin(struct lent *lent, uint32_t pages);
 

@@ -41,7 +41,7 @@ static uint64_t sum_of(const uint8_t *bytes, size_t length)
     return sum;
 }
 
-/* The index at which the queue of inflates goes on, which is stopped. */
+/* The index at which the queue of inflates continues, which is stopped. */
 static uint16_t index_of(const struct backend *backend)
 {
     const struct ring *ring = ring_of_kind(backend, VB_INFLATE);

@@ -17,10 +17,10 @@ enum {
     MOST_MOVED = MOVED_HEAD + MOST_MOVED_PAGES / 8 + MOVED_SUM
 };
 
-/* Where a device that was loaded goes on. */
+/* Where a device that was loaded continues. */
 struct moved {
     bool awaits;         /* its queue of inflates hasn't started since */
-    uint16_t index;      /* at which that goes on; at another one a new driver begins */
+    uint16_t index;      /* at which that continues; at another one a new driver begins */
     uint64_t memory_end; /* where the guest's memory ended */
     uint32_t actual, words;
     uint64_t set[MOST_MOVED_PAGES / 64];
@@ -35,8 +35,8 @@ size_t moved_save(const struct backend *backend, uint8_t bytes[MOST_MOVED]);
  * are none, which is said; then nothing has changed. */
 bool moved_load(struct backend *backend, const uint8_t *bytes, size_t length);
 
-/* The driver of the device that was loaded goes on: its balloon is what it was. False where that is
- * another guest's, which is said. */
+/* The driver of the device that was loaded continues: its balloon is what it was. False where that
+ * is another guest's, which is said. */
 bool moved_begin(struct backend *backend);
 
 #endif

@@ -154,7 +154,7 @@ static bool find_start(struct backend *backend, unsigned number, VbQueueStart *a
 }
 
 /* The queue of inflates starts anew: at 0 a new life begins, with nothing in the balloon; else the
- * last one goes on. Where a device was loaded that says at which index it goes on, so does its
+ * last one continues. Where a device was loaded that says at which index it continues, so does its
  * driver at that one, and at another one a new life begins. */
 static bool begin_life(struct backend *backend, uint16_t position)
 {

@@ -100,7 +100,7 @@ struct seat {
     int64_t paused_until;  /* it has taken pages itself: until then it is asked for no more than it
                               has given */
     uint32_t target;       /* what was decided; what is wanted so far is in its VbSeat */
-    uint32_t by_hand;      /* what an operator wants in its balloon until all is decided anew */
+    uint32_t by_hand;      /* what an operator wants in its balloon until all is decided again */
     int64_t waits_since;
     struct ended_wait ended; /* the last of its waits that ended, also those of clients before */
     bool wait_named;         /* it was said that its wait is long */
@@ -140,7 +140,7 @@ struct stand {
     int64_t since;
 };
 
-/* The guest that waits first of those that begin anew or come, its turn, and since when. */
+/* The guest that waits first of those that restart or come, its turn, and since when. */
 struct head {
     size_t first;
     uint64_t turn;

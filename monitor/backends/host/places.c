@@ -162,7 +162,7 @@ void places_relieve(struct host *host)
         happens(host, (VbHostEvent){.kind = VB_OVERDRAWS, .guest = first});
 }
 
-/* Who waits first of those that begin anew or come, but for one; SIZE_MAX where nobody does. */
+/* Who waits first of those that restart or come, but for one; SIZE_MAX where nobody does. */
 static size_t first_beside(const struct host *host, size_t except)
 {
     static VbSeat others[MOST_PLACES];

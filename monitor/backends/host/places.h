@@ -70,7 +70,7 @@ void places_follow_budget(struct host *host);
  * short host proceeds alone: it comes before all others of its line until it asks no more. */
 void places_relieve(struct host *host);
 
-/* Once the first of those that begin anew or come has waited for as long as the host is patient, it
+/* Once the first of those that restart or come has waited for as long as the host is patient, it
  * lets others pass, if there are any. */
 void places_defer(struct host *host);
 

@@ -139,7 +139,7 @@ static VbFigures leaving(const struct seat *seat)
     return (VbFigures){.held = pages_held(seat), .most = UINT32_MAX, .contact = VB_CONTACT_AWAY};
 }
 
-/* All guests but one. Where all is decided anew, targets so far don't count. */
+/* All guests but one. Where all is decided again, targets so far don't count. */
 static void collect(const struct host *host, const struct seat *except, struct guests *guests)
 {
     size_t first = vb_host_first(host->places, host->place_count);
@@ -234,7 +234,7 @@ static bool changes(const struct guests *guests)
     return false;
 }
 
-/* What an operator wanted of guests ends once all is decided anew. */
+/* What an operator wanted of guests ends once all is decided again. */
 static void end_hands(const struct host *host)
 {
     for (unsigned i = 0; i < host->count; i++)

@@ -1,4 +1,4 @@
-"""Who only asks changes nothing: nothing is decided anew by that."""
+"""Who only asks changes nothing: nothing is decided again by that."""
 
 import time
 

@@ -147,7 +147,7 @@ def test_guests_keys_and_sizes(host, arrive, terminal):
     shows(terminal, "2 guests, by waits, paused")
     host.ask("budget", bytes=480 * MIB)
     eventually(lambda: host.status()["budget"] == 480 * MIB)
-    assert terminal.screen()[0].startswith("budget 0.5  held 1.0"), "a paused view goes on"
+    assert terminal.screen()[0].startswith("budget 0.5  held 1.0"), "a paused view continues"
     terminal.key("p")
     shows(terminal, "budget 480  held 1.0..")
     terminal.key("Down")

@@ -50,7 +50,7 @@ def pages_are_taken_unasked(lender, come):
 
 
 def pages_are_taken_that_nobody_granted(lender, come):
-    """What each guest is asked for is decided anew."""
+    """What each guest is asked for is decided again."""
     liar = Played(lender, "a", pages=128, ballooned=50, target=50)
     decisions = lambda: lender.status()["host"]["counters"]["decisions"]
     time.sleep(HEARD)

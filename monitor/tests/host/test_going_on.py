@@ -1,4 +1,4 @@
-"""A driver that stops its queues and goes on where they were: nothing begins anew by that."""
+"""A driver that stops its queues and continues where they were: nothing restarts by that."""
 
 from tenants import FREE
 from test_strict import GIVEN, STRICT, Later

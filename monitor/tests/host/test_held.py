@@ -66,7 +66,7 @@ def test_what_cannot_be_discarded_stays_lent(lend, come):
 
 
 def next_process(lender, lend):
-    """Kills a guest's process; another one goes on."""
+    """Kills a guest's process; another one continues."""
     process = process_of(lender, "a")
     os.kill(process, signal.SIGKILL)
     eventually(lambda: process_of(lender, "a") != process)

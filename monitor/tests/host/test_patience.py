@@ -1,4 +1,4 @@
-"""Who waits first of those that begin anew or come, and can't be served, lets others pass once the
+"""Who waits first of those that restart or come, and can't be served, lets others pass once the
 host's patience is over."""
 
 import time
@@ -49,7 +49,7 @@ def patient(lend):
 
 
 def test_a_large_client_lets_a_small_one_pass(patient, come, bring):
-    """The host has 128 frames that nobody can have: a guest that begins anew comes first at once,
+    """The host has 128 frames that nobody can have: a guest that restarts comes first at once,
     and a small client that came later after a while; the large one waits on."""
     a, b = come(patient, "a", {FREE: 0}), come(patient, "b", {FREE: 100})
     large = bring(patient, "large", Large)
@@ -68,7 +68,7 @@ def test_a_large_client_lets_a_small_one_pass(patient, come, bring):
 
 
 def test_a_new_life_lets_others_pass(patient, come, bring):
-    """Of 40 frames there is no room for the 50 pages of the guest that began anew first: after a
+    """Of 40 frames there is no room for the 50 pages of the guest that restarted first: after a
     while another one has its 30, and a client that came later waits until there is room for it."""
     a, b = come(patient, "a", {FREE: 50}), come(patient, "b", {FREE: 30})
     patient.set_budget(FRAMES - 80)

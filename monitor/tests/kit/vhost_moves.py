@@ -70,7 +70,7 @@ def with_pages(client, pages, target):
 
 
 def stopped(client):
-    """Stops all queues; returns where each goes on."""
+    """Stops all queues; returns where each continues."""
     return [client.stop_ring(it) for it in range(4)]
 
 

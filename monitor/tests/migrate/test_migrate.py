@@ -108,7 +108,7 @@ def test_a_migration_that_is_cancelled(pair):
 
 
 def test_a_destination_s_backend_that_ends(pair):
-    """The migration fails, and the guest goes on where it was."""
+    """The migration fails, and the guest continues where it was."""
     pair = pair()
     sums, before = with_balloon(pair), pair.source.held_mib()
     pair.begin(**{"max-bandwidth": SLOWLY})
@@ -122,7 +122,7 @@ def test_a_destination_s_backend_that_ends(pair):
 
 
 def test_a_backend_that_is_killed(pair):
-    """QEMU says what it knew of the balloon meanwhile, and another backend goes on with it."""
+    """QEMU says what it knew of the balloon meanwhile, and another backend continues with it."""
     pair = pair()
     sums, side = with_balloon(pair), pair.source
     side.restart()

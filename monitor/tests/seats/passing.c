@@ -21,7 +21,7 @@ static const struct row rows[] = {
       {100, 100, 100, 100, 0, 100, 2, 0, 0, 1, 0, 0, 1, 0, 0, 0},
       {50, 0, 0, 0, 0, 0, 2, 0, 1, 1, 1, 0, 0, 0, 0, 0}},
      {6, 90, 84, 0, 0}},
-    {"it lets others pass: it waits behind the newcomer, and nothing is lent by that",
+    {"it lets others pass: it waits after the newcomer, and nothing is lent by that",
      {.kind = VB_DEFERS, .guest = 0},
      {{60, 26, 40, 40, 40, 26, 1, 0, 7, 6, 5, 3, 3, 0, 0, 1},
       {100, 100, 100, 100, 0, 100, 2, 0, 0, 1, 0, 0, 1, 0, 0, 0},

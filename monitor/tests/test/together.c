@@ -114,7 +114,7 @@ static void have_answered(long number, uint32_t answer)
            prctl(PR_SET_SECCOMP, SECCOMP_MODE_FILTER, &filter) == 0);
 }
 
-/* In a process of its own: the call is answered by an error once, and isn't made again. */
+/* In a process of its own: the call gets an error once, and isn't made again. */
 static void be_refused(long number, int error)
 {
     static struct guest guest;

@@ -112,7 +112,7 @@ def test_a_state_that_is_longer_than_any(ready):
 
 
 def test_a_pipe_that_never_ends(ready):
-    """What is asked for meanwhile is answered, and no processor's time is taken."""
+    """What is asked for meanwhile gets an answer, and no processor's time is taken."""
     client = ready()
     stopped(client)
     theirs, ours = os.pipe()

@@ -73,7 +73,7 @@ def test_a_new_driver_after_a_load(ready, serve):
 
 
 def test_a_driver_that_goes_on_at_index_0(ready, serve):
-    """65536 requests were used: the state says that the driver goes on, and no guess does."""
+    """65536 requests were used: the state says that the driver continues, and no guess does."""
     client = ready()
     client.write(client.table(INFLATE) + PAGE + 2, b"\xff\xff")
     client.write(client.table(INFLATE) + 2 * PAGE + 2, b"\xff\xff")
