@@ -79,7 +79,7 @@ def headline(path):
 SHIM, CALLS, OBEY = (
     ("monitor/include/balloon.h", "monitor/include/balloon_discards.h"),
     ("monitor/include/balloon_calls.h", "monitor/include/balloon_notices.h"),
-    "monitor/rust/src/obey.rs",
+    ("monitor/rust/src/obey.rs", "monitor/rust/src/discards.rs"),
 )
 
 # A page, the pattern of a number in it, and what the number has to be.
@@ -90,9 +90,9 @@ COUNTS = (
         headline("crates/vb_host/README.md"),
     ),
     ("README.md", r"the shims \((\w+) lines of C", lines_of(*SHIM)),
-    ("README.md", r"lines of C, (\w+) of Rust\)", lines_of(OBEY)),
+    ("README.md", r"lines of C, (\w+) of Rust\)", lines_of(*OBEY)),
     ("CHANGELOG.md", r"shims in C and Rust obey it:\s+(\w+) and \w+ lines", lines_of(*SHIM)),
-    ("CHANGELOG.md", r"shims in C and Rust obey it:\s+\w+ and (\w+) lines", lines_of(OBEY)),
+    ("CHANGELOG.md", r"shims in C and Rust obey it:\s+\w+ and (\w+) lines", lines_of(*OBEY)),
     (
         "CHANGELOG.md",
         r"\(`tools/conform`\):\s+(\w+), by topic",
@@ -102,7 +102,7 @@ COUNTS = (
     ("monitor/README.md", r"`balloon_notices\.h`, (\w+) lines", lines_of(*CALLS)),
     ("monitor/README.md", r"by (\w+) wrong shims in C", wrong_shims("include/")),
     ("monitor/README.md", r"wrong shims in C and (\w+) in Rust", wrong_shims("rust/")),
-    ("monitor/rust/README.md", r"`src/obey\.rs`\n?\s*\((\w+) lines\)", lines_of(OBEY)),
+    ("monitor/rust/README.md", r"`src/discards\.rs`\s+\((\w+)\s+lines\)", lines_of(*OBEY)),
     (
         "docs/LINUX.md",
         r"`tools/test linux` \| (\w+) runs",

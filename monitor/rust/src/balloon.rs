@@ -19,6 +19,9 @@ pub struct Balloon {
     pub most_pages: u32,
     /// No page is discarded, as under a passed-through device: what is named is told, and stays. Not so at first.
     pub keeps_pages: bool,
+    /// Each part of private memory is discarded by a call of its own: so once the kernel didn't take several, as one before
+    /// Linux 6.13. Not so at first.
+    pub discards_apart: bool,
     /// The set of the pages in the balloon, where it has words: page p is bit p % 64 of word p / 64. Make it of zeros, for all
     /// pages ([`Balloon::words_of_set`]), before DRIVER_OK; a reset empties it. Save it beside the state.
     pub ballooned: Vec<u64>,
@@ -63,6 +66,7 @@ impl Balloon {
             most_chains: 256,
             most_pages: u32::MAX,
             keeps_pages: false,
+            discards_apart: false,
             ballooned: Vec::new(),
             deflating: Vec::new(),
             paused: Box::default(),
@@ -288,9 +292,10 @@ impl Balloon {
 
     /// Obeys a notice that has begun; what it came to, or has until it pauses.
     pub(crate) fn finish(&mut self, memory: &dyn LiveMemory, monitor: &mut dyn Monitor) -> Served {
-        let Balloon { state, regions, notice, room, ballooned, deflating, .. } = self;
+        let Balloon { state, regions, notice, room, discards_apart, ballooned, deflating, .. } = self;
         let balloon = &mut state.0;
-        let mut hands = Hands { memory, monitor, ballooned, deflating, balloon, regions, served: Served::default() };
+        let served = Served::default();
+        let mut hands = Hands { memory, monitor, ballooned, deflating, discards_apart, balloon, regions, served };
         let obeyed = hands.obey(notice, room);
         let mut served = hands.served;
         if notice.kind != Kind::Deflate as u32 {

@@ -5,6 +5,7 @@
 //! answer says. No call panics, whatever a guest writes and whenever it writes it.
 
 mod balloon;
+mod discards;
 mod held;
 mod hints;
 pub mod lender;
@@ -16,6 +17,7 @@ mod settings;
 mod state;
 
 pub use balloon::Balloon;
+pub use discards::Together;
 pub use obey::{Cut, LiveMemory, Monitor, Run, Spot, Statistic, Unreachable};
 pub use pause::Pause;
 pub use raw::{QueueStart, Region};

@@ -1,6 +1,7 @@
 //! What touches guest memory. The library decides which access is made, where, in which order, and what it means; this
 //! obeys it: no bound is tested here and no sum is made, since each number comes from the library.
 
+use crate::discards::{self, Together};
 use crate::raw::{self, Notice, Region, Room};
 use crate::{Kind, Served, PAGE};
 use std::io;
@@ -40,6 +41,12 @@ pub trait LiveMemory {
     /// Gives pages back to the machine: by a hole in the region's file, which is shared, or else as private memory, which
     /// reads as zeros from then on. Else the system's answer.
     fn discard(&self, cut: &Cut) -> io::Result<()>;
+
+    /// Gives the first of these parts back by one call, those of private memory, each of pages of 4,096 bytes. A part that
+    /// it doesn't discard is handed to [`discard`](LiveMemory::discard). By default none is asked for.
+    fn discard_together(&self, _cuts: &[Cut]) -> Together {
+        Together::default()
+    }
 }
 
 fn region_of<M: GuestMemory>(memory: &M, number: usize) -> Result<&M::R, Unreachable> {
@@ -123,6 +130,10 @@ impl<M: GuestMemory> LiveMemory for M {
         // them expects any value at any time.
         answer_of(|| unsafe { libc::madvise(host.cast(), cut.length as usize, libc::MADV_DONTNEED) })
     }
+
+    fn discard_together(&self, cuts: &[Cut]) -> Together {
+        discards::discard_together(self, cuts)
+    }
 }
 
 /// What a monitor may want to know, or to do in its own way. `()` does nothing of its own.
@@ -162,9 +173,19 @@ pub trait Monitor {
     fn discard(&mut self, memory: &dyn LiveMemory, cut: &Cut) -> io::Result<()> {
         memory.discard(cut)
     }
+
+    /// Whether scattered pages of private memory are discarded by one call, which takes a quarter of the time, and not by
+    /// `discard`: say so where you have none of your own. By default each part is handed to `discard`.
+    fn discards_together(&self) -> bool {
+        false
+    }
 }
 
-impl Monitor for () {}
+impl Monitor for () {
+    fn discards_together(&self) -> bool {
+        true
+    }
+}
 
 /// What a notice is carried out on.
 pub(crate) struct Hands<'a> {
@@ -174,6 +195,8 @@ pub(crate) struct Hands<'a> {
     pub ballooned: &'a mut [u64],
     /// The set of the pages of the deflate that is held.
     pub deflating: &'a mut [u64],
+    /// The kernel doesn't take parts of private memory together.
+    pub discards_apart: &'a mut bool,
     pub balloon: &'a mut raw::Balloon,
     pub regions: &'a [Region],
     pub served: Served,
@@ -221,6 +244,26 @@ impl Hands<'_> {
         }
     }
 
+    /// Discards the first parts by one call, where they lie in private memory of small pages; returns how many. Where the
+    /// kernel doesn't take them whole, each part is discarded alone from then on.
+    fn discard_together(&mut self, cuts: &[Cut]) -> usize {
+        if *self.discards_apart || cuts.len() < 2 || !self.monitor.discards_together() {
+            return 0;
+        }
+        let small = cuts.iter().take_while(|it| self.monitor.page_size(it.region) <= PAGE).count();
+        let together = self.memory.discard_together(&cuts[..small]);
+        *self.discards_apart = together.discarded < together.asked;
+        let discarded = &cuts[..together.discarded];
+        self.served.discarded += discarded.iter().map(|it| it.length / PAGE).sum::<u64>();
+        together.discarded
+    }
+
+    /// Discards all parts, in their order.
+    fn discard_all(&mut self, cuts: &[Cut]) {
+        let together = self.discard_together(cuts);
+        cuts[together..].iter().for_each(|cut| self.discard(cut));
+    }
+
     /// Publishes a used element: its two numbers, the fence, then the index.
     fn give_back(&mut self, notice: &Notice) -> Result<(), Unreachable> {
         self.memory.write_number(notice.id_at, notice.id)?;
@@ -244,7 +287,7 @@ impl Hands<'_> {
             self.monitor.hint_id(notice.hint_id);
         }
         if is_asked(raw::DISCARD) {
-            room.cuts[..notice.cuts as usize].iter().for_each(|cut| self.discard(cut));
+            self.discard_all(&room.cuts[..notice.cuts as usize]);
         }
         if is_asked(raw::GIVE_BACK) {
             self.give_back(notice)?;

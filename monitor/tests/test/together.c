@@ -7,29 +7,16 @@
 #include <sys/syscall.h>
 #include <sys/wait.h>
 
-#ifdef RUST_SHIM
-enum { IS_RUST = 1 };
-#else
-enum { IS_RUST = 0 };
-#endif
 enum { SOME = 3, MANY = 250 };
 
 static const uint32_t SCATTERED[SOME] = {700, 710, 720};
 
-/* Whether this machine's kernel takes parts of a process's own memory together, and the shim asks
- * for that: the Rust crate discards each alone. */
+/* Whether this machine's kernel takes parts of a process's own memory together. */
 static bool takes_together(void)
 {
-    if (IS_RUST)
-        return false;
     char *page = mmap(NULL, 4096, PROT_READ | PROT_WRITE, MAP_PRIVATE | MAP_ANONYMOUS, -1, 0);
     const struct iovec part = {page, 4096};
     return balloon_drop_all(&part, 1) == 4096 && munmap(page, 4096) == 0;
-}
-
-static bool is_apart(const struct guest *guest)
-{
-    return IS_RUST || guest->balloon.discards_apart;
 }
 
 /* Pages of the guest get bytes, and are put into its balloon by one request. */
@@ -64,7 +51,7 @@ static void parts_go_together(void)
     bool is_one = takes_together();
     EXPECT(result.discarded == MANY && result.kept == 0 && are_gone(&guest, pages, MANY) &&
            *at(&guest, 701 * 4096) == 1);
-    EXPECT(is_apart(&guest) == !is_one && advices == alone + (is_one ? 0 : MANY));
+    EXPECT(guest.balloon.discards_apart == !is_one && advices == alone + (is_one ? 0 : MANY));
     alone = advices;
     result = put_in(&guest, pages, 1);
     EXPECT(result.discarded == 1 && advices == alone + 1 && are_gone(&guest, pages, 1));
@@ -80,7 +67,7 @@ static void a_part_may_fail(void)
     EXPECT(syscall(SYS_mlock, at(&guest, SCATTERED[1] * 4096ull), 4096) == 0);
     struct balloon_result result = put_in(&guest, SCATTERED, SOME);
     EXPECT(result.discarded == 2 && result.kept == 1 && result.error == EINVAL);
-    EXPECT(is_apart(&guest) && are_gone(&guest, SCATTERED, 1) &&
+    EXPECT(guest.balloon.discards_apart && are_gone(&guest, SCATTERED, 1) &&
            are_gone(&guest, SCATTERED + 2, 1) && *at(&guest, SCATTERED[1] * 4096ull) == 1);
     free_memory(&guest);
 }

@@ -43,6 +43,7 @@ pub struct Struct {
     most_chains: u32,
     most_pages: u32,
     keeps_pages: bool,
+    discards_apart: bool,
     context: *mut c_void,
     on_pages: Option<OnPages>,
     on_statistics: Option<OnStatistics>,
@@ -108,6 +109,10 @@ impl Monitor for Hooks<'_> {
             },
         }
     }
+
+    fn discards_together(&self) -> bool {
+        self.0.discard.is_none() && !self.1.has_shared()
+    }
 }
 
 impl Struct {
@@ -117,6 +122,7 @@ impl Struct {
         balloon.most_chains = self.most_chains;
         balloon.most_pages = self.most_pages;
         balloon.keeps_pages = self.keeps_pages;
+        balloon.discards_apart = self.discards_apart;
         *balloon.paused = self.paused.clone();
         if !self.ballooned.is_null() {
             balloon.ballooned = std::slice::from_raw_parts(self.ballooned, self.ballooned_words).to_vec();
@@ -129,6 +135,7 @@ impl Struct {
 
     fn put_state(&mut self, balloon: &Balloon) {
         self.state = balloon.state();
+        self.discards_apart = balloon.discards_apart;
         self.paused.clone_from(&balloon.paused);
     }
 

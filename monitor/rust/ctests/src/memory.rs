@@ -130,6 +130,11 @@ impl Memory {
         self.0[number].mapped.fd == SHARED
     }
 
+    /// Whether a region is shared anonymous memory.
+    pub fn has_shared(&self) -> bool {
+        (0..self.0.len()).any(|number| self.is_shared(number))
+    }
+
     /// Discards shared anonymous memory.
     pub fn remove(&self, cut: &Cut) -> io::Result<()> {
         let host = self.0[cut.region].mapped.host.wrapping_add(cut.offset as usize);

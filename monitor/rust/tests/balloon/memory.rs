@@ -44,6 +44,29 @@ fn a_large_page_goes_once_it_is_given_up() {
     assert_eq!(guest.byte(2 << 20), 0);
 }
 
+/// A machine that keeps each page.
+#[derive(Default)]
+struct Keeping(Vec<u64>);
+
+impl Monitor for Keeping {
+    fn discard(&mut self, _: &dyn LiveMemory, cut: &Cut) -> io::Result<()> {
+        self.0.push(cut.offset >> 12);
+        Err(io::ErrorKind::Unsupported.into())
+    }
+}
+
+#[test]
+fn a_discard_of_the_monitors_own_has_each_part_of_private_memory() {
+    let mut guest = Guest::new();
+    let mut balloon = guest.ready(settings());
+    guest.memory = GuestMemoryMmap::from_ranges(&[(GuestAddress(0), 8 << 20)]).expect("memory");
+    assert_eq!(balloon.set_memory(&guest.memory), Ok(()));
+    guest.name(Kind::Inflate, &[700, 710, 720]);
+    let mut keeping = Keeping::default();
+    let served = balloon.notify(&guest.memory, Kind::Inflate, &mut keeping);
+    assert_eq!((served.discarded, served.kept, keeping.0), (0, 3, vec![700, 710, 720]));
+}
+
 #[test]
 fn memory_may_be_mapped_anew() {
     let mut guest = Guest::new();
