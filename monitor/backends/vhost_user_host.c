@@ -134,6 +134,9 @@ static void take_config(struct host *host, const struct config *config)
         host->on_short = config->on_short;
     if (host->reserve == UINT32_MAX)
         host->reserve = config->reserve != UINT32_MAX ? config->reserve : RESERVE;
+    if (host->step == UINT32_MAX)
+        host->step = config->step != UINT32_MAX ? config->step : STEP;
+    host->strict |= config->strict;
     if (host->period == 0)
         host->period = config->fixed.period > 0 ? config->fixed.period : PERIOD;
 }
@@ -143,7 +146,8 @@ static const char help[] =
     "[--reserve PERCENT] [--overdraft PAGES] [--patience SECONDS] [--on-short PATH] [--cost MS] "
     "[--strict] [--strict-pages] [--events] "
     "[--features HEX] [--lines N] [--program PATH] [--no-sandbox] [--end-with-lender] [--leave]\n"
-    "                [--config FILE] [--control PATH] [--control-mode OCTAL] [--control-group "
+    "                [--config FILE] [--control PATH] [--control-mode OCTAL] "
+    "[--control-group "
     "NAME] [--status PATH] [--status-mode OCTAL] "
     "[--status-group NAME] [--log-level WORD]";
 
@@ -174,9 +178,8 @@ static enum command_line read_words(struct host *host, struct service *service, 
         {"version", .answer = "vhost_user_host " VB_VERSION},
         {0}};
     host->features = USUAL_FEATURES;
-    host->step = STEP;
     host->cost = COST;
-    host->floor = host->reserve = host->lends.overdraft = UINT32_MAX;
+    host->step = host->floor = host->reserve = host->lends.overdraft = UINT32_MAX;
     service_defaults(service);
     enum command_line line = options_read(count, words, rows, &host->folder);
     take_config(host, &service->config);

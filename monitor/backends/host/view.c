@@ -209,12 +209,24 @@ const char *host_set_reserve(struct host *host, uint32_t percent)
     return NULL;
 }
 
+void host_set_strict(struct host *host, bool strict)
+{
+    host->strict = strict;
+}
+
+void host_set_step(struct host *host, uint32_t step)
+{
+    host->step = step;
+}
+
 static const char nobody[] = "no guest has that name";
 
-const char *terms_fault(const struct guest_terms *terms)
+const char *terms_fault(const struct guest_terms *terms, const char **term)
 {
+    *term = "least";
     if (terms->least > terms->most)
         return "its least is more than its most";
+    *term = "start";
     if (terms->start == UINT32_MAX)
         return NULL;
     if (terms->start > terms->most)
@@ -225,7 +237,7 @@ const char *terms_fault(const struct guest_terms *terms)
 const char *host_refuses(const struct host *host, const char *name, const struct guest_terms *terms)
 {
     const struct seat *seat = seat_of(host, name);
-    const char *fault = terms_fault(terms);
+    const char *term, *fault = terms_fault(terms, &term);
     bool needs_limit = seat && ask_starts_small(seat);
     if (!fault && needs_limit && terms->limit.kind == LIMIT_NONE)
         fault = "its limit stays until its balloon has what it started without";

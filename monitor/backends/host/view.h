@@ -134,11 +134,15 @@ const char *host_set_floor(struct host *host, uint32_t pages);
 const char *host_set_overdraft(struct host *host, uint32_t pages);
 const char *host_set_patience(struct host *host, uint32_t seconds);
 const char *host_set_reserve(struct host *host, uint32_t percent);
+/* Whether guests are strict of which nothing else was said, from the next client of each on; and how
+ * fast targets grow. */
+void host_set_strict(struct host *host, bool strict);
+void host_set_step(struct host *host, uint32_t step);
 const char *host_add(struct host *host, const char *name, const struct guest_terms *terms);
 const char *host_remove(struct host *host, const char *name);
 const char *host_set_terms(struct host *host, const char *name, const struct guest_terms *terms);
-/* Why no guest can have these terms; NULL: one can. */
-const char *terms_fault(const struct guest_terms *terms);
+/* Why no guest can have these terms, and by which of them; NULL: one can. */
+const char *terms_fault(const struct guest_terms *terms, const char **term);
 /* Why a guest of this name, which there may be, can't have these terms; NULL: it can. */
 const char *host_refuses(const struct host *host, const char *name,
                          const struct guest_terms *terms);

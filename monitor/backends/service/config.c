@@ -1,7 +1,7 @@
 #define _GNU_SOURCE
 #include "config.h"
 
-#include "config_words.h"
+#include "config_keys.h"
 
 #include "../guest/say.h"
 
@@ -12,68 +12,35 @@
 #include <stdlib.h>
 #include <string.h>
 
-/* Bytes of a line with its end, as the parser reads it; keys of a file that are remembered, so that
- * none is said twice. */
-enum { MOST_LINE = 190, MOST_SAID = 512 };
+/* Bytes of a line with its end, as the parser reads it; of a file; and of what is said of a name. */
+enum { MOST_LINE = 190, MOST_FILE = 1 << 20, MOST_SHOWN = 64 };
 
 /* A file that is being read. */
 struct reader {
     const char *path;
-    FILE *file;
+    const char *next; /* what wasn't read yet */
+    size_t left;
     struct config *config;
     unsigned line; /* of the last line that was read */
     bool faulty;
-    unsigned count;
-    struct {
-        const void *at;
-    } said[MOST_SAID];
+    unsigned lines[CONFIG_KEYS]; /* that say the keys */
+    unsigned guest_lines[MOST_CONFIG_GUESTS][GUEST_KEYS];
 };
 
-/* One key: where it belongs, what it holds, and where that goes in a configuration or in a guest of
- * it. */
-struct key {
-    const char *section, *name;
-    enum word_kind kind;
-    size_t at;
-};
-
-static const struct key keys[] = {
-    {"host", "folder", WORD_PATH, offsetof(struct config, fixed.folder)},
-    {"host", "budget", WORD_SIZE, offsetof(struct config, budget)},
-    {"host", "floor", WORD_SIZE_OR_NONE, offsetof(struct config, floor)},
-    {"host", "reserve", WORD_PERCENT, offsetof(struct config, reserve)},
-    {"host", "overdraft", WORD_SIZE_OR_NONE, offsetof(struct config, overdraft)},
-    {"host", "patience", WORD_SECONDS, offsetof(struct config, patience)},
-    {"host", "on_short", WORD_PATH, offsetof(struct config, on_short)},
-    {"host", "period", WORD_MILLISECONDS, offsetof(struct config, fixed.period)},
-    {"control", "socket", WORD_PATH, offsetof(struct config, fixed.sockets[MAY_CHANGE].path)},
-    {"control", "mode", WORD_MODE, offsetof(struct config, fixed.sockets[MAY_CHANGE].mode)},
-    {"control", "group", WORD_GROUP, offsetof(struct config, fixed.sockets[MAY_CHANGE].group)},
-    {"status", "socket", WORD_PATH, offsetof(struct config, fixed.sockets[MAY_LOOK].path)},
-    {"status", "mode", WORD_MODE, offsetof(struct config, fixed.sockets[MAY_LOOK].mode)},
-    {"status", "group", WORD_GROUP, offsetof(struct config, fixed.sockets[MAY_LOOK].group)},
-    {"log", "level", WORD_LEVEL, offsetof(struct config, level)},
-    {"log", "lines", WORD_NUMBER, offsetof(struct config, lines)},
-};
-
-static const struct key guest_keys[] = {
-    {"guest", "least", WORD_SIZE_OR_NONE, offsetof(struct config_guest, terms.least)},
-    {"guest", "most", WORD_SIZE, offsetof(struct config_guest, terms.most)},
-    {"guest", "priority", WORD_NUMBER, offsetof(struct config_guest, terms.priority)},
-    {"guest", "weight", WORD_WEIGHT, offsetof(struct config_guest, terms.weight)},
-    {"guest", "strict", WORD_BOOLEAN, offsetof(struct config_guest, terms.strict)},
-    {"guest", "overhead", WORD_SIZE_OR_NONE, offsetof(struct config_guest, terms.overhead)},
-    {"guest", "limit", WORD_LIMIT, offsetof(struct config_guest, terms.limit)},
-    {"guest", "user", WORD_USER, offsetof(struct config_guest, terms.user)},
-    {"guest", "memory", WORD_SIZE, offsetof(struct config_guest, terms.memory)},
-    {"guest", "start", WORD_SIZE, offsetof(struct config_guest, terms.start)},
-};
+static bool fault_at(struct reader *reader, unsigned line, const char *key, const char *words)
+{
+    char shown[MOST_SHOWN];
+    snprintf(shown, sizeof shown, "%s", key);
+    for (char *it = shown; *it; it++)
+        if (*it < ' ' || *it > '~')
+            *it = '?';
+    reader->faulty = true;
+    return say_fault("%s: line %u: %s%s%s", reader->path, line, shown, *shown ? ": " : "", words);
+}
 
 static bool fault(struct reader *reader, const char *key, const char *words)
 {
-    reader->faulty = true;
-    return say_fault("%s: line %u: %s%s%s", reader->path, reader->line, key, *key ? ": " : "",
-                     words);
+    return fault_at(reader, reader->line, key, words);
 }
 
 /* The guest of a section `guest NAME`, which may be new; NULL, which is said, where it is none. */
@@ -99,56 +66,49 @@ static struct config_guest *guest_of(struct reader *reader, const char *section)
     return guest;
 }
 
-/* Notes that a key was said; false where it was said before. */
-static bool is_first(struct reader *reader, const void *at)
+/* Takes the value of a key into what it belongs to, whose keys that were said are in `*says`, and
+ * the lines that say them in `lines`. */
+static void keep(struct reader *reader, const struct key *table, unsigned number, void *whole,
+                 uint32_t *says, unsigned *lines, const char *value)
 {
-    for (unsigned i = 0; i < reader->count; i++)
-        if (reader->said[i].at == at)
-            return false;
-    if (reader->count < MOST_SAID)
-        reader->said[reader->count++].at = at;
-    return true;
+    const struct key *key = &table[number];
+    const char *wanted = config_says(*says, number) ? "it is said twice" : NULL;
+    wanted = wanted ? wanted : word_read(key->kind, value, key_value(key, whole));
+    *says |= UINT32_C(1) << number;
+    lines[number] = reader->line;
+    if (wanted)
+        fault(reader, key->name, wanted);
 }
 
-static bool keep(struct reader *reader, const struct key *key, void *whole, const char *value)
+static void take_of_guest(struct reader *reader, const char *section, const char *name,
+                          const char *value)
 {
-    void *at = (char *)whole + key->at;
-    if (!is_first(reader, at))
-        return fault(reader, key->name, "it is said twice");
-    const char *wanted = word_read(key->kind, value, at);
-    return !wanted || fault(reader, key->name, wanted);
+    int number = key_find(guest_keys, GUEST_KEYS, "guest", name);
+    struct config_guest *guest = number >= 0 ? guest_of(reader, section) : NULL;
+    if (number < 0)
+        fault(reader, name, "this section has no such key");
+    if (guest)
+        keep(reader, guest_keys, (unsigned)number, guest, &guest->says,
+             reader->guest_lines[guest - reader->config->guests], value);
 }
-
-static const struct key *key_of(const struct key *table, size_t count, const char *section,
-                                const char *name)
-{
-    for (size_t i = 0; i < count; i++)
-        if (!strcmp(table[i].section, section) && !strcmp(table[i].name, name))
-            return &table[i];
-    return NULL;
-}
-
-#define COUNT(table) (sizeof(table) / sizeof(table)[0])
 
 /* One key of the file, as the parser hands it over. */
 static int take(void *context, const char *section, const char *name, const char *value)
 {
     struct reader *reader = context;
-    bool of_guest = !strncmp(section, "guest ", strlen("guest "));
-    const struct key *key = of_guest ? key_of(guest_keys, COUNT(guest_keys), "guest", name)
-                                     : key_of(keys, COUNT(keys), section, name);
-    if (!key) {
+    struct config *config = reader->config;
+    int number = key_find(config_keys, CONFIG_KEYS, section, name);
+    if (!strncmp(section, "guest ", strlen("guest ")))
+        take_of_guest(reader, section, name, value);
+    else if (number < 0)
         fault(reader, name,
               *section ? "this section has no such key" : "a key comes after its section");
-        return 1;
-    }
-    struct config_guest *guest = of_guest ? guest_of(reader, section) : NULL;
-    if (guest && !strcmp(name, "strict"))
-        guest->says_strict = true;
-    if (guest || !of_guest)
-        keep(reader, key, guest ? (void *)guest : reader->config, value);
+    else
+        keep(reader, config_keys, (unsigned)number, config, &config->says, reader->lines, value);
     return 1;
 }
+
+#define COUNT(table) (sizeof(table) / sizeof(table)[0])
 
 /* Whether a line is the beginning of a section that there can be. */
 static bool is_section(const char *line)
@@ -176,19 +136,21 @@ static void take_section(struct reader *reader, const char *line)
 static char *next_line(char *bytes, int room, void *context)
 {
     struct reader *reader = context;
-    char *line = NULL;
-    size_t size = 0;
-    ssize_t length = getline(&line, &size, reader->file);
-    bool whole =
-        length >= 0 && length < room && length < MOST_LINE && strlen(line) == (size_t)length;
+    if (reader->left == 0)
+        return NULL;
+    const char *line = reader->next, *end = memchr(line, '\n', reader->left);
+    size_t length = end ? (size_t)(end + 1 - line) : reader->left;
+    bool whole = length < (size_t)room && length < MOST_LINE && !memchr(line, 0, length);
+    reader->next += length;
+    reader->left -= length;
     reader->line++;
-    if (length >= 0 && !whole)
+    memcpy(bytes, whole ? line : "\n", whole ? length : 1);
+    bytes[whole ? length : 1] = 0;
+    if (!whole)
         fault(reader, "", "a line has 189 bytes at most, and none of them is 0");
-    else if (length >= 0 && line[0] == '[')
-        take_section(reader, line);
-    strcpy(bytes, whole ? line : "\n");
-    free(line);
-    return length < 0 ? NULL : bytes;
+    else if (line[0] == '[')
+        take_section(reader, bytes);
+    return bytes;
 }
 
 /* Whether a guest before this one has its limit. */
@@ -201,27 +163,27 @@ static bool shares_limit(const struct config *config, unsigned number)
 }
 
 /* What no single key shows. */
-static void check_guests(struct reader *reader)
+static void check_guest(struct reader *reader, unsigned number)
 {
-    for (unsigned i = 0; i < reader->config->count; i++) {
-        const struct config_guest *guest = &reader->config->guests[i];
-        const char *fault = terms_fault(&guest->terms);
-        if (!fault && shares_limit(reader->config, i))
-            fault = "the limit is another guest's";
-        if (!fault)
-            continue;
-        reader->faulty = true;
-        say_fault("%s: guest %s: %s", reader->path, guest->name, fault);
-    }
+    const struct config_guest *guest = &reader->config->guests[number];
+    const char *key, *words = terms_fault(&guest->terms, &key);
+    char whole[2 * MOST_CONFIG_WORD];
+    if (!words && shares_limit(reader->config, number))
+        key = "limit", words = "the limit is another guest's";
+    if (!words)
+        return;
+    int its = key_find(guest_keys, GUEST_KEYS, "guest", key);
+    snprintf(whole, sizeof whole, "guest %s: %s", guest->name, words);
+    fault_at(reader, reader->guest_lines[number][its], key, whole);
 }
 
-static void check_overdraft(struct reader *reader)
+static void check(struct reader *reader)
 {
     const struct config *config = reader->config;
-    if (config->overdraft == UINT32_MAX || config->overdraft <= config->budget)
-        return;
-    reader->faulty = true;
-    say_fault("%s: overdraft: more than the budget", reader->path);
+    for (unsigned i = 0; i < config->count; i++)
+        check_guest(reader, i);
+    if (config->overdraft != UINT32_MAX && config->overdraft > config->budget)
+        fault_at(reader, reader->lines[KEY_OVERDRAFT], "overdraft", "more than the budget");
 }
 
 struct config config_empty(void)
@@ -230,6 +192,7 @@ struct config config_empty(void)
         .budget = UINT32_MAX,
         .floor = UINT32_MAX,
         .reserve = UINT32_MAX,
+        .step = UINT32_MAX,
         .overdraft = UINT32_MAX,
         .patience = UINT32_MAX,
         .lines = UINT32_MAX,
@@ -237,21 +200,47 @@ struct config config_empty(void)
         .fixed.sockets = {[MAY_CHANGE] = {.mode = UINT32_MAX}, [MAY_LOOK] = {.mode = UINT32_MAX}}};
 }
 
+/* Reads what there is of a file, and one byte more than may be; NULL with errno where it can't. */
+static char *read_bytes(const char *path, size_t *length)
+{
+    FILE *file = fopen(path, "re");
+    char *bytes = file ? malloc(MOST_FILE + 1) : NULL;
+    *length = bytes ? fread(bytes, 1, MOST_FILE + 1, file) : 0;
+    int why = errno;
+    bool good = bytes && !ferror(file);
+    if (file)
+        fclose(file);
+    if (good)
+        return bytes;
+    free(bytes);
+    return errno = why, NULL;
+}
+
+/* Reads a file's bytes. */
+static void parse(struct reader *reader)
+{
+    int line = ini_parse_stream(next_line, reader, take, reader);
+    if (line > 0) {
+        reader->line = (unsigned)line;
+        fault(reader, "", "neither a section, nor a key with its value, nor a comment");
+    }
+    check(reader);
+}
+
 bool config_read(const char *path, struct config *config)
 {
-    struct reader reader = {.path = path, .config = config, .file = fopen(path, "re")};
+    struct reader reader = {.path = path, .config = config};
+    char *bytes = read_bytes(path, &reader.left);
     *config = config_empty();
-    if (!reader.file)
+    if (!bytes)
         return say_fault("%s: %s", path, strerror(errno));
-    int line = ini_parse_stream(next_line, &reader, take, &reader);
-    fclose(reader.file);
-    if (line > 0) {
-        reader.line = (unsigned)line;
-        fault(&reader, "", "neither a section, nor a key with its value, nor a comment");
-    }
-    check_guests(&reader);
-    check_overdraft(&reader);
-    return line == 0 && !reader.faulty;
+    reader.next = bytes;
+    if (reader.left > MOST_FILE)
+        reader.faulty = !say_fault("%s: a file has 1 MiB at most", path);
+    else
+        parse(&reader);
+    free(bytes);
+    return !reader.faulty;
 }
 
 /* Whether what a key says stays as long as the host runs. */
@@ -260,22 +249,14 @@ static bool is_fixed(const struct key *key)
     return key->at - offsetof(struct config, fixed) < sizeof((struct config *)NULL)->fixed;
 }
 
-/* Whether two configurations say the same by a key. */
-static bool is_same(const struct key *key, const struct config *old, const struct config *new)
-{
-    const char *was = (const char *)old + key->at, *is = (const char *)new + key->at;
-    bool is_text = key->kind == WORD_PATH || key->kind == WORD_GROUP;
-    return is_text ? !strcmp(was, is) : !memcmp(was, is, sizeof(uint32_t));
-}
-
 bool config_stays(const struct config *old, const struct config *new, const char **section,
                   const char **key)
 {
-    for (size_t i = 0; i < COUNT(keys); i++) {
-        if (!is_fixed(&keys[i]) || is_same(&keys[i], old, new))
+    for (unsigned i = 0; i < CONFIG_KEYS; i++) {
+        if (!is_fixed(&config_keys[i]) || key_is_same(&config_keys[i], old, new))
             continue;
-        *section = keys[i].section;
-        *key = keys[i].name;
+        *section = config_keys[i].section;
+        *key = config_keys[i].name;
         return false;
     }
     return true;

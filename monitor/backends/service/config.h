@@ -12,7 +12,7 @@ enum { MOST_CONFIG_GUESTS = 64, MOST_CONFIG_NAME = 32, MOST_CONFIG_WORD = 128 };
 struct config_guest {
     char name[MOST_CONFIG_NAME];
     struct guest_terms terms;
-    bool says_strict; /* else it is as the host's guests are */
+    uint32_t says; /* a bit for each of its keys that the file says */
 };
 
 /* A control socket. */
@@ -34,9 +34,12 @@ struct config {
     uint32_t patience;                 /* seconds; UINT32_MAX: not said */
     char on_short[MOST_CONFIG_WORD];   /* a command; empty: not said */
     uint32_t reserve;                  /* percent; UINT32_MAX: not said */
-    uint32_t lines;                    /* lines of a guest's in a second; UINT32_MAX: not said */
+    uint32_t step;  /* a target grows by 1/step of the guest in a second; UINT32_MAX: not said */
+    bool strict;    /* guests are, of which nothing else is said */
+    uint32_t lines; /* lines of a guest's in a second; UINT32_MAX: not said */
     uint32_t level; /* the least severe lines that are said, as syslog(3) numbers them; UINT32_MAX:
                        not said */
+    uint32_t says;  /* a bit for each key that the file says, as config_keys.h numbers them */
     unsigned count;
     struct config_guest guests[MOST_CONFIG_GUESTS];
 };
@@ -52,6 +55,12 @@ bool config_read(const char *path, struct config *config);
  * with its section. */
 bool config_stays(const struct config *old, const struct config *new, const char **section,
                   const char **key);
+
+/* Whether a key is said, by the bits of those that are. */
+static inline bool config_says(uint32_t says, unsigned key)
+{
+    return says >> key & 1;
+}
 
 /* The number of a level's word (error, warning, notice, info, debug); false where it is none. */
 bool config_level(const char *word, uint32_t *level);

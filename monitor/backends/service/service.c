@@ -1,7 +1,7 @@
 #define _GNU_SOURCE
 #include "service.h"
 
-#include "config_words.h"
+#include "config_keys.h"
 #include "notify.h"
 
 #include "../guest/levels.h"
@@ -97,12 +97,18 @@ bool read_log_level(const char *word, void *at)
     return read;
 }
 
-/* The terms that a guest of the file has on this host. */
-static struct guest_terms terms_of(const struct config_guest *guest, const struct host *host)
+/* Whether guests are strict of which a configuration says nothing. */
+static bool usually_strict(const struct config *config, const struct host *host)
+{
+    return config_says(config->says, KEY_STRICT) ? config->strict : host_usual_terms(host).strict;
+}
+
+/* The terms of a guest of a configuration. */
+static struct guest_terms terms_of(const struct config_guest *guest, bool strict)
 {
     struct guest_terms terms = guest->terms;
-    if (!guest->says_strict)
-        terms.strict = host_usual_terms(host).strict;
+    if (!config_says(guest->says, TERM_STRICT))
+        terms.strict = strict;
     return terms;
 }
 
@@ -110,10 +116,10 @@ static struct guest_terms terms_of(const struct config_guest *guest, const struc
  * the file doesn't name stays. */
 static bool apply_guests(const char *file, const struct config *config, struct host *host)
 {
-    bool good = true;
+    bool good = true, strict = host_usual_terms(host).strict;
     for (unsigned i = 0; i < config->count; i++) {
         const struct config_guest *guest = &config->guests[i];
-        struct guest_terms terms = terms_of(guest, host);
+        struct guest_terms terms = terms_of(guest, strict);
         const char *fault = host_find(host, guest->name) < 0
                                 ? host_add(host, guest->name, &terms)
                                 : host_set_terms(host, guest->name, &terms);
@@ -127,12 +133,13 @@ static bool apply_guests(const char *file, const struct config *config, struct h
 /* Whether the host takes the terms of all guests of a file; else says which it doesn't. */
 static bool guests_fit(const char *file, const struct config *config, const struct host *host)
 {
-    bool good = true;
+    bool good = true, strict = usually_strict(config, host);
     for (unsigned i = 0; i < config->count; i++) {
-        struct guest_terms terms = terms_of(&config->guests[i], host);
-        const char *fault = host_refuses(host, config->guests[i].name, &terms);
+        const struct config_guest *guest = &config->guests[i];
+        struct guest_terms terms = terms_of(guest, strict);
+        const char *fault = host_refuses(host, guest->name, &terms);
         if (fault)
-            say_fault("%s: guest %s: %s", file, config->guests[i].name, fault);
+            say_fault("%s: guest %s: %s", file, guest->name, fault);
         good &= !fault;
     }
     return good;
@@ -152,10 +159,14 @@ static void set_sizes(const char *file, struct host *host, const struct config *
         host_set_floor(host, config->floor);
     if (config->patience != UINT32_MAX)
         host_set_patience(host, config->patience);
+    if (config_says(config->says, KEY_STRICT))
+        host_set_strict(host, config->strict);
     if (config->on_short[0])
         host->on_short = config->on_short;
     if (config->reserve != UINT32_MAX)
         host_set_reserve(host, config->reserve);
+    if (config->step != UINT32_MAX)
+        host_set_step(host, config->step);
     if (fault)
         say_fault("%s: %s", file, fault);
 }

@@ -106,12 +106,12 @@ WRONG = (
     (
         "[guest web-1]",
         "[guest web-1]\nstart = 9M",
-        "guest web-1: a start is for a guest that has a limit",
+        "line 18: start: guest web-1: a start is for a guest that has a limit",
     ),
     (
         "[guest web-1]",
         "[guest web-1]\nstart = 9M\nmost = 8M",
-        "guest web-1: its start is more than its most",
+        "line 18: start: guest web-1: its start is more than its most",
     ),
     ("[guest web-1]", "[guest web-1]\nuser = no-such", f"line 18: user: {NO_USER}"),
     ("[guest web-1]", "[guest web-1]\nuser = 4294967295", f"line 18: user: {NO_USER}"),
@@ -128,21 +128,23 @@ WRONG = (
     (
         "[guest web-1]",
         "[guest a]\nlimit = cgroup:/x\n[guest web-1]\nlimit = cgroup:/x/y",
-        "guest web-1: the limit is another guest's",
+        "line 20: limit: guest web-1: the limit is another guest's",
     ),
     (
         "[guest web-1]",
         "[guest web-1]\ncolour = red",
         "line 18: colour: this section has no such key",
     ),
-    ("floor = 8M", "overdraft = 481M", "overdraft: more than the budget"),
+    ("floor = 8M", "overdraft = 481M", "line 5: overdraft: more than the budget"),
+    ("floor = 8M", "strict = 1", "line 5: strict: yes or no"),
+    ("floor = 8M", "step = x", "line 5: step: a number up to 4294967294"),
     ("floor = 8M", "patience = 0", "line 5: patience: seconds, from 1 to 86400"),
     ("floor = 8M", "patience = 86401", "line 5: patience: seconds, from 1 to 86400"),
     ("floor = 8M", "on_short = x", "line 5: on_short: a path from / on, of 127 bytes at most"),
     (
         "[guest web-1]",
         "[guest web-1]\nleast = 9M\nmost = 8M",
-        "guest web-1: its least is more than its most",
+        "line 18: least: guest web-1: its least is more than its most",
     ),
     (
         "[guest web-1]",
@@ -256,6 +258,14 @@ TAKEN = (
         7,
     ),
     (
+        "strict of [host]",
+        "floor = 8M",
+        "floor = 8M\nstrict = yes",
+        lambda host: (host.status()["strict"], term("strict")(host)),
+        (True, True),
+    ),
+    ("step of [host]", "floor = 8M", "floor = 8M\nstep = 7", lambda host: host.status()["step"], 7),
+    (
         "level of [log]",
         "level = info",
         "level = notice",
@@ -336,8 +346,8 @@ def configured(program, folder, file):
 
 def keys_of_sources():
     """Returns each key that a file may have, after its section."""
-    with open(f"{ROOT}/monitor/backends/service/config.c", encoding="utf-8") as file:
-        return set(re.findall(r'(?m)^ +\{"(\w+)", "(\w+)", WORD_', file.read()))
+    with open(f"{ROOT}/monitor/backends/service/config_keys.c", encoding="utf-8") as file:
+        return set(re.findall(r'\{"(\w+)", "(\w+)", WORD_', file.read()))
 
 
 def test_each_key_is_wrong_once(folder):
@@ -351,7 +361,7 @@ def test_each_key_is_wrong_once(folder):
                 if it.startswith("[")
             )
             wrong.add((re.findall(r"\[(\w+)", section or "[none")[-1], line[2]))
-    assert len(keys) == 26 and keys <= wrong, keys - wrong
+    assert len(keys) == 28 and keys <= wrong, keys - wrong
 
 
 def test_what_the_file_says_is_done(configured, folder):
@@ -463,6 +473,37 @@ def test_a_file_that_is_read_anew(configured, folder, file):
     # A guest that the file doesn't name any longer stays: a reload ends nobody's service.
     assert [it["name"] for it in configured.ask("status")["guests"]] == ["web-1", "web-2", "web-3"]
     assert configured.status()["floor"] == 0
+
+
+def test_guests_are_as_strict_as_the_file_says(program, folder, file):
+    """`strict` of the host is for each guest of which nothing else is said: of the file, of a later
+    command, and of a file that is read again; a guest's own word is before it."""
+    file.write_text(filled(folder, "floor = 8M", "strict = yes") + "strict = no\n")
+    host = Host(program, folder, "--config", str(file))
+    host.lines.next(patience_from_now())
+    host.ask("add", name="later")
+    strict = {it["name"]: it["terms"]["strict"] for it in host.ask("status")["guests"]}
+    assert strict == {"web-1": True, "web-2": False, "later": True}
+    file.write_text(filled(folder, "floor = 8M", "strict = no"))
+    host.process.send_signal(signal.SIGHUP)
+    eventually(lambda: not host.status()["strict"])
+    host.ask("add", name="latest")
+    strict = {it["name"]: it["terms"]["strict"] for it in host.ask("status")["guests"]}
+    assert strict == {"web-1": False, "web-2": False, "later": True, "latest": False}
+    assert host.end() == 0
+
+
+def test_each_key_that_is_said_twice_is_named(program, folder, file):
+    """However many keys a file has."""
+    terms = "least = 1M\nmost = 9M\npriority = 1\nweight = 1\nstrict = no\noverhead = 1M\n"
+    terms += "limit = none\nuser = none\nmemory = 9M\n"
+    guests = "".join(f"[guest {it}]\n{terms}" for it in range(62))
+    file.write_text(filled(folder) + terms + guests + "least = 1M\n")
+    count = len(file.read_text().splitlines())
+    it = Host(program, folder, "--config", str(file))
+    assert it.process.wait(PATIENCE) == 2
+    assert it.said()[0] == f"{file}: line {count}: least: it is said twice"
+    it.end()
 
 
 def test_a_host_without_a_file_ends_by_a_hangup(host):

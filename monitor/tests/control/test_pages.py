@@ -142,12 +142,12 @@ def test_the_page_of_the_client_names_each_command_and_option():
 
 
 def test_the_page_of_the_configuration_names_each_key():
-    with open(f"{ROOT}/monitor/backends/service/config.c", encoding="utf-8") as file:
-        keys = re.findall(r'(?m)^ +\{"(\w+)", "(\w+)", WORD_', file.read())
+    with open(f"{ROOT}/monitor/backends/service/config_keys.c", encoding="utf-8") as file:
+        keys = re.findall(r'\{"(\w+)", "(\w+)", WORD_', file.read())
     sections = dict(
         re.findall(r"(?ms)^\.SH \[(\w+)[^\]]*\]\n(.*?)(?=^\.SH)", page("bigvasta-host.conf.5"))
     )
-    assert len(keys) == 26
+    assert len(keys) == 28
     for section, key in keys:
         assert f"\n.B {key}\n" in "\n" + sections[section], (section, key)
     assert sum(it.count("\n.B ") + it.startswith(".B ") for it in sections.values()) == len(keys)

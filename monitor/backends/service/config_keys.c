@@ -1,0 +1,69 @@
+#include "config_keys.h"
+
+#include <string.h>
+
+#define OF(member) offsetof(struct config, member)
+#define TERM(member) offsetof(struct config_guest, terms.member)
+
+const struct key config_keys[CONFIG_KEYS] = {
+    [KEY_FOLDER] = {"host", "folder", WORD_PATH, OF(fixed.folder)},
+    [KEY_BUDGET] = {"host", "budget", WORD_SIZE, OF(budget)},
+    [KEY_FLOOR] = {"host", "floor", WORD_SIZE_OR_NONE, OF(floor)},
+    [KEY_RESERVE] = {"host", "reserve", WORD_PERCENT, OF(reserve)},
+    [KEY_OVERDRAFT] = {"host", "overdraft", WORD_SIZE_OR_NONE, OF(overdraft)},
+    [KEY_STRICT] = {"host", "strict", WORD_BOOLEAN, OF(strict)},
+    [KEY_STEP] = {"host", "step", WORD_NUMBER, OF(step)},
+    [KEY_PATIENCE] = {"host", "patience", WORD_SECONDS, OF(patience)},
+    [KEY_ON_SHORT] = {"host", "on_short", WORD_PATH, OF(on_short)},
+    [KEY_PERIOD] = {"host", "period", WORD_MILLISECONDS, OF(fixed.period)},
+    [KEY_CONTROL_SOCKET] = {"control", "socket", WORD_PATH, OF(fixed.sockets[MAY_CHANGE].path)},
+    [KEY_CONTROL_MODE] = {"control", "mode", WORD_MODE, OF(fixed.sockets[MAY_CHANGE].mode)},
+    [KEY_CONTROL_GROUP] = {"control", "group", WORD_GROUP, OF(fixed.sockets[MAY_CHANGE].group)},
+    [KEY_STATUS_SOCKET] = {"status", "socket", WORD_PATH, OF(fixed.sockets[MAY_LOOK].path)},
+    [KEY_STATUS_MODE] = {"status", "mode", WORD_MODE, OF(fixed.sockets[MAY_LOOK].mode)},
+    [KEY_STATUS_GROUP] = {"status", "group", WORD_GROUP, OF(fixed.sockets[MAY_LOOK].group)},
+    [KEY_LEVEL] = {"log", "level", WORD_LEVEL, OF(level)},
+    [KEY_LINES] = {"log", "lines", WORD_NUMBER, OF(lines)},
+};
+
+const struct key guest_keys[GUEST_KEYS] = {
+    [TERM_LEAST] = {"guest", "least", WORD_SIZE_OR_NONE, TERM(least)},
+    [TERM_MOST] = {"guest", "most", WORD_SIZE, TERM(most)},
+    [TERM_PRIORITY] = {"guest", "priority", WORD_NUMBER, TERM(priority)},
+    [TERM_WEIGHT] = {"guest", "weight", WORD_WEIGHT, TERM(weight)},
+    [TERM_STRICT] = {"guest", "strict", WORD_BOOLEAN, TERM(strict)},
+    [TERM_OVERHEAD] = {"guest", "overhead", WORD_SIZE_OR_NONE, TERM(overhead)},
+    [TERM_LIMIT] = {"guest", "limit", WORD_LIMIT, TERM(limit)},
+    [TERM_USER] = {"guest", "user", WORD_USER, TERM(user)},
+    [TERM_MEMORY] = {"guest", "memory", WORD_SIZE, TERM(memory)},
+    [TERM_START] = {"guest", "start", WORD_SIZE, TERM(start)},
+};
+
+int key_find(const struct key *table, unsigned count, const char *section, const char *name)
+{
+    for (unsigned i = 0; i < count; i++)
+        if (!strcmp(table[i].section, section) && !strcmp(table[i].name, name))
+            return (int)i;
+    return -1;
+}
+
+void *key_value(const struct key *key, void *whole)
+{
+    return (char *)whole + key->at;
+}
+
+bool key_is_same(const struct key *key, const void *one, const void *other)
+{
+    const char *its = (const char *)one + key->at, *others = (const char *)other + key->at;
+    switch (key->kind) {
+    case WORD_PATH:
+    case WORD_GROUP:
+        return !strcmp(its, others);
+    case WORD_LIMIT:
+        return !memcmp(its, others, sizeof(struct guest_limit));
+    case WORD_BOOLEAN:
+        return *(const bool *)its == *(const bool *)others;
+    default:
+        return !memcmp(its, others, sizeof(uint32_t));
+    }
+}
