@@ -3,7 +3,8 @@
  *
  *     vhost_user_host FOLDER --budget MIB [--floor MIB] [--period MS] [--step N] [--strict]
  *                     [--strict-pages] [--events] [--features HEX] [--lines N] [--program PATH]
- *                     [--no-sandbox] [--end-with-lender] [--config FILE] [--control PATH]
+ *                     [--no-sandbox] [--end-with-lender] [--config FILE] [--check FILE]
+ *                     [--control PATH]
  *                     [--control-mode OCTAL] [--control-group NAME] [--status PATH]
  *                     [--status-mode OCTAL] [--status-group NAME] [--log-level WORD]
  *                     [--patience SECONDS] [--on-short PATH]
@@ -40,7 +41,8 @@
  *
  * `bigvasta` speaks to it by its control socket, FOLDER/.control (--control), and by one that only
  * shows the host, FOLDER/.status (--status): docs/CONTROL.md. --config: a file that says the same,
- * and the guests; SIGHUP has it read anew. --log-level: error, warning, notice, info (as it is) or
+ * and the guests; SIGHUP has it read anew. --check: says what is wrong in such a file, and does
+ * nothing else: the status is 0 where a host would start by it, else 1. --log-level: error, warning, notice, info (as it is) or
  * debug.
  *
  * --reserve: percent of its pages that each guest keeps of its page cache as long as others have
@@ -146,7 +148,7 @@ static const char help[] =
     "[--reserve PERCENT] [--overdraft PAGES] [--patience SECONDS] [--on-short PATH] [--cost MS] "
     "[--strict] [--strict-pages] [--events] "
     "[--features HEX] [--lines N] [--program PATH] [--no-sandbox] [--end-with-lender] [--leave]\n"
-    "                [--config FILE] [--control PATH] [--control-mode OCTAL] "
+    "                [--config FILE] [--check FILE] [--control PATH] [--control-mode OCTAL] "
     "[--control-group "
     "NAME] [--status PATH] [--status-mode OCTAL] "
     "[--status-group NAME] [--log-level WORD]";
@@ -182,6 +184,8 @@ static enum command_line read_words(struct host *host, struct service *service, 
     host->step = host->floor = host->reserve = host->lends.overdraft = UINT32_MAX;
     service_defaults(service);
     enum command_line line = options_read(count, words, rows, &host->folder);
+    if (service->checks)
+        return line;
     take_config(host, &service->config);
     return line == LINE_READ && !(host->folder && host->frames > 0) ? LINE_WRONG : line;
 }
@@ -277,6 +281,8 @@ int main(int count, char **words)
         fprintf(stderr, "%s\n", help);
     if (line != LINE_READ)
         return line == LINE_WRONG ? 2 : 0;
+    if (service.checks)
+        return !service_check(&service, &host);
     process_allow_files(FILES_OF_LENDER + MOST_GUESTS * FILES_OF_SEAT +
                         CONTROL_SOCKETS * MOST_CONTROL_CLIENTS);
     if (!can_seat() || !can_overdraw(&host) || !can_be_shown(host.folder) ||

@@ -7,6 +7,7 @@
 #include <sys/types.h>
 
 struct host;
+struct service;
 
 /* The version of the protocol; the most bytes of a request with its end of line, and of what a
  * client hasn't read; the most clients of a socket. */
@@ -59,6 +60,7 @@ struct made_status {
 };
 
 struct control {
+    struct service *service; /* that reads a configuration; NULL: none */
     int waits; /* an epoll file, which is ready once there is something to serve; -1: none */
     struct control_socket sockets[CONTROL_SOCKETS];
     struct events *events; /* what the followers know */

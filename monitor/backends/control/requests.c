@@ -7,6 +7,7 @@
 #include "status.h"
 
 #include "../host/view.h"
+#include "../service/service.h"
 
 #include <stdarg.h>
 #include <stdio.h>
@@ -158,6 +159,11 @@ static json_t *upgrade(const struct asked *asked)
     return outcome(host_upgrade(asked->host));
 }
 
+static json_t *reload(const struct asked *asked)
+{
+    return outcome(service_reload(asked->control->service));
+}
+
 static json_t *renew(const struct asked *asked)
 {
     const char *name = field_name(asked->fields, "name");
@@ -227,6 +233,7 @@ static const struct kind kinds[] = {
     {"add", CHANGES, add, {{"name", FIELD_NAME, .needed = true}, TERMS}},
     {"remove", CHANGES, remove_guest, {{"name", FIELD_NAME, .needed = true}}},
     {"upgrade", CHANGES, upgrade, {{0}}},
+    {"reload", CHANGES, reload, {{0}}},
     {"renew", CHANGES, renew, {{"name", FIELD_NAME, .needed = true}}},
     {"budget", SHOWS, budget, {{"bytes", FIELD_BYTES, .effect = CHANGES}}},
     {"floor", SHOWS, set_floor, {{"bytes", FIELD_BYTES, .effect = CHANGES}}},

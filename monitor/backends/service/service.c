@@ -21,6 +21,9 @@
  * no time for all; and between two words for the service manager's status at most. */
 enum { LOOK_EVERY = 100, GO_ON_AFTER = 5, STATUS_EVERY = 5000 };
 
+/* Bytes of a fault that is answered. */
+enum { MOST_FAULT = 256 };
+
 void service_defaults(struct service *service)
 {
     *service = (struct service){.hangup = -1, .config = config_empty()};
@@ -171,25 +174,76 @@ static void set_sizes(const char *file, struct host *host, const struct config *
         say_fault("%s: %s", file, fault);
 }
 
-/* Reads the configuration anew; where it is wrong, the old one stays. */
-static void reload(struct service *service, struct host *host)
+/* The first fault that is said while the configuration is read. */
+static char first_fault[MOST_FAULT];
+
+static void keep_first(enum saying saying, const char *words)
+{
+    say_through = NULL;
+    if (saying == SAY_FAULT && !*first_fault)
+        snprintf(first_fault, sizeof first_fault, "%s", words);
+    if (saying == SAY_FAULT)
+        say_fault("%s", words);
+    else
+        say_news("%s", words);
+    say_through = keep_first;
+}
+
+/* Whether a configuration can take the place of the old one; else says why not. */
+static bool can_replace(const struct service *service, const struct config *config)
+{
+    const char *section, *key;
+    if (!guests_fit(service->file, config, service->host))
+        return false;
+    return config_stays(&service->config, config, &section, &key) ||
+           say_fault("%s: %s of [%s] can't change while the host runs: the old configuration stays",
+                     service->file, key, section);
+}
+
+static void take_again(struct service *service)
 {
     static struct config config;
-    const char *section, *key;
-    notify_reloads();
-    if (!config_read(service->file, &config) || !guests_fit(service->file, &config, host))
+    if (!config_read(service->file, &config) || !can_replace(service, &config)) {
         say_fault("%s: the old configuration stays", service->file);
-    else if (!config_stays(&service->config, &config, &section, &key))
-        say_fault("%s: %s of [%s] can't change while the host runs: the old configuration stays",
-                  service->file, key, section);
-    else {
-        service->config = config;
-        take_config(service);
-        set_sizes(service->file, host, &service->config);
-        apply_guests(service->file, &config, host);
-        say_news("%s: read anew", service->file);
+        return;
     }
+    service->config = config;
+    take_config(service);
+    set_sizes(service->file, service->host, &service->config);
+    apply_guests(service->file, &config, service->host);
+    say_news("%s: read anew", service->file);
+}
+
+const char *service_reload(struct service *service)
+{
+    if (!service->file)
+        return "the host has no configuration file (--config)";
+    notify_reloads();
+    *first_fault = 0;
+    say_through = keep_first;
+    take_again(service);
+    say_through = NULL;
     notify_ready();
+    return *first_fault ? first_fault : NULL;
+}
+
+/* Whether a file says what a host can't do without, where that wasn't said before. */
+static bool is_enough(const char *file, const struct config *config, const struct host *host)
+{
+    bool good = host->folder || config->fixed.folder[0] ||
+                say_fault("%s: folder of [host]: it isn't said: where the sockets are", file);
+    return (host->frames > 0 || config->budget != UINT32_MAX ||
+            say_fault("%s: budget of [host]: it isn't said: what all guests may hold together, as "
+                      "budget = 8G",
+                      file)) &&
+           good;
+}
+
+bool service_check(const struct service *service, const struct host *host)
+{
+    static struct config config;
+    return config_read(service->checks, &config) && is_enough(service->checks, &config, host) &&
+           guests_fit(service->checks, &config, host);
 }
 
 /* A word for the service manager. */
@@ -228,7 +282,7 @@ static int take_hangup(void *context, int file)
     struct service *service = context;
     look(service);
     if (process_took_reload(file))
-        reload(service, service->host);
+        service_reload(service);
     return LOOP_GOES_ON;
 }
 
@@ -281,6 +335,7 @@ bool service_begin(struct service *service, struct host *host, const char *folde
                      : getenv("NOTIFY_SOCKET")           ? STATUS_EVERY
                                                          : 0;
     service->host = host;
+    service->control.service = service;
     host->service = (struct loop_part){service, waits, turn};
     notify_ready();
     return true;

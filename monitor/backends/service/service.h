@@ -7,7 +7,8 @@
 #include "../control/control.h"
 
 struct service {
-    const char *file; /* of the configuration; NULL: none */
+    const char *file;   /* of the configuration; NULL: none */
+    const char *checks; /* a file that is to be checked alone; NULL: none */
     struct config config;
     struct host *host;
     struct control control;
@@ -29,8 +30,9 @@ struct service {
         word "-group", .read = read_socket_group, .at = &(its)->sockets[rights].group              \
     }
 #define SERVICE_OPTIONS(its)                                                                       \
-    {"config", .read = read_config, .at = (its)}, SOCKET_OPTIONS(its, MAY_CHANGE, "control"),      \
-        SOCKET_OPTIONS(its, MAY_LOOK, "status"),                                                   \
+    {"config", .read = read_config, .at = (its)},                                                  \
+        {"check", .read = read_word, .at = &(its)->checks},                                        \
+        SOCKET_OPTIONS(its, MAY_CHANGE, "control"), SOCKET_OPTIONS(its, MAY_LOOK, "status"),       \
     {                                                                                              \
         "log-level", .read = read_log_level                                                        \
     }
@@ -43,6 +45,13 @@ bool read_log_level(const char *word, void *at);
 
 /* As no option was read yet. */
 void service_defaults(struct service *service);
+
+/* Whether a host could start by the file that is to be checked, where its folder and its budget are
+ * said before; else each fault is said. */
+bool service_check(const struct service *service, const struct host *host);
+
+/* Reads the configuration again; NULL, or the first fault: then the old one stays. Each is said. */
+const char *service_reload(struct service *service);
 
 /* Opens the control sockets of a host whose folder this is, adds the guests of the configuration,
  * and takes part in the host's loop; false where it can't, which is said. Then the service manager

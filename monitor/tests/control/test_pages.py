@@ -167,6 +167,7 @@ COMPLETIONS = (
             "log",
             "watch",
             "metrics",
+            "reload",
             "upgrade",
             "plan",
             "--help",

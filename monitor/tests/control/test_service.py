@@ -224,7 +224,7 @@ def test_units(unit, tmp_path):
     with open(f"{SYSTEMD}/{unit}", encoding="utf-8") as file:
         text = file.read()
     # The programs aren't installed here.
-    (tmp_path / unit).write_text(re.sub(r"(?m)^ExecStart=\S+", "ExecStart=/bin/true", text))
+    (tmp_path / unit).write_text(re.sub(r"(?m)^Exec(Start|Reload)=\S+", r"Exec\1=/bin/true", text))
     ran = subprocess.run(
         ["systemd-analyze", "verify", "--man=no", str(tmp_path / unit)],
         capture_output=True,

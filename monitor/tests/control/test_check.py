@@ -1,0 +1,126 @@
+"""A configuration that is checked beside a host, and one that a host reads again by a request: what
+is wrong is named by file, line and key, and the host keeps what it had."""
+
+import re
+import subprocess
+
+import pytest
+from bigvasta.statuses import Refused
+from hosts import Host
+from installed import bigvasta
+from linux_kit import ROOT
+from test_config import WRONG, filled
+from waiting import PATIENCE, patience_from_now
+
+MIB = 1 << 20
+
+
+def checked(program, file, *words):
+    """Checks a file; returns the status, and the lines that were said."""
+    ran = subprocess.run(
+        [program, *words, "--check", str(file)],
+        stdin=subprocess.DEVNULL,
+        capture_output=True,
+        text=True,
+        errors="replace",
+        timeout=PATIENCE,
+    )
+    assert ran.stdout == ""
+    return ran.returncode, ran.stderr.splitlines()
+
+
+@pytest.fixture
+def file(folder):
+    """A good file."""
+    path = folder / "host.conf"
+    path.write_text(filled(folder))
+    return path
+
+
+@pytest.fixture
+def configured(program, folder, file):
+    """A host that was started by it."""
+    it = Host(program, folder, "--config", str(file))
+    it.lines.next(patience_from_now())
+    yield it
+    assert it.end() == 0, it.said()
+
+
+def test_a_good_file(program, file):
+    assert checked(program, file) == (0, [])
+
+
+@pytest.mark.parametrize("old, new, said", WRONG)
+def test_a_wrong_file_is_named_by_line_and_key(program, folder, file, old, new, said):
+    file.write_text(filled(folder, old, new))
+    status, lines = checked(program, file)
+    assert status == 1 and f"{file}: {said}" in lines, lines
+
+
+def test_a_file_by_which_no_host_starts(program, folder, file):
+    file.write_text("[host]\n")
+    assert checked(program, file) == (
+        1,
+        [
+            f"{file}: folder of [host]: it isn't said: where the sockets are",
+            (
+                f"{file}: budget of [host]: it isn't said: what all guests may hold together, as "
+                "budget = 8G"
+            ),
+        ],
+    )
+    assert checked(program, file, str(folder), "--budget", "480") == (0, [])
+    assert checked(program, folder / "none") == (1, [f"{folder}/none: No such file or directory"])
+
+
+def test_bytes_of_others_making(program, folder, file):
+    """A file of 1 GiB, without an end of a line; a name with bytes that a terminal obeys; a number
+    of 40 digits."""
+    with open(file, "ab") as it:
+        it.truncate(1 << 30)
+    assert checked(program, file) == (1, [f"{file}: a file has 1 MiB at most"])
+    file.write_bytes(filled(folder).encode() + b"[guest \x1b[2J\xff]\n")
+    status, lines = checked(program, file)
+    assert (status, lines) == (
+        1,
+        [f"{file}: line 20: guest ?[2J?: a guest's name has 1 to 31 letters, digits, - and _"],
+    )
+    file.write_text(filled(folder, "budget = 480M", f"budget = {'9' * 40}M"))
+    status, lines = checked(program, file)
+    assert status == 1 and lines[0].startswith(f"{file}: line 4: budget: a size")
+
+
+def test_a_file_that_is_read_by_a_request(configured, folder, file):
+    file.write_text(filled(folder, "budget = 480M", "budget = 400M"))
+    assert configured.ask("reload") == {"version": 1, "ok": True}
+    assert configured.status()["budget"] == 400 * MIB
+    ran = bigvasta(configured.control, "reload")
+    assert (ran.returncode, ran.stdout, ran.stderr) == (0, "the configuration is read\n", "")
+
+
+def test_a_request_waits_for_its_outcome(configured, folder, file):
+    file.write_text(filled(folder, "budget = 480M", "budget = 400M").replace("8M ", "8 "))
+    said = f"{file}: line 5: floor: "
+    with pytest.raises(Refused) as refused:
+        configured.ask("reload")
+    assert refused.value.text.startswith(said)
+    ran = bigvasta(configured.control, "reload")
+    assert (ran.returncode, ran.stdout) == (1, "") and said in ran.stderr
+    assert configured.status()["budget"] == 480 * MIB
+    assert [it for it in configured.said() if it.startswith(said)], "it is in the log, too"
+    # What can't change while the host runs is refused as well, and is no fault of the file's.
+    file.write_text(filled(folder, "period = 100", "period = 200"))
+    with pytest.raises(Refused, match="period of .host. can't change while the host runs"):
+        configured.ask("reload")
+
+
+def test_a_host_without_a_file_reads_none(host):
+    with pytest.raises(Refused, match="no configuration file"):
+        host.ask("reload")
+
+
+def test_the_unit_checks_and_waits():
+    with open(f"{ROOT}/packaging/systemd/bigvasta-host.service", encoding="utf-8") as file:
+        lines = re.findall(r"(?m)^ExecReload=(.*)", file.read())
+    assert [it.split()[0] for it in lines] == ["/usr/bin/vhost_user_host", "/usr/bin/bigvasta"]
+    assert lines[0].endswith("--check /etc/bigvasta/host.conf") and lines[1].endswith(" reload")
