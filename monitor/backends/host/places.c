@@ -334,6 +334,17 @@ void place_uncounts(struct seat *seat)
     host_changed(seat->host, BY_GUESTS);
 }
 
+void place_stays(struct seat *seat)
+{
+    uint32_t lent = seat_lent(seat);
+    if (lent == 0) {
+        place_leaves(seat);
+        return;
+    }
+    drop_added(seat);
+    take_over(seat, lent, (VbReport){.deflates = 1});
+}
+
 void place_leaves(struct seat *seat)
 {
     drop_added(seat);

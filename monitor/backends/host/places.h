@@ -53,11 +53,13 @@ void place_begin(struct seat *seat);
 void place_reserves(struct seat *seat, uint32_t pages);
 
 /* A later lender has its first report; it has reported; it is admitted, where nothing of it waits
- * for a grant; it has taken pages without a grant; it has gone. */
+ * for a grant; it has taken pages without a grant; its client is said to have gone, and it asks for
+ * nothing, but keeps what it was lent; it has gone. */
 void place_takes_over(struct seat *seat);
 void place_hears(struct seat *seat);
 void place_admits(struct seat *seat);
 void place_uncounts(struct seat *seat);
+void place_stays(struct seat *seat);
 void place_leaves(struct seat *seat);
 
 /* `pages` of it are wanted in its balloon. */

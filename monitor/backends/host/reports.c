@@ -188,16 +188,19 @@ static void take_report(struct seat *seat, const struct lending_message *message
         seat_look(seat, true);
 }
 
-/* Its client has gone, and its memory with it. */
+/* It says that its client has gone. What it was lent stays lent, and what it held is held, until the
+ * kernel says that it has ended. */
 static void take_leave(struct seat *seat)
 {
     bool had_pages = seat_pages(seat) > 0;
+    uint64_t held_kib = seat->report.held_kib;
     say_gone();
     seat->host->counters.gone++;
     measure_gone(seat->listener < 0 ? GONE_REMOVED : seat->refused ? GONE_REFUSED : GONE_LEFT);
     seat_clear(seat);
-    place_leaves(seat);
+    seat->report.held_kib = held_kib;
     seat->gone = true;
+    place_stays(seat);
     if (had_pages)
         host_changed(seat->host, BY_GUESTS);
 }

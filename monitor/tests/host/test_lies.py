@@ -9,11 +9,11 @@ import threading
 import time
 
 import pytest
-from played import TELL_REMARK, WAIT_ROOM, Listens, Played
+from played import TELL_GONE, TELL_REMARK, WAIT_ROOM, Listens, Played
 from tenants import FREE, eventually, go_on, process_of, stop
 from test_later_states import seen
-from test_strict import GIVEN, STRICT, lent, used
-from vhost_client import DEFLATE, PAGE
+from test_strict import GIVEN, STRICT, Later, lent, used
+from vhost_client import DEFLATE, PAGE, Client
 
 ALL, MOST_PAGES, HUGE = 128, 1 << 24, (1 << 32) - 1
 
@@ -63,6 +63,28 @@ def test_a_lie_ends_the_service_of_its_process_alone(lend, come, lie):
     lender.become("b", ballooned=40)
     assert lent(lender) == ALL
     a.channel.close()
+
+
+def test_pages_stay_lent_until_a_process_that_says_its_client_has_gone_has_ended(lend):
+    lender = lend(1, *STRICT)
+    a = Played(lender, "a", pages=ALL)
+    held = lender.counters()["held_kib"]
+    a.say(TELL_GONE)
+    eventually(lambda: lender.hear() or "gone a" in lender.said(), lender.said)
+    assert lender.counters()["held_kib"] == held
+    b = Client(lender.add("b"))
+    b.negotiate()
+    lender.set_budget(2 * ALL - 1)
+    comes = Later(b.hand_over_memory)
+    lender.become("b", waits="room", lent=0)
+    a.report(pages=0, ballooned=0)
+    assert comes.waits()
+    assert lender.guests()["a"]["lent"] == lent(lender) == ALL
+    a.leave()
+    comes.ends()
+    lender.become("a", here=0, lent=0)
+    assert lent(lender) == ALL
+    b.leave()
 
 
 def test_a_flood_of_words_hides_none_of_the_lenders(lend):
