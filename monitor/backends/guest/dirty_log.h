@@ -12,8 +12,9 @@ struct dirty_log {
 };
 
 /* Maps `bytes` bytes of a file, in place of the log before, which stays where that fails. Takes the
- * file; false where it can't be mapped, as memory of the guest (guest_memory.h). */
-bool dirty_log_take(struct dirty_log *log, int file, uint64_t bytes, uint64_t offset);
+ * file. Returns why these are no log, after the log's name, or NULL; files are those that memory of
+ * the guest may have (guest_memory.h). */
+const char *dirty_log_take(struct dirty_log *log, int file, uint64_t bytes, uint64_t offset);
 
 /* There is no log any longer. */
 void dirty_log_forget(struct dirty_log *log);

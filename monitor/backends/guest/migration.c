@@ -21,9 +21,9 @@ enum outcome set_log_base(struct backend *backend, struct message *message)
 {
     uint64_t bytes = message_u64(message, 0), offset = message_u64(message, 8);
     int file = message->files.numbers[--message->files.count];
-    if (!dirty_log_take(&backend->log, file, bytes, offset))
-        return refuse("the log of %" PRIu64 " bytes from %" PRIu64 " on can't be mapped", bytes,
-                      offset),
+    const char *fault = dirty_log_take(&backend->log, file, bytes, offset);
+    if (fault)
+        return refuse("the log of %" PRIu64 " bytes from %" PRIu64 " on %s", bytes, offset, fault),
                STOP;
     backend->balloon.on_written = log_written;
     return answer_u64(backend, message, 0);

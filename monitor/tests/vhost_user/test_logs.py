@@ -28,7 +28,7 @@ LOG_BYTES, LOG_OFFSET = 4096, 8192
 LOGGED = 1
 
 # Flags of seals (linux/fcntl.h).
-SEAL_WRITE = 8
+SEAL_WRITE, SEAL_FUTURE_WRITE = 8, 16
 
 
 def log_file(size=LOG_OFFSET + LOG_BYTES):
@@ -149,43 +149,54 @@ def test_a_ring_over_two_pages(serve_well):
     assert logged(file) == [used // PAGE, used // PAGE + 1]
 
 
-# What is said, how large the log's file is, and what the message says of it: size and offset.
-WRONG = (
-    ("the log of 0 bytes from 0 on can't be mapped", LOG_BYTES, 0, 0),
-    ("can't be mapped", LOG_BYTES, LOG_BYTES + 1, 0),
-    ("can't be mapped", LOG_BYTES, LOG_BYTES, PAGE),
-    ("can't be mapped", LOG_BYTES, 1, 1),
-    ("can't be mapped", LOG_BYTES, 2**64 - 1, 0),
-    ("can't be mapped", LOG_BYTES, 8, 2**64 - 4096),
-    ("can't be mapped", LOG_BYTES, 2**63, 2**63),
-    ("can't be mapped", 0, 8, 0),
-)
+# Logs that are none: what is said, how large the file is, and what the message says of it: size
+# and offset.
+NOWHERE, LATER = "ends where no file does", "ends after its file"
+WRONG = {
+    "no bytes": ("the log of 0 bytes from 0 on has no bytes", LOG_BYTES, 0, 0),
+    "none at the end": ("has no bytes", LOG_BYTES, 0, LOG_BYTES),
+    "a byte more": (LATER, LOG_BYTES, LOG_BYTES + 1, 0),
+    "a page later": (LATER, LOG_BYTES, LOG_BYTES, PAGE),
+    "a byte after the end": (LATER, LOG_BYTES, 1, PAGE),
+    "the largest": (LATER, LOG_BYTES, 2**63 - 1, 0),
+    "an empty file": (LATER, 0, 8, 0),
+    "within a page": ("begins within a page", LOG_BYTES, 1, 1),
+    "larger than any": (NOWHERE, LOG_BYTES, 2**64 - 1, 0),
+    "a byte more than any": (NOWHERE, LOG_BYTES, 1, 2**63 - 1),
+    "a negative offset": (NOWHERE, LOG_BYTES, 8, 2**64 - PAGE),
+    "an end that overflows": (NOWHERE, LOG_BYTES, 2 * PAGE, 2**64 - PAGE),
+    "an end at 0": (NOWHERE, LOG_BYTES, 2**63, 2**63),
+}
 
 
-@pytest.mark.parametrize("words, length, size, offset", WRONG)
-def test_a_log_that_is_none(serve, words, length, size, offset):
+def demand_no_log(serve, file, words, size=LOG_BYTES, offset=0):
+    """Demands that a client's service ends with these words as it hands this log over."""
     client = serve()
     client.start_by_events(protocol=QEMU_PROTOCOL | MIGRATION)
-    file = log_file(length)
     client.send(SET_LOG_BASE, struct.pack("<QQ", size, offset), [file], flags=1)
     demand_refused(client, words)
 
 
-def test_a_log_that_nobody_may_write(serve):
-    client = serve()
-    client.start_by_events(protocol=QEMU_PROTOCOL | MIGRATION)
+@pytest.mark.parametrize("words, length, size, offset", WRONG.values(), ids=WRONG)
+def test_a_log_that_is_none(serve, words, length, size, offset):
+    demand_no_log(serve, log_file(length), words, size, offset)
+
+
+@pytest.mark.parametrize("seal", (SEAL_WRITE, SEAL_FUTURE_WRITE))
+def test_a_log_that_nobody_may_write(serve, seal):
     file = log_file()
-    fcntl.fcntl(file, fcntl.F_ADD_SEALS, SEAL_WRITE)
-    client.send(SET_LOG_BASE, struct.pack("<QQ", LOG_BYTES, LOG_OFFSET), [file], flags=1)
-    demand_refused(client, "can't be mapped")
+    fcntl.fcntl(file, fcntl.F_ADD_SEALS, seal)
+    demand_no_log(serve, file, "can't be mapped to be written")
 
 
-def test_a_log_that_is_a_pipe(serve):
-    client = serve()
-    client.start_by_events(protocol=QEMU_PROTOCOL | MIGRATION)
-    file = os.pipe()[1]
-    client.send(SET_LOG_BASE, struct.pack("<QQ", LOG_BYTES, LOG_OFFSET), [file], flags=1)
-    demand_refused(client, "can't be mapped")
+def test_a_log_that_the_client_may_only_read(serve):
+    file = log_file()
+    demand_no_log(serve, os.open(f"/proc/self/fd/{file}", os.O_RDONLY), "to be written")
+
+
+def test_a_log_that_is_no_file(serve):
+    for file in (os.pipe()[1], os.eventfd(0), os.open("/dev/zero", os.O_RDWR)):
+        demand_no_log(serve, file, "is in no plain file")
 
 
 def test_a_log_cannot_be_cut_off(begin):

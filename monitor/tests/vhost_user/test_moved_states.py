@@ -111,12 +111,25 @@ def test_a_state_that_is_longer_than_any(ready):
     assert client.counter("status") == 0
 
 
-def test_a_pipe_that_never_ends(ready):
+def hand_over(client, file, direction, blocking):
+    """Hands a pipe over, which the client, that has it too, may make blocking again."""
+    same = os.dup(file)
+    assert ask(client, file, direction) == WELL
+    os.set_blocking(same, blocking)
+    os.close(same)
+
+
+# Whether a client makes its pipe blocking again.
+BLOCKING = pytest.mark.parametrize("blocking", (False, True), ids=("as it was", "blocking"))
+
+
+@BLOCKING
+def test_a_pipe_that_never_ends(ready, blocking):
     """What is asked for meanwhile gets an answer, and no processor's time is taken."""
     client = ready()
     stopped(client)
     theirs, ours = os.pipe()
-    assert ask(client, theirs, LOAD) == WELL
+    hand_over(client, theirs, LOAD, blocking)
     os.write(ours, b"x" * 100)
     assert client.counter("target") == 0
     assert client.is_at_rest()
@@ -126,14 +139,15 @@ def test_a_pipe_that_never_ends(ready):
         os.write(ours, b"x")
 
 
-def test_a_pipe_that_nobody_reads(ready):
+@BLOCKING
+def test_a_pipe_that_nobody_reads(ready, blocking):
     """A state of any length waits for its reader, and nobody else does."""
     client = ready()
     stopped(client)
     ours, theirs = os.pipe()
     fcntl.fcntl(theirs, fcntl.F_SETPIPE_SZ, 4096)
     os.write(theirs, b"x" * 4096)
-    assert ask(client, theirs, SAVE) == WELL
+    hand_over(client, theirs, SAVE, blocking)
     assert client.counter("target") == 0
     assert client.is_at_rest()
     assert client.send(CHECK_DEVICE_STATE) == WRONG

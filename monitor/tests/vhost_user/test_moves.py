@@ -1,9 +1,11 @@
 """Tests of a device that moves to another process, as its guest migrates: it is saved into a pipe
 by one, and loaded from a pipe by the other."""
 
+import socket
 import struct
 
 from vhost_client import (
+    CHECK_DEVICE_STATE,
     FEATURES,
     GET_CONFIG,
     INFLATE,
@@ -13,7 +15,19 @@ from vhost_client import (
     SET_VRING_KICK,
 )
 from vhost_demands import FIRST, demand_refused, demand_served
-from vhost_moves import PROTOCOL, arrive, load, saved, stopped, with_pages
+from vhost_moves import (
+    FINE,
+    LOAD,
+    PROTOCOL,
+    SAVE,
+    WELL,
+    arrive,
+    ask,
+    load,
+    saved,
+    stopped,
+    with_pages,
+)
 
 
 def test_a_balloon_goes_on_elsewhere(ready, serve):
@@ -112,6 +126,25 @@ def test_a_device_of_which_no_driver_is_ready(serve):
     assert other.counter("target") == 9
     other.start_by_events(protocol=PROTOCOL)
     assert other.counter("actual") == 0
+
+
+def test_a_stream_in_place_of_a_pipe(ready, serve):
+    client = ready()
+    with_pages(client, [FIRST], 3)
+    stopped(client)
+    other = serve()
+    other.begin(PROTOCOL)
+    for it, direction in ((client, SAVE), (other, LOAD)):
+        ours, theirs = socket.socketpair()
+        assert ask(it, theirs.detach(), direction) == WELL
+        if direction == SAVE:
+            with ours.makefile("rb") as file:
+                data = file.read()
+        else:
+            ours.sendall(data)
+        ours.close()
+        assert it.send(CHECK_DEVICE_STATE) == FINE
+    assert (other.counter("target"), len(data)) == (3, len(saved(client)))
 
 
 def test_a_state_of_another_memory(ready, serve):

@@ -1,5 +1,6 @@
-"""Backends that are wrong on purpose (tests/mutants/wrong_backend.c, and by their event loop
-wrong_loop.c): each is refused by the test that is for it, and that alone is run."""
+"""Backends that are wrong on purpose (tests/mutants: wrong_backend.c, of a guest that migrates
+wrong_moves.c, by their event loop wrong_loop.c): each is refused by the test that is for it, and
+that alone is run."""
 
 import os
 
@@ -31,6 +32,20 @@ WRONG = {
     "after-done": "test_hints.py::test_a_story[after DONE]",
     "discards-kept": "test_hints.py::test_hints_are_kept",
     "ids-anew": "test_hints.py::test_ids_go_on_over_a_restart",
+    "log-empty": "test_logs.py::test_a_log_that_is_none[no bytes]",
+    "log-nowhere": "test_logs.py::test_a_log_that_is_none[an end that overflows]",
+    "log-short": "test_logs.py::test_a_log_that_is_none[a byte more]",
+    "log-unsealed": "test_logs.py::test_a_log_cannot_be_cut_off",
+    "log-old": "test_logs.py::test_a_log_in_place_of_another",
+    "logs-nothing": "test_logs.py::test_each_used_ring_that_is_written",
+    "log-misses": "test_logs.py::test_a_log_without_a_bit_for_the_ring",
+    "log-kills": "test_logs.py::test_a_log_that_is_cut_off",
+    "pipe-waits": "test_moved_states.py::test_a_pipe_that_never_ends[blocking]",
+    "any-state": "test_moved_states.py::test_each_byte_that_is_changed",
+    "forgets-refused": "test_moved_states.py::test_states_that_are_none",
+    "any-memory": "test_moves.py::test_a_state_of_another_memory",
+    "index-0": "test_moves.py::test_a_driver_that_goes_on_at_index_0",
+    "keeps-sent": "test_moves.py::test_what_was_sent_of_the_balloon_is_given_up",
 }
 
 # Each wrong event loop, and the test that has to refuse it; tests/host has others, by a lender.
