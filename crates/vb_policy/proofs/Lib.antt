@@ -13,3 +13,4 @@ pub mod Joins
 mod DivisionFacts
 mod TargetFacts
 mod NeedsFacts
+mod PressureFacts

@@ -5,3 +5,4 @@ pub mod Decisions
 pub mod Laws
 pub mod Needs
 pub mod Asking
+pub mod Pressing

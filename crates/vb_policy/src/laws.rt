@@ -2,7 +2,7 @@
 
 ghost use Rattle.std.specs.Prelude.{◌≡◌, ◌⊎◌, ℕ, ◌+◌, ◌*◌, ◌<◌, ◌≤◌, List, Contains, length, map};
 ghost use Rattle.std.specs.Prelude.{IsPermutation, slice_get, slice_index, sum, sum_by, true, Some};
-ghost use Rattle.std.specs.Prelude.{false, min};
+ghost use Rattle.std.specs.Prelude.{◌-◌, ◌^◌, false, min};
 ghost use Rattle.vb_policy.specs.declared.guest.Decision.{Decision};
 ghost use Rattle.vb_policy.specs.declared.guest.Decision.TheVariants.{Enough};
 ghost use Rattle.vb_policy.specs.declared.guest.Division.{Division};
@@ -19,6 +19,10 @@ ghost use Rattle.vb_policy.specs.declared.figures.Contact.TheVariants.{Silent};
 ghost use Rattle.vb_policy.specs.declared.figures.Figures.{Figures};
 ghost use Rattle.vb_policy.specs.Needs.{cached_of, contact_of, counts, given, spare_of, unused_of};
 ghost use Rattle.vb_policy.specs.Needs.{waits, yields};
+ghost use Rattle.vb_policy.specs.declared.pressure.Pressure.{Pressure};
+ghost use Rattle.vb_policy.specs.declared.pressure.Sample.{Sample};
+ghost use Rattle.vb_policy.specs.declared.pressure.TheConstants.{KILLED_MS, PRESSED_MS};
+ghost use Rattle.vb_policy.specs.Pressing.{after, has_killed, has_stalled, inflates, is_pressed};
 ghost use Rattle.vb_policy.specs.Settling.{most_of};
 ghost use Rattle.vb_policy.specs.Tiers.{before, through};
 
@@ -127,4 +131,33 @@ pub fn no_more_is_given()
         unused_of b g ≤ given g }
     ensures cached { (b : Budget) (g : Figures) → waits g ≡ false → 0 < g.pressed →
         cached_of b g ≤ given g }
+{}
+
+/// A guest whose work has stalled while its balloon didn't inflate is pressed from that sample on
+/// for `PRESSED_MS`, and one that has killed a process for `KILLED_MS`, as long as there is time;
+/// and a later sample never ends that earlier, while no clock is set back.
+pub fn pressure_lasts()
+    ensures stalled { (p : Pressure) (s : Sample) (now t : ℕ) →
+        has_stalled p.last.counters s.counters ≡ true → inflates p.last s ≡ false →
+        t < now + PRESSED_MS → t < 2 ^ 64 - 1 → is_pressed (after p s now) t ≡ true }
+    ensures killed { (p : Pressure) (s : Sample) (now t : ℕ) →
+        has_killed p.last.counters s.counters ≡ true →
+        t < now + KILLED_MS → t < 2 ^ 64 - 1 → is_pressed (after p s now) t ≡ true }
+    ensures stays { (p : Pressure) (s : Sample) (now t : ℕ) → p.until ≤ now + KILLED_MS →
+        p.until < 2 ^ 64 → is_pressed p t ≡ true → is_pressed (after p s now) t ≡ true }
+{}
+
+/// Nobody is pressed for longer than `KILLED_MS` from its last sample on, and a sample that shows
+/// neither a stall nor a kill presses nobody for longer than before; nor does the first one, or one
+/// while the balloon inflates, unless it shows a kill.
+pub fn pressure_ends()
+    ensures ends { (p : Pressure) (s : Sample) (now t : ℕ) → now + KILLED_MS ≤ t →
+        is_pressed (after p s now) t ≡ false }
+    ensures quiet { (p : Pressure) (s : Sample) (now t : ℕ) →
+        has_stalled p.last.counters s.counters ≡ false →
+        has_killed p.last.counters s.counters ≡ false →
+        now ≤ t → is_pressed p t ≡ false → is_pressed (after p s now) t ≡ false }
+    ensures inflating { (p : Pressure) (s : Sample) (now t : ℕ) → inflates p.last s ≡ true →
+        has_killed p.last.counters s.counters ≡ false →
+        now ≤ t → is_pressed p t ≡ false → is_pressed (after p s now) t ≡ false }
 {}
