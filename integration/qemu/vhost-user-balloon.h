@@ -14,8 +14,17 @@
 #define TYPE_VHOST_USER_BALLOON "vhost-user-balloon"
 OBJECT_DECLARE_SIMPLE_TYPE(VHostUserBalloon, VHOST_USER_BALLOON)
 
-/* What the driver sees of the configuration */
+/* The class data of a type is constant from 10.1 on */
+#if QEMU_VERSION_MAJOR > 10 || \
+    (QEMU_VERSION_MAJOR == 10 && QEMU_VERSION_MINOR > 0)
+typedef const void *VHostUserBalloonClassData;
+#else
+typedef void *VHostUserBalloonClassData;
+#endif
+
+/* What the driver sees of the configuration, and where `actual` is in it */
 #define VHOST_USER_BALLOON_CONFIG_SIZE 16
+#define VHOST_USER_BALLOON_ACTUAL_AT 4
 
 struct VHostUserBalloon {
     VHostUserBase parent_obj;
@@ -34,5 +43,48 @@ struct VHostUserBalloon {
     bool was_started;
     uint8_t config[VHOST_USER_BALLOON_CONFIG_SIZE];
 };
+
+/* The class that this device's is made of */
+VirtioDeviceClass *vub_balloon_base_class(void);
+
+static inline bool vub_balloon_is_connected(VHostUserBalloon *b)
+{
+    return VHOST_USER_BASE(b)->connected;
+}
+
+/* The driver's `actual`, as it was last seen */
+static inline uint32_t vub_balloon_actual(VHostUserBalloon *b)
+{
+    return ldl_le_p(b->config + VHOST_USER_BALLOON_ACTUAL_AT);
+}
+
+/* vhost-user-balloon-control.c: the area after the backend's configuration */
+
+/* Whether the backend is one that a balloon can have; and prepares it */
+bool vub_balloon_check_backend(VHostUserBalloon *b, Error **errp);
+
+/* Writes the device's target */
+bool vub_balloon_write_target(VHostUserBalloon *b);
+
+/* The guest's bytes without those pages */
+ram_addr_t vub_balloon_guest_size(uint32_t ballooned);
+
+/* QMP balloon and query-balloon; false where there is such a handler */
+bool vub_balloon_add_handler(VHostUserBalloon *b);
+
+/* guest-stats and its polling */
+void vub_balloon_init_stats(VHostUserBalloon *b);
+void vub_balloon_free_stats(VHostUserBalloon *b);
+
+/* vhost-user-balloon-connection.c: has a socket's events served */
+void vub_balloon_listen(VHostUserBalloon *b);
+
+/* vhost-user-balloon-holes.c: holes of shared memory aren't read */
+int vub_balloon_precopy_notify(NotifierWithReturn *n, void *data,
+                               Error **errp);
+
+/* vhost-user-balloon-vmstate.c: of the device, and of the virtio device */
+extern const VMStateDescription vub_balloon_vmstate;
+extern const VMStateDescription vub_balloon_vmstate_virtio;
 
 #endif /* QEMU_VHOST_USER_BALLOON_H */

@@ -1,0 +1,112 @@
+/*
+ * A socket of a balloon's vhost-user backend that reconnects
+ *
+ * SPDX-License-Identifier: GPL-2.0-or-later
+ */
+
+#include "qemu/osdep.h"
+#include "qapi/error.h"
+#include "hw/virtio/virtio-bus.h"
+#include "standard-headers/linux/vhost_types.h"
+#include "vhost-user-balloon.h"
+
+static void balloon_event(void *opaque, QEMUChrEvent event);
+
+void vub_balloon_listen(VHostUserBalloon *b)
+{
+    qemu_chr_fe_set_handlers(&VHOST_USER_BASE(b)->chardev, NULL, NULL,
+                             balloon_event, NULL, b, NULL, true);
+}
+
+static int balloon_config_notifier(struct vhost_dev *dev)
+{
+    virtio_notify_config(dev->vdev);
+    return 0;
+}
+
+static const VhostDevConfigOps balloon_config_ops = {
+    .vhost_dev_config_notifier = balloon_config_notifier,
+};
+
+static void balloon_disconnect(DeviceState *dev)
+{
+    VHostUserBase *vub = VHOST_USER_BASE(dev);
+    VirtIODevice *vdev = VIRTIO_DEVICE(dev);
+    struct vhost_virtqueue *vqs = vub->vhost_dev.vqs;
+
+    if (vub->connected) {
+        /* It was marked as stopped as the socket closed, and isn't yet */
+        vub->vhost_dev.started = VHOST_USER_BALLOON(dev)->was_started;
+        vub_balloon_base_class()->set_status(vdev, 0);
+        vub->connected = false;
+        vhost_dev_cleanup(&vub->vhost_dev);
+        g_free(vqs);
+    }
+    vub_balloon_listen(VHOST_USER_BALLOON(dev));
+}
+
+/* A new process has none of the driver's words: neither a target nor `actual` */
+static bool balloon_restore_backend(VHostUserBalloon *b, Error **errp)
+{
+    VHostUserBase *vub = VHOST_USER_BASE(b);
+    VirtIODevice *vdev = VIRTIO_DEVICE(b);
+    uint32_t actual = cpu_to_le32(vub_balloon_actual(b));
+
+    if (vdev->guest_features & ~vub->vhost_dev.features) {
+        error_setg(errp, "vhost-user-balloon: the backend that connects lacks "
+                   "features of the driver");
+        return false;
+    }
+    if (!vub_balloon_write_target(b)) {
+        error_setg(errp, "vhost-user-balloon: the backend that connects "
+                   "doesn't take a target");
+        return false;
+    }
+    vub_balloon_base_class()->set_status(vdev, vdev->status);
+    vhost_dev_set_config(&vub->vhost_dev, (uint8_t *)&actual,
+                         VHOST_USER_BALLOON_ACTUAL_AT, sizeof(actual),
+                         VHOST_SET_CONFIG_TYPE_FRONTEND);
+    stl_le_p(b->config + VHOST_USER_BALLOON_ACTUAL_AT, le32_to_cpu(actual));
+    virtio_notify_config(vdev);
+    return true;
+}
+
+static bool balloon_connect(VHostUserBalloon *b, Error **errp)
+{
+    VHostUserBase *vub = VHOST_USER_BASE(b);
+    uint32_t actual = vub_balloon_actual(b);
+    struct vhost_virtqueue *vqs = g_new0(struct vhost_virtqueue, vub->num_vqs);
+    bool ok;
+
+    vub->vhost_dev.nvqs = vub->num_vqs;
+    vub->vhost_dev.vqs = vqs;
+    vhost_dev_set_config_notifier(&vub->vhost_dev, &balloon_config_ops);
+    if (vhost_dev_init(&vub->vhost_dev, &vub->vhost_user,
+                       VHOST_BACKEND_TYPE_USER, 0, errp) < 0) {
+        g_free(vqs);
+        return false;
+    }
+    vub->connected = true;
+    ok = vub_balloon_check_backend(b, errp);
+    stl_le_p(b->config + VHOST_USER_BALLOON_ACTUAL_AT, actual);
+    return ok && balloon_restore_backend(b, errp);
+}
+
+static void balloon_event(void *opaque, QEMUChrEvent event)
+{
+    VHostUserBalloon *b = opaque;
+    VHostUserBase *vub = VHOST_USER_BASE(b);
+    Error *err = NULL;
+
+    if (event == CHR_EVENT_OPENED && !vub->connected &&
+        !balloon_connect(b, &err)) {
+        error_report_err(err);
+        qemu_chr_fe_disconnect(&vub->chardev);
+    }
+    if (event == CHR_EVENT_CLOSED) {
+        b->was_started = vhost_dev_is_started(&vub->vhost_dev);
+        /* Later, as a message may be amid */
+        vhost_user_async_close(DEVICE(b), &vub->chardev, &vub->vhost_dev,
+                               balloon_disconnect);
+    }
+}
