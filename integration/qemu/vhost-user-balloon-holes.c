@@ -2,15 +2,18 @@
  * Holes of a guest's shared memory: what a balloon's backend has discarded
  *
  * A hole reads as zeros, and QEMU's read would fill it. So holes aren't sent
- * as a guest migrates or is saved.
+ * as a guest migrates or is saved; in their place one map of them goes with
+ * the device: what the other side has there is older, and is discarded.
  *
  * SPDX-License-Identifier: GPL-2.0-or-later
  */
 
 #include "qemu/osdep.h"
+#include "qemu/error-report.h"
 #include "exec/cpu-common.h"
-#include "exec/target_page.h"
 #include "migration/misc.h"
+#include "migration/qemu-file-types.h"
+#include "migration/vmstate.h"
 #if __has_include("system/ramblock.h")
 #include "system/memory.h"
 #include "system/ramblock.h"
@@ -122,3 +125,135 @@ int vub_balloon_precopy_notify(NotifierWithReturn *n, void *data, Error **errp)
     }
     return 0;
 }
+
+/*
+ * The map of a block: its name with its length before it, the size of a page,
+ * how many pages there are, and a bit for each, in words of 8 bytes that are
+ * little-endian. A name of no length ends all.
+ */
+
+static size_t map_bytes(uint64_t pages)
+{
+    return DIV_ROUND_UP(pages, 64) * sizeof(uint64_t);
+}
+
+static int put_block(RAMBlock *rb, void *opaque)
+{
+    QEMUFile *f = opaque;
+    const char *name = qemu_ram_get_idstr(rb);
+    size_t page = qemu_real_host_page_size();
+    uint64_t pages = block_end(rb) / page;
+    g_autofree uint8_t *map = NULL;
+    Extent hole = { 0, 0 };
+
+    if (!may_have_holes(rb)) {
+        return 0;
+    }
+    map = g_malloc0(map_bytes(pages));
+    while (next_hole(rb, &hole)) {
+        for (uint64_t i = hole.start / page; i < hole.end / page; i++) {
+            map[i / 8] |= 1 << i % 8;
+        }
+    }
+    qemu_put_byte(f, strlen(name));
+    qemu_put_buffer(f, (const uint8_t *)name, strlen(name));
+    qemu_put_be32(f, page);
+    qemu_put_be64(f, pages);
+    qemu_put_buffer(f, map, map_bytes(pages));
+    return 0;
+}
+
+static int put_holes(QEMUFile *f, void *pv, size_t size,
+                     const VMStateField *field, JSONWriter *vmdesc)
+{
+    qemu_ram_foreach_block(put_block, f);
+    qemu_put_byte(f, 0);
+    return 0;
+}
+
+/* Has this read as zeros; of pages that are large their parts are cleared */
+static int clear(RAMBlock *rb, Extent old)
+{
+    off_t start = QEMU_ALIGN_UP(old.start, rb->page_size);
+    off_t end = QEMU_ALIGN_DOWN(old.end, rb->page_size);
+
+    if (start >= end) {
+        memset(rb->host + old.start, 0, old.end - old.start);
+        return 0;
+    }
+    memset(rb->host + old.start, 0, start - old.start);
+    memset(rb->host + end, 0, old.end - end);
+    return ram_block_discard_range(rb, start, end - start);
+}
+
+/* Whatever lies in a hole of the source is older than that */
+static int clear_hole(RAMBlock *rb, Extent hole)
+{
+    Extent data = { hole.start, hole.start };
+    int ret = 0;
+
+    while (ret == 0 && next_data(rb, &data, hole.end)) {
+        ret = clear(rb, data);
+    }
+    return ret;
+}
+
+static bool is_set(const uint8_t *map, uint64_t bit)
+{
+    return map[bit / 8] >> bit % 8 & 1;
+}
+
+static int clear_holes(RAMBlock *rb, const uint8_t *map, uint64_t pages,
+                       size_t page)
+{
+    int ret = 0;
+
+    for (uint64_t at = 0; ret == 0 && at < pages; at++) {
+        uint64_t first = at;
+
+        while (at < pages && is_set(map, at)) {
+            at++;
+        }
+        if (at > first) {
+            ret = clear_hole(rb, (Extent) { first * page, at * page });
+        }
+    }
+    return ret;
+}
+
+static int get_block(QEMUFile *f, const char *name)
+{
+    RAMBlock *rb = qemu_ram_block_by_name(name);
+    uint32_t page = qemu_get_be32(f);
+    uint64_t pages = qemu_get_be64(f);
+    g_autofree uint8_t *map = NULL;
+
+    if (!rb || page == 0 || page % qemu_real_host_page_size() ||
+        pages != block_end(rb) / page) {
+        error_report("vhost-user-balloon: no map of the holes of %s", name);
+        return -EINVAL;
+    }
+    map = g_malloc0(map_bytes(pages));
+    if (qemu_get_buffer(f, map, map_bytes(pages)) != map_bytes(pages)) {
+        return -EIO;
+    }
+    return clear_holes(rb, map, pages, page);
+}
+
+static int get_holes(QEMUFile *f, void *pv, size_t size,
+                     const VMStateField *field)
+{
+    char name[256];
+    int ret = 0;
+
+    while (ret == 0 && qemu_get_counted_string(f, name)) {
+        ret = get_block(f, name);
+    }
+    return ret;
+}
+
+const VMStateInfo vub_balloon_holes_info = {
+    .name = "vhost-user-balloon holes",
+    .get = get_holes,
+    .put = put_holes,
+};

@@ -74,6 +74,20 @@ static const VMStateDescription vmstate_balloon_backend = {
     },
 };
 
+static const VMStateDescription vmstate_balloon_holes = {
+    .name = "vhost-user-balloon/holes",
+    .version_id = 1,
+    .minimum_version_id = 1,
+    .needed = balloon_needed,
+    .fields = (const VMStateField[]) {
+        {
+            .name = "holes",
+            .info = &vub_balloon_holes_info,
+        },
+        VMSTATE_END_OF_LIST()
+    },
+};
+
 /* What the device itself keeps is part of the virtio device's state */
 const VMStateDescription vub_balloon_vmstate_virtio = {
     .name = "vhost-user-balloon/device",
@@ -97,6 +111,7 @@ const VMStateDescription vub_balloon_vmstate = {
     },
     .subsections = (const VMStateDescription * const []) {
         &vmstate_balloon_backend,
+        &vmstate_balloon_holes,
         NULL
     },
 };

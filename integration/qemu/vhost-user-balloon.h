@@ -80,6 +80,7 @@ void vub_balloon_free_stats(VHostUserBalloon *b);
 void vub_balloon_listen(VHostUserBalloon *b);
 
 /* vhost-user-balloon-holes.c: holes of shared memory aren't read */
+extern const VMStateInfo vub_balloon_holes_info;
 int vub_balloon_precopy_notify(NotifierWithReturn *n, void *data,
                                Error **errp);
 

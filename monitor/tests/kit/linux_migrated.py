@@ -1,6 +1,7 @@
-"""Linux guests that migrate: two QEMUs of Debian 13 on one machine, each with its backend, and the
-device vhost-user-balloon-pci preloaded into them."""
+"""Linux guests that migrate, or are saved: QEMUs of Debian 13 on one machine, each with its
+backend, and the device vhost-user-balloon-pci preloaded into them."""
 
+import hashlib
 import os
 import subprocess
 import sys
@@ -11,6 +12,16 @@ from linux_vmms import Qemu, fetched_qemu
 from waiting import eventually
 
 DEBIAN, DEVICE = "trixie", "vhost-user-balloon-pci"
+
+# Bytes of a page; pages that are compared at a time.
+PAGE, AT_A_TIME = 4096, 256
+
+# The status of a device whose driver is ready.
+DRIVER_OK = 15
+
+# What both sides of a migration can: libvirt sets the same. By the way back a source knows how it
+# ended.
+CAPABILITIES = ("events", "return-path")
 
 
 def module():
@@ -36,8 +47,10 @@ class Migrating(Qemu):
         return [*words[: loader + 1], "--preload", module(), *words[loader + 1 :]], DEVICE
 
     def words(self, folder, shape, path):
-        """Returns the guest's command; a backend that has gone is looked for again."""
-        return super().words(folder, shape, f"{path},reconnect-ms=200")
+        """Returns the guest's command; a backend that has gone is looked for again, and there is a
+        slot for one more device."""
+        words = super().words(folder, shape, f"{path},reconnect-ms=200")
+        return [*words, "-device", "pcie-root-port,id=port2,chassis=2,slot=2"]
 
     def accelerator(self):
         """Returns QEMU's word for its own emulation."""
@@ -55,12 +68,12 @@ class Side:
 
     def __init__(self, vmm, program, folder, shape, options=(), incoming=False):
         os.makedirs(folder, exist_ok=True)
-        self.folder, self.vmm, self.memory = folder, vmm, shape.memory
+        self.folder, self.vmm, self.memory_mib = folder, vmm, shape.memory
         self.socket = os.path.join(folder, "socket")
         self.program, self.options = program, options
         self.backend = Backend(program, folder, [self.socket, *options])
         words = vmm.words(folder, shape, self.socket)
-        words += ["-incoming", "defer"] if incoming else []
+        words += ["-incoming", "defer", "-S"] if incoming else []
         self.guest = Guest(words, vmm.environment(), (), folder, shape.memory)
         self.qmp = None
         try:
@@ -82,11 +95,22 @@ class Side:
                 raise Fault(f"QEMU has gone: {self.guest.why()}") from None
             return None
 
-    def restart(self):
-        """Kills the backend, and starts another one in its place."""
+    def stop(self):
+        """Kills the backend."""
         self.backend.process.kill()
         self.backend.close()
+
+    def start(self):
+        """Starts another backend in its place, and waits until the driver's queues run there."""
         self.backend = Backend(self.program, self.folder, [self.socket, *self.options])
+        eventually(lambda: self.counter("status") == DRIVER_OK, self.backend.why)
+
+    def plug(self, path):
+        """Plugs one more balloon in, whose backend is at this socket."""
+        address = {"type": "unix", "data": {"path": path}}
+        backend = {"type": "socket", "data": {"addr": address, "server": False}}
+        self.qmp.do("chardev-add", id="other", backend=backend)
+        self.qmp.do("device_add", driver=DEVICE, id="other", bus="port2", chardev="other")
 
     def counter(self, name):
         """Returns one of the backend's counters."""
@@ -110,6 +134,52 @@ class Side:
             lambda: (lambda it: it["actual"] == it["target"])(self.backend.counters()),
             lambda: f"{self.backend.counters()}: {self.backend.why()}",
         )
+
+    def await_status(self, wanted):
+        """Waits until QEMU says that its guest is so."""
+        eventually(
+            lambda: self.qmp.do("query-status")["status"] == wanted,
+            lambda: f"{self.qmp.do('query-status')}: {self.guest.why()}",
+        )
+
+    def memory_at(self, page):
+        """Returns some pages of the guest's memory from this one on. A read of the file fills no
+        hole."""
+        return os.pread(self.guest.held, AT_A_TIME * PAGE, page * PAGE)
+
+    def memory(self):
+        """Returns the sum of the guest's memory."""
+        sum_of = hashlib.blake2b()
+        for page in range(0, (self.memory_mib << 20) // PAGE, AT_A_TIME):
+            sum_of.update(self.memory_at(page))
+        return sum_of.hexdigest()
+
+    def can(self, name):
+        """Has QEMU be capable of something in a migration."""
+        capability = {"capability": name, "state": True}
+        self.qmp.do("migrate-set-capabilities", capabilities=[capability])
+
+    def job(self, command, **arguments):
+        """Has QEMU do a job, and waits for its end."""
+        self.qmp.do(command, **{"job-id": "job"}, **arguments)
+        done = eventually(
+            lambda: [it for it in self.qmp.do("query-jobs") if it["status"] == "concluded"]
+        )
+        self.qmp.do("job-dismiss", id="job")
+        if "error" in done[0]:
+            raise Fault(f"{command}: {done[0]['error']}")
+
+    def add_snapshots(self):
+        """Gives QEMU a file in which its guest can be saved; no device of the guest's."""
+        path = os.path.join(self.folder, "snapshots")
+        self.job("blockdev-create", options={"driver": "file", "filename": path, "size": 0})
+        self.qmp.do("blockdev-add", driver="file", filename=path, **{"node-name": "file"})
+        self.job("blockdev-create", options={"driver": "qcow2", "file": "file", "size": 1 << 20})
+        self.qmp.do("blockdev-add", driver="qcow2", file="file", **{"node-name": "snapshots"})
+
+    def snapshot(self, command):
+        """Has QEMU save its guest, or load it: snapshot-save, snapshot-load."""
+        self.job(command, tag="one", vmstate="snapshots", devices=["snapshots"])
 
     def status(self):
         """Returns how far a migration is, and why it isn't."""
@@ -159,7 +229,8 @@ class Pair:
         """Begins to migrate, with these parameters of QEMU's."""
         uri = f"unix:{self.destination.folder}/migration"
         for it in (self.source, self.destination):
-            it.qmp.do("migrate-set-capabilities", capabilities=[EVENTS])
+            for name in CAPABILITIES:
+                it.can(name)
         if parameters:
             self.source.qmp.do("migrate-set-parameters", **parameters)
         self.destination.qmp.do("migrate-incoming", uri=uri)
@@ -176,20 +247,57 @@ class Pair:
             raise Fault(f"{said[1]}: {self.destination.guest.why()}; {self.source.guest.why()}")
         return said[1]
 
+    def differing(self):
+        """Returns the pages in which the guest's memory differs, which runs on neither side."""
+        pages = (self.shape.memory << 20) // PAGE
+        found = []
+        for first in range(0, pages, AT_A_TIME):
+            one, other = (it.memory_at(first) for it in (self.source, self.destination))
+            if one != other:
+                page_of = lambda data, at: data[at * PAGE : (at + 1) * PAGE]
+                found += [
+                    first + at for at in range(AT_A_TIME) if page_of(one, at) != page_of(other, at)
+                ]
+        return found
+
+    def arrive(self):
+        """Waits until the migration is over, demands that the guest's memory is the same on both
+        sides, and has it run on the other one."""
+        self.end()
+        self.destination.await_status("paused")
+        different = self.differing()
+        if different:
+            raise Fault(f"{len(different)} pages differ: {different[:8]}")
+        self.destination.qmp.do("cont")
+        self.destination.await_status("running")
+
+    def hurry(self, bandwidth=0):
+        """Gives the migration another bandwidth, bytes a second; 0: without a limit."""
+        self.source.qmp.do("migrate-set-parameters", **{"max-bandwidth": bandwidth})
+
     def migrate(self, **parameters):
-        """Migrates, and waits until the guest runs on the other side; what QEMU says of it."""
+        """Migrates: as `begin`, and `arrive`."""
         self.begin(**parameters)
-        said = self.end()
-        eventually(
-            lambda: self.destination.qmp.do("query-status")["status"] == "running",
-            self.destination.guest.why,
-        )
-        return said
+        self.arrive()
+
+    def sent_mib(self):
+        """Returns the MiB of memory that were sent so far."""
+        return self.source.status()[1].get("ram", {}).get("transferred", 0) / (1 << 20)
+
+    def turn(self):
+        """The guest has arrived: its side is the source of what comes next, and another one the
+        destination."""
+        self.source.close()
+        self.sides.remove(self.source)
+        self.source, self.destination = self.destination, self.side(True)
+
+    def renew(self):
+        """Has another side in the destination's place."""
+        self.destination.close()
+        self.sides.remove(self.destination)
+        self.destination = self.side(True)
 
     def close(self):
         """Ends all sides."""
         for it in self.sides:
             it.close()
-
-
-EVENTS = {"capability": "events", "state": True}

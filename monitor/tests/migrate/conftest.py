@@ -5,7 +5,9 @@ import pytest
 from linux_migrated import DEBIAN, Migrating, Pair
 from linux_vmms import Shape
 
-PROGRAMS = ("checked/vhost_user_balloon",)
+PROGRAMS = ("checked/vhost_user_balloon", "wrong-backend/vhost_user_balloon")
+
+pytest.register_assert_rewrite("migrate_demands")
 
 # MiB of the guest.
 MEMORY = 256
