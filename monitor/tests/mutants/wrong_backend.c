@@ -25,8 +25,9 @@
  *     discards-kept     hints are discarded that are to be kept
  *     ids-anew          the ids of rounds begin anew with each process
  *
- * Two are right, but for their machine:
+ * Three are right, but for their age or their machine:
  *
+ *     no-area           there is no control area after the configuration, as before 0.4.0
  *     old-kernel        it isn't known of an eventfd whether it is a semaphore, as before Linux 6.5
  *     bad-disk          no file can be kept on the disk
  */
@@ -178,6 +179,18 @@ WRAPPED(void, hints_go_on, struct backend *backend, VbBalloon before)
 {
     if (!is("ids-anew"))
         __real_hints_go_on(backend, before);
+}
+
+WRAPPED(enum outcome, get_config, struct backend *backend, struct message *message)
+{
+    enum { HEAD = 12 };
+    uint8_t body[MOST_BODY] = {0};
+    uint32_t offset = message_u32(message, 0), size = message_u32(message, 4);
+    if (!is("no-area"))
+        return __real_get_config(backend, message);
+    memcpy(body, message->body, HEAD);
+    balloon_read_config(&backend->balloon, offset, body + HEAD, size);
+    return answer_bytes(backend, message, body, HEAD + size);
 }
 
 WRAPPED(int, file_number, int file, const char *name)

@@ -1,0 +1,51 @@
+"""Tests of QEMU's own commands for a balloon, over this repository's device."""
+
+import os
+
+import linux_kit
+import pytest
+from linux_guest import Backend
+from linux_packages import Fault
+from migrate_demands import SMALL, demand_obeys
+from waiting import eventually
+
+
+def test_qemu_s_commands(pair):
+    pair = pair()
+    side, path = pair.source, "/machine/peripheral/balloon"
+    assert side.size_mib() == 256
+    side.set_size(SMALL)
+    side.qmp.await_event("BALLOON_CHANGE", actual=SMALL << 20)
+    assert "actual=128" in side.qmp.do("human-monitor-command", **{"command-line": "info balloon"})
+    interval = {"path": path, "property": "guest-stats-polling-interval"}
+    side.qmp.do("qom-set", **interval, value=1)
+    said = lambda: side.qmp.do("qom-get", path=path, property="guest-stats")
+    first = eventually(lambda: (lambda it: it if it["last-update"] else None)(said()))
+    assert len(first["stats"]) == 16
+    assert 0 < first["stats"]["stat-free-memory"] < first["stats"]["stat-total-memory"] < 256 << 20
+    eventually(lambda: said()["last-update"] > first["last-update"])
+    assert side.qmp.do("qom-get", **interval) == 1
+    with pytest.raises(Fault, match="greater than zero"):
+        side.qmp.do("qom-set", **interval, value=-1)
+
+
+def demand_refused(side, folder, words, program, **environment):
+    """Demands that QEMU refuses one more balloon with these words. Its backend may go then, and
+    nobody looks for it."""
+    os.mkdir(folder)
+    other = Backend(program, folder, [f"{folder}/socket"], environment=environment)
+    with pytest.raises(Fault, match=words):
+        side.plug(f"{folder}/socket")
+    other.close()
+    demand_obeys(side)
+
+
+def test_a_second_balloon(pair, tmp_path):
+    side = pair().source
+    demand_refused(side, tmp_path / "other", "Only one balloon device is supported", side.program)
+
+
+def test_a_backend_without_a_control_area(pair, tmp_path):
+    program = linux_kit.built("wrong-backend/vhost_user_balloon")
+    words = "the backend has no control area of version 1"
+    demand_refused(pair().source, tmp_path / "other", words, program, BACKEND_WRONG="no-area")

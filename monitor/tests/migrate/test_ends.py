@@ -1,0 +1,117 @@
+"""Tests of a migration that doesn't come to its end, and of backends that go: the guest continues
+where it was, with its balloon."""
+
+import os
+import signal
+
+from migrate_demands import (
+    HARDLY,
+    SLOWLY,
+    SMALL,
+    demand_held,
+    demand_obeys,
+    demand_right,
+    demand_whole,
+    with_balloon,
+)
+from waiting import eventually
+
+
+def kill(process):
+    """Ends a process at once."""
+    os.kill(process.pid, signal.SIGKILL)
+
+
+def test_a_migration_that_is_cancelled(pair):
+    """The next one is right."""
+    pair = pair()
+    sums, before = with_balloon(pair), pair.source.held_mib()
+    pair.begin(**{"max-bandwidth": HARDLY})
+    eventually(lambda: pair.sent_mib() > 1)
+    pair.source.qmp.do("migrate_cancel")
+    pair.end("cancelled")
+    demand_whole(pair.source, sums, before)
+    before = pair.source.held_mib()
+    pair.renew()
+    pair.migrate(**{"max-bandwidth": 0})
+    demand_held(pair, before)
+    demand_right(pair.destination, sums)
+
+
+def test_a_destination_that_ends(pair):
+    pair = pair()
+    sums, before = with_balloon(pair), pair.source.held_mib()
+    pair.begin(**{"max-bandwidth": HARDLY})
+    eventually(lambda: pair.sent_mib() > 1)
+    kill(pair.destination.guest.process)
+    pair.end("failed")
+    demand_whole(pair.source, sums, before)
+
+
+def test_a_destination_s_backend_that_ends(pair):
+    pair = pair()
+    sums, before = with_balloon(pair), pair.source.held_mib()
+    pair.begin(**{"max-bandwidth": SLOWLY})
+    kill(pair.destination.backend.process)
+    pair.end("failed")
+    demand_whole(pair.source, sums, before)
+
+
+def test_a_source_s_backend_that_is_restarted(pair):
+    """Its log begins again, and the guest arrives with its balloon."""
+    pair = pair()
+    sums, before = with_balloon(pair), pair.source.held_mib()
+    pair.begin(**{"max-bandwidth": HARDLY})
+    eventually(lambda: pair.sent_mib() > 1)
+    pair.source.stop()
+    pair.source.start()
+    pair.source.settle()
+    pair.hurry()
+    pair.arrive()
+    demand_held(pair, before)
+    assert pair.destination.size_mib() == SMALL
+    demand_right(pair.destination, sums)
+    demand_obeys(pair.destination)
+
+
+def test_a_source_s_backend_that_has_gone(pair):
+    """Without a backend there is no device to be saved: the migration fails, and the guest
+    continues with the next backend."""
+    pair = pair()
+    sums, before = with_balloon(pair), pair.source.held_mib()
+    pair.begin(**{"max-bandwidth": HARDLY})
+    eventually(lambda: pair.sent_mib() > 1)
+    pair.source.stop()
+    pair.hurry()
+    pair.end("failed")
+    pair.source.start()
+    demand_whole(pair.source, sums, before)
+
+
+def test_a_backend_that_is_killed(pair):
+    """QEMU says what it knew of the balloon meanwhile, and another backend continues with it."""
+    pair = pair()
+    sums, side = with_balloon(pair), pair.source
+    before = side.held_mib()
+    side.stop()
+    assert side.size_mib() == SMALL
+    side.start()
+    side.settle()
+    assert (side.counter("actual"), side.counter("target")) == (SMALL << 8, SMALL << 8)
+    demand_whole(side, sums, before)
+    before = side.held_mib()
+    pair.migrate()
+    demand_held(pair, before)
+    demand_right(pair.destination, sums)
+
+
+def test_a_target_while_there_is_no_backend(pair):
+    """The next backend is told it."""
+    pair = pair()
+    sums, side = with_balloon(pair), pair.source
+    side.stop()
+    side.set_size(SMALL + 16)
+    side.start()
+    side.settle()
+    assert side.size_mib() == SMALL + 16
+    demand_right(side, sums)
