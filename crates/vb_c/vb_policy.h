@@ -46,8 +46,8 @@ typedef struct {
     uint16_t strict, uncounted;
     uint16_t paused; /* unless 0: it isn't asked for more than it has given, since it has just taken
                          pages by itself */
-    /* Unless 0: its own work waits for memory. It isn't asked for more of its unused memory and
-     * page cache than it has given, and gets its part at once. */
+    /* Unless 0: its own work waits for memory (vb_policy_pressed). It isn't asked for more of its
+     * unused memory and page cache than it has given, and gets its part at once. */
     uint16_t pressed;
     uint16_t first; /* unless 0: it waits first of all */
 } VbFigures;
@@ -89,6 +89,33 @@ typedef struct {
     uint64_t missing; /* the pages that stay missing; 0 unless VB_TIER_SHORT */
 } VbDecision;
 
+/* A counter of a guest's statistics, since the guest has booted. Any number may come. */
+typedef struct {
+    uint64_t value;
+    uint64_t present; /* unless 0: the guest has reported it */
+} VbCounter;
+
+/* What a guest's statistics tell of its work's waits for memory, by the tags of Linux, and its
+ * balloon at that time. A tag that isn't reported is a counter of zeros. */
+typedef struct {
+    VbCounter swap_in, swap_out; /* 0, 1: memory that was swapped */
+    VbCounter oom_kills;         /* 10: processes that were killed for lack of memory */
+    VbCounter stalls;            /* 11: allocations that waited until memory was reclaimed */
+    VbCounter direct_scan;       /* 13: memory that these scanned */
+    VbCounter direct_reclaim;    /* 15: memory that these reclaimed */
+    uint32_t ballooned, target;  /* pages in its balloon, and its target */
+} VbSample;
+
+/* What a host remembers of a guest to tell whether it is pressed: zeros at first. */
+typedef struct {
+    VbSample last; /* the last sample, with counters that it lacked as they were before */
+    uint64_t until;
+} VbPressure;
+
+/* Milliseconds for which a guest is pressed from a sample on: one that shows that it stalled; one
+ * that shows that it killed a process. */
+enum { VB_PRESSED_MS = 5000, VB_KILLED_MS = 120000 };
+
 VB_ASSERT(sizeof(VbFigures) == 64 && offsetof(VbFigures, held) == 4);
 VB_ASSERT(offsetof(VbFigures, ballooned) == 8 && offsetof(VbFigures, ballooned_then) == 12);
 VB_ASSERT(offsetof(VbFigures, available) == 16 && offsetof(VbFigures, free) == 20);
@@ -106,6 +133,12 @@ VB_ASSERT(offsetof(VbTiers, cached) == 8 && offsetof(VbTiers, spare) == 12);
 VB_ASSERT(offsetof(VbTiers, most) == 16 && sizeof(VbPolicyRoom) == 32);
 VB_ASSERT(sizeof(VbDecision) == 16 && offsetof(VbDecision, tier) == 4);
 VB_ASSERT(offsetof(VbDecision, missing) == 8);
+VB_ASSERT(sizeof(VbCounter) == 16 && offsetof(VbCounter, present) == 8);
+VB_ASSERT(sizeof(VbSample) == 104 && offsetof(VbSample, swap_out) == 16);
+VB_ASSERT(offsetof(VbSample, oom_kills) == 32 && offsetof(VbSample, stalls) == 48);
+VB_ASSERT(offsetof(VbSample, direct_scan) == 64 && offsetof(VbSample, direct_reclaim) == 80);
+VB_ASSERT(offsetof(VbSample, ballooned) == 96 && offsetof(VbSample, target) == 100);
+VB_ASSERT(sizeof(VbPressure) == 112 && offsetof(VbPressure, until) == 104);
 
 /* What a guest counts for, and what it can give. A guest whose statistics are recent gives what it
  * doesn't use, what was in its balloon then included, but for what stays: of its available memory
@@ -127,6 +160,17 @@ VbTiers vb_policy_tiers(const VbPolicyBudget *budget, const VbFigures *figures);
 VbDecision vb_policy_decide(const VbPolicyBudget *budget, const VbFigures *figures, size_t count,
                             VbPolicyRoom *rooms, size_t rooms_count, uint32_t *targets,
                             size_t targets_count);
+
+/* What is remembered of a guest with one more sample, taken at `now`, in milliseconds. A counter
+ * has risen that is higher than it was reported before; one that falls hasn't. Where the OOM kills
+ * have risen it is pressed for VB_KILLED_MS from `now` on. Where another counter has, it is pressed
+ * for VB_PRESSED_MS, unless its balloon inflated meanwhile, which reclaims and swaps by itself: the
+ * balloon has grown, or had less than its target at this sample or the last one. It is pressed no
+ * shorter than by samples before, and no longer than VB_KILLED_MS from `now` on. */
+VbPressure vb_policy_press(const VbPressure *pressure, const VbSample *sample, uint64_t now);
+
+/* 1 where it is pressed at `now`, and 0 where it isn't. */
+uint32_t vb_policy_pressed(const VbPressure *pressure, uint64_t now);
 
 #undef VB_ASSERT
 #ifdef __cplusplus

@@ -49,4 +49,6 @@ REFERENCE(seat_due_target);
 REFERENCE(seat_due_grant);
 REFERENCE(policy_tiers);
 REFERENCE(policy_decide);
+REFERENCE(policy_press);
+REFERENCE(policy_pressed);
 #endif

@@ -287,3 +287,46 @@ VbDecision vb_policy_decide(const VbPolicyBudget *budget, const VbFigures *figur
     }
     return decision;
 }
+
+/* ---- pressure */
+
+enum { COUNTERS = 6, KILLS = 2 }; /* in the order of a sample */
+
+static void counters_of(const VbSample *sample, VbCounter counters[COUNTERS])
+{
+    const VbCounter its[COUNTERS] = {sample->swap_in, sample->swap_out,    sample->oom_kills,
+                                     sample->stalls,  sample->direct_scan, sample->direct_reclaim};
+    for (unsigned i = 0; i < COUNTERS; i++)
+        counters[i] = its[i];
+}
+
+/* Whether the balloon inflated between two samples. */
+static bool inflated(const VbSample *last, const VbSample *sample)
+{
+    return sample->ballooned > last->ballooned || last->target > last->ballooned ||
+           sample->target > sample->ballooned;
+}
+
+VbPressure vb_policy_press(const VbPressure *pressure, const VbSample *sample, uint64_t now)
+{
+    VbCounter last[COUNTERS], its[COUNTERS];
+    Sum until = now, latest = less((Sum)now + VB_KILLED_MS, UINT64_MAX);
+    counters_of(&pressure->last, last);
+    counters_of(sample, its);
+    for (unsigned i = 0; i < COUNTERS; i++) {
+        bool rises = last[i].present && its[i].present && its[i].value > last[i].value;
+        if (rises && i == KILLS)
+            until = more(until, (Sum)now + VB_KILLED_MS);
+        else if (rises && !inflated(&pressure->last, sample))
+            until = more(until, (Sum)now + VB_PRESSED_MS);
+        its[i] = its[i].present ? its[i] : last[i];
+    }
+    return (VbPressure){
+        .last = {its[0], its[1], its[2], its[3], its[4], its[5], sample->ballooned, sample->target},
+        .until = (uint64_t)less(latest, more(until, pressure->until))};
+}
+
+uint32_t vb_policy_pressed(const VbPressure *pressure, uint64_t now)
+{
+    return now < pressure->until;
+}

@@ -1,5 +1,6 @@
-/* A host's policy by the comments of vb_policy.h: decisions by rows that were worked out by hand,
- * and random ones beside the plain implementation, which has to decide the same.
+/* A host's policy by the comments of vb_policy.h: decisions and pressed guests by rows that were
+ * worked out by hand, and random ones beside the plain implementation, which has to decide the
+ * same.
  *
  *     policy [DECISIONS]
  */
@@ -13,6 +14,9 @@ int main(int count, char **words)
     check_rows();
     check_tiers();
     check_refused();
-    check_chance(count > 1 ? strtoull(words[1], NULL, 10) : DECISIONS);
+    check_pressure();
+    unsigned long long decisions = count > 1 ? strtoull(words[1], NULL, 10) : DECISIONS;
+    check_chance(decisions);
+    check_pressed_chance(decisions);
     return 0;
 }

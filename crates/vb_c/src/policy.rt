@@ -1,10 +1,12 @@
-//! What the guests of a host are asked for, by what the host knows of each.
+//! What the guests of a host are asked for, by what the host knows of each, and which are pressed.
 
 ghost use Rattle.std.specs.Prelude.{◌≡◌};
+ghost use Rattle.vb_virtio.specs.Tests.{one_if};
 ghost use Rattle.vb_c.specs.Policy.{decision_of, refused, tier_number, tiers_of, DecidesFor};
+ghost use Rattle.vb_policy.specs.Pressing.{after, is_pressed};
 
 use vb_monitor::{BAD_ARGUMENT, OK, SHORT};
-use vb_policy::{Budget, Decision, Figures, Guest, Tier, ask};
+use vb_policy::{Budget, Decision, Figures, Guest, Pressure, Sample, Tier, ask};
 
 /// What was decided.
 #[repr(C)]
@@ -100,4 +102,20 @@ pub extern "C" fn vb_policy_decide(
         return refused();
     }
     decision_of(ask(budget, figures, rooms, targets))
+}
+
+/// What is remembered of a guest with one more sample.
+#[unsafe(no_mangle)]
+pub extern "C" fn vb_policy_press(pressure: &Pressure, sample: &Sample, now: u64) -> Pressure
+    ensures { result ≡ after pressure.now sample.now now }
+{
+    pressure.after(sample, now)
+}
+
+/// Whether a guest is pressed now.
+#[unsafe(no_mangle)]
+pub extern "C" fn vb_policy_pressed(pressure: &Pressure, now: u64) -> u32
+    ensures { result ≡ one_if (is_pressed pressure.now now) }
+{
+    u32::from(pressure.is_pressed(now))
 }

@@ -11,6 +11,7 @@ mod hints;
 pub mod lender;
 mod obey;
 mod pause;
+pub mod policy;
 mod raw;
 mod served;
 mod settings;

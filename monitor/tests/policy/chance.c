@@ -17,7 +17,7 @@ struct host {
 static uint64_t seed = 20261130;
 static unsigned long long tiers[VB_TIER_SHORT + 1];
 
-static uint32_t chance(uint32_t below)
+uint32_t policy_chance(uint32_t below)
 {
     seed ^= seed << 13;
     seed ^= seed >> 7;
@@ -27,17 +27,17 @@ static uint32_t chance(uint32_t below)
 
 static uint32_t odd_number(uint32_t below)
 {
-    return chance(3) ? chance(below) : UINT32_MAX - chance(3);
+    return policy_chance(3) ? policy_chance(below) : UINT32_MAX - policy_chance(3);
 }
 
 static uint16_t rarely(void)
 {
-    return chance(8) == 0 ? (uint16_t)(1 + chance(UINT16_MAX)) : 0;
+    return policy_chance(8) == 0 ? (uint16_t)(1 + policy_chance(UINT16_MAX)) : 0;
 }
 
 static uint32_t number(bool odd, uint32_t below)
 {
-    return odd ? odd_number(below) : chance(below);
+    return odd ? odd_number(below) : policy_chance(below);
 }
 
 static VbFigures any_figures(bool odd)
@@ -45,19 +45,19 @@ static VbFigures any_figures(bool odd)
     VbFigures it = {.pages = number(odd, 2000), .held = number(odd, 2000)};
     uint32_t below = (it.pages < 2000 ? it.pages : 2000) + 1;
     it.ballooned = number(odd, below);
-    it.ballooned_then = chance(3) ? it.ballooned : number(odd, below);
+    it.ballooned_then = policy_chance(3) ? it.ballooned : number(odd, below);
     it.available = number(odd, below - (it.ballooned_then < below ? it.ballooned_then : 0));
-    it.free = number(odd, chance(2) ? below : below / 8 + 1);
+    it.free = number(odd, policy_chance(2) ? below : below / 8 + 1);
     it.lent = number(odd, below);
-    it.asked = chance(4) ? 0 : number(odd, 50);
-    it.least = chance(4) ? 0 : number(odd, below);
-    it.most = chance(4) ? UINT32_MAX : number(odd, below);
+    it.asked = policy_chance(4) ? 0 : number(odd, 50);
+    it.least = policy_chance(4) ? 0 : number(odd, below);
+    it.most = policy_chance(4) ? UINT32_MAX : number(odd, below);
     it.weight = number(odd, 4);
     it.priority = number(odd, 3);
     it.target = number(odd, below);
-    it.contact = (uint16_t)(chance(5) ? VB_CONTACT_HEARD : chance(6));
-    it.strict = chance(3) ? (uint16_t)(1 + chance(3)) : 0;
-    it.uncounted = chance(4) ? 0 : rarely();
+    it.contact = (uint16_t)(policy_chance(5) ? VB_CONTACT_HEARD : policy_chance(6));
+    it.strict = policy_chance(3) ? (uint16_t)(1 + policy_chance(3)) : 0;
+    it.uncounted = policy_chance(4) ? 0 : rarely();
     it.paused = rarely();
     it.pressed = rarely();
     it.first = rarely();
@@ -66,12 +66,12 @@ static VbFigures any_figures(bool odd)
 
 static struct host any_host(unsigned long long number_of_it)
 {
-    struct host host = {.count = chance(MOST + 1), .odd = number_of_it % 8 == 0};
+    struct host host = {.count = policy_chance(MOST + 1), .odd = number_of_it % 8 == 0};
     host.budget = (VbPolicyBudget){.frames = number(host.odd, (uint32_t)(host.count * 1500 + 1)),
                                    .floor = number(host.odd, 100),
                                    .slack = number(host.odd, 12),
                                    .reserve = number(host.odd, 20),
-                                   .band = chance(3) ? 35 : number(host.odd, 120)};
+                                   .band = policy_chance(3) ? 35 : number(host.odd, 120)};
     for (size_t i = 0; i < host.count; i++)
         host.figures[i] = any_figures(host.odd);
     return host;

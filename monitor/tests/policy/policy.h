@@ -9,6 +9,13 @@ void check_rows(void);
 void check_tiers(void);
 void check_refused(void);
 
-/* chance.c: random figures, beside the plain implementation. */
+/* pressure.c: when a guest is pressed. */
+void check_pressure(void);
+
+/* Random figures, and random samples, beside the plain implementation. */
 void check_chance(unsigned long long decisions);
+void check_pressed_chance(unsigned long long samples);
+
+/* A random number below that. */
+uint32_t policy_chance(uint32_t below);
 #endif
