@@ -73,7 +73,7 @@ HOST = {
         is_count,
         "guests budget overdraft floor held lent missing overdrawn waiting silent uncooperative",
     ),
-    **fields(Maybe(is_count), "patience reserve"),
+    **fields(Maybe(is_count), "patience reserve pressed"),
     "short": Maybe(is_flag),
     "tier": Maybe(is_text),
     **fields(Maybe(is_text_or_null), "on_short gives_first"),
@@ -93,6 +93,8 @@ GUEST = {
     **fields(is_text, "name socket version state waits_for"),
     **fields(is_seconds, "waits silent process_silent"),
     **fields(is_flag, "answers cooperates"),
+    "pressed": Maybe(is_flag),
+    "statistics": Maybe(are_counts),
     **fields(
         is_count,
         "process memory held loan asked excess limit target ballooned free available spare",
@@ -113,7 +115,7 @@ DECISION = {
     **fields(is_count, "number budget missing"),
     "tier": Maybe(is_text),
     **fields(is_text, "reason guest"),
-    "shares": [{"guest": is_text, **fields(is_count, "old target")}],
+    "shares": [{"guest": is_text, **fields(is_count, "old target"), "pressed": Maybe(is_flag)}],
 }
 
 # The answer to each request, an event, and what refuses a request.

@@ -24,6 +24,7 @@ HOST_COUNTS = (
     ("guests_waiting", "waiting", "Guests that wait for memory"),
     ("guests_silent", "silent", "Guests whose statistics don't come"),
     ("guests_uncooperative", "uncooperative", "Guests that took memory back unasked"),
+    ("guests_pressed", "pressed", "Guests whose own work waits for memory"),
 )
 HOST_TOTALS = (
     ("looks", "looks", "Looks at what the guests hold"),
@@ -80,6 +81,31 @@ GUEST_FLAGS = (
     ("ready", lambda it: it["state"] == "ready", "Whether the guest's driver is ready"),
     ("is_waiting", lambda it: it["waits_for"] != "nothing", "Whether the guest waits for memory"),
     ("cooperates", lambda it: it["cooperates"], "Whether the guest takes no memory back unasked"),
+    (
+        "pressed",
+        lambda it: it.get("pressed", False),
+        "Whether the guest's own work waits for memory",
+    ),
+)
+# By the guest's own statistics, where it reports them: what there is now, and what there was since
+# it booted. Its free and its available memory are above.
+GUEST_STATISTICS = (
+    ("total_memory_bytes", "total_memory", "Memory that the guest's kernel has"),
+    ("disk_caches_bytes", "disk_caches", "Page cache of the guest"),
+)
+GUEST_STATISTICS_TOTALS = (
+    ("swap_in_bytes", "swap_in", "Memory that the guest read back from swap"),
+    ("swap_out_bytes", "swap_out", "Memory that the guest swapped out"),
+    ("major_faults", "major_faults", "Page faults of the guest that read a disk"),
+    ("minor_faults", "minor_faults", "Other page faults of the guest"),
+    ("hugetlb_allocations", "hugetlb_allocations", "Huge pages that the guest allocated"),
+    ("hugetlb_failures", "hugetlb_failures", "Huge pages that the guest found no memory for"),
+    ("oom_kills", "oom_kills", "Processes that the guest killed for lack of memory"),
+    ("alloc_stalls", "alloc_stalls", "Allocations of the guest that waited for reclaim"),
+    ("async_scans_bytes", "async_scans", "Memory that the guest scanned in the background"),
+    ("direct_scans_bytes", "direct_scans", "Memory that the guest's allocations scanned"),
+    ("async_reclaims_bytes", "async_reclaims", "Memory that the guest reclaimed in the background"),
+    ("direct_reclaims_bytes", "direct_reclaims", "Memory that the guest's allocations reclaimed"),
 )
 GUEST_TOTALS = (
     ("inflated_bytes", "inflated", "Memory that went into the guest's balloon"),
@@ -139,7 +165,8 @@ def host_metrics(host):
         [([], host["counters"]["peak"])],
     )
     for name, field, what in HOST_COUNTS:
-        yield gauge(name, what, [([], host[field])])
+        if field in host:
+            yield gauge(name, what, [([], host[field])])
     if "tier" in host:
         tiers = [([it], float(it == host["tier"])) for it in TIERS]
         yield gauge("tier", "Up to which tier guests give memory", tiers, "tier")
@@ -151,6 +178,16 @@ def host_metrics(host):
     )
     for name, field, what in CONTROL_TOTALS:
         yield counter(name, what, of_sockets(host, field), "socket")
+
+
+def statistics_metrics(guests):
+    """Yields what the guests report of themselves."""
+    for make, rows in ((gauge, GUEST_STATISTICS), (counter, GUEST_STATISTICS_TOTALS)):
+        for name, field, what in rows:
+            told = [it for it in guests if field in it.get("statistics", {})]
+            values = [([it["name"]], it["statistics"][field]) for it in told]
+            if values:
+                yield make(f"guest_{name}", what, values)
 
 
 def guest_metrics(guests):
@@ -168,6 +205,7 @@ def guest_metrics(guests):
         yield gauge(f"guest_{name}_seconds", what, [([it["name"]], it[field]) for it in here])
     for name, read, what in GUEST_FLAGS:
         yield gauge(f"guest_{name}", what, [([it["name"]], float(read(it))) for it in here])
+    yield from statistics_metrics(here)
     for name, field, what in GUEST_TOTALS:
         yield counter(
             f"guest_{name}", what, [([it["name"]], it["counters"][field]) for it in guests]

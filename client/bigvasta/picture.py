@@ -82,7 +82,7 @@ def state_line(host, shown, fault):
     """Returns the line about who waits, or why all that is shown is old."""
     if fault:
         return Line(f"no host answers, and this was its last word: {fault}", "warning")
-    names = [(host[it], it) for it in ("waiting", "silent", "uncooperative")]
+    names = [(host.get(it), it) for it in ("waiting", "silent", "uncooperative", "pressed")]
     parts = [
         f"{host['guests']} guests",
         *(f"{count} {name}" for count, name in names if count),

@@ -1,4 +1,4 @@
-"""Who waits for memory, and who doesn't behave."""
+"""Who waits for memory, whose work does, and who doesn't behave."""
 
 from bigvasta.sizes import seconds
 
@@ -9,4 +9,6 @@ def wait_of(guest):
         return f"{guest['waits_for']}, {seconds(guest['waits'])}"
     if guest["state"] == "ready" and not guest["answers"]:
         return "silent"
-    return "" if guest["cooperates"] else "uncooperative"
+    if not guest["cooperates"]:
+        return "uncooperative"
+    return "pressed" if guest.get("pressed") else ""

@@ -34,6 +34,8 @@ def describe(guest):
         yield f"  {'start':<10} {mebibytes(terms['start']):>8} MiB"
     if wait_of(guest):
         yield f"  waits for  {wait_of(guest)}"
+    for name, value in guest.get("statistics", {}).items():
+        yield f"  {name:<19} {value:>20}"
 
 
 def run(asked):

@@ -10,9 +10,9 @@ from bigvasta.words import say
 
 def share(its):
     """Returns what a decision asks of a guest."""
-    if its["old"] == its["target"]:
-        return f"{its['guest']} {mebibytes(its['target'])}"
-    return f"{its['guest']} {mebibytes(its['old'])}>{mebibytes(its['target'])}"
+    old = "" if its["old"] == its["target"] else f"{mebibytes(its['old'])}>"
+    pressed = " (pressed)" if its.get("pressed") else ""
+    return f"{its['guest']} {old}{mebibytes(its['target'])}{pressed}"
 
 
 def decision_line(decision):

@@ -34,7 +34,9 @@ def summary(host):
     """Returns the line about the host."""
     parts = [f"{it} {mebibytes(host[it])}" for it in ("budget", "held", "lent", "missing")]
     counts = [f"{host['guests']} guests"] + [
-        f"{host[it]} {it}" for it in ("waiting", "silent", "uncooperative") if host[it]
+        f"{host[it]} {it}"
+        for it in ("waiting", "silent", "uncooperative", "pressed")
+        if host.get(it)
     ]
     tier = f"tier {host['tier']}; " if "tier" in host else ""
     return f"{', '.join(parts)} MiB; {tier}{', '.join(counts)}; version {host['version']}"

@@ -4,6 +4,7 @@
 
 #include "../host/journal.h"
 #include "../host/measures.h"
+#include "../guest/tags.h"
 #include "../host/view.h"
 #include "vb.h"
 
@@ -60,17 +61,31 @@ static json_t *answer_guest_memory(const struct guest_view *guest)
                      part_bytes(guest->available), "spare", part_bytes(guest->spare));
 }
 
+/* Its last statistics that have names. A larger number than JSON has is its largest. */
+static json_t *answer_statistics(const struct guest_view *guest)
+{
+    json_t *answer = json_object();
+    for (unsigned i = 0; i < guest->figure_count; i++) {
+        const VbStatistic *its = &guest->figures[i];
+        uint64_t shown = its->value < INT64_MAX ? its->value : INT64_MAX;
+        if (tag_is_known(its->tag))
+            answer = part_set(answer, tag_name(its->tag), count(shown));
+    }
+    return answer;
+}
+
 json_t *answer_guest(const struct host *host, unsigned number)
 {
     struct guest_view guest;
     host_see_guest(host, number, &guest);
     json_t *answer = json_pack(
-        "{s:s, s:s, s:i, s:s, s:s, s:s, s:f, s:b, s:b, s:b, s:f, s:f, s:o, s:o}", "name",
+        "{s:s, s:s, s:i, s:s, s:s, s:s, s:f, s:b, s:b, s:b, s:b, s:f, s:f, s:o, s:o, s:o}", "name",
         guest.name, "socket", guest.path, "process", (int)guest.process, "version", guest.version,
         "state", guest_state_word(guest.state), "waits_for", guest_wait_word(guest.waits_for),
         "waits", guest.waits, "answers", guest.answers, "reports", guest.reports, "cooperates",
-        guest.cooperates, "silent", guest.silent, "process_silent", guest.process_silent, "terms",
-        answer_terms(&guest.terms), "counters", answer_guest_counters(&guest));
+        guest.cooperates, "pressed", guest.pressed, "silent", guest.silent, "process_silent",
+        guest.process_silent, "terms", answer_terms(&guest.terms), "statistics",
+        answer_statistics(&guest), "counters", answer_guest_counters(&guest));
     return part_update(answer, answer_guest_memory(&guest));
 }
 
@@ -132,22 +147,22 @@ json_t *answer_host(const struct control *control, const struct host *host)
 {
     struct host_view view;
     host_see(host, &view);
-    return json_pack("{s:s, s:s, s:i, s:o, s:o, s:o, s:o, s:s, s:o, s:o, s:o, s:o, s:o, s:i, s:i, "
-                     "s:i, s:b, s:f, "
-                     "s:o, s:s?, s:b, s:s?, s:o, s:o, s:o, s:o}",
-                     "version", VB_VERSION, "folder", view.folder, "guests", (int)view.guests,
-                     "budget", part_bytes(view.budget), "overdraft", part_bytes(view.overdraft),
-                     "floor", part_bytes(view.floor), "reserve", count(view.reserve), "tier",
-                     view.tier, "step", count(view.step), "held", kibibytes(view.held_kib), "lent",
-                     part_bytes(view.lent), "missing", part_bytes(view.short_by), "overdrawn",
-                     part_bytes(view.overdrawn), "waiting", (int)view.waiting, "silent",
-                     (int)view.silent, "uncooperative", (int)view.uncooperative, "strict",
-                     view.strict, "period", (double)view.period / 1000, "patience",
-                     count(view.patience), "on_short", view.on_short, "short", view.is_short,
-                     "gives_first", view.gives_first, "counters", answer_host_counters(&view),
-                     "control", answer_control_counters(&control->sockets[MAY_CHANGE].counters),
-                     "status", answer_control_counters(&control->sockets[MAY_LOOK].counters),
-                     "measures", answer_measures());
+    return json_pack(
+        "{s:s, s:s, s:i, s:o, s:o, s:o, s:o, s:s, s:o, s:o, s:o, s:o, s:o, s:i, s:i, "
+        "s:i, s:i, s:b, s:f, "
+        "s:o, s:s?, s:b, s:s?, s:o, s:o, s:o, s:o}",
+        "version", VB_VERSION, "folder", view.folder, "guests", (int)view.guests, "budget",
+        part_bytes(view.budget), "overdraft", part_bytes(view.overdraft), "floor",
+        part_bytes(view.floor), "reserve", count(view.reserve), "tier", view.tier, "step",
+        count(view.step), "held", kibibytes(view.held_kib), "lent", part_bytes(view.lent),
+        "missing", part_bytes(view.short_by), "overdrawn", part_bytes(view.overdrawn), "waiting",
+        (int)view.waiting, "silent", (int)view.silent, "uncooperative", (int)view.uncooperative,
+        "pressed", (int)view.pressed, "strict", view.strict, "period", (double)view.period / 1000,
+        "patience", count(view.patience), "on_short", view.on_short, "short", view.is_short,
+        "gives_first", view.gives_first, "counters", answer_host_counters(&view), "control",
+        answer_control_counters(&control->sockets[MAY_CHANGE].counters), "status",
+        answer_control_counters(&control->sockets[MAY_LOOK].counters), "measures",
+        answer_measures());
 }
 
 json_t *answer_log(const struct host *host, uint64_t since, uint64_t limit)

@@ -99,6 +99,7 @@ struct seat {
     uint64_t heard, taken; /* its counters when they were last looked at */
     int64_t paused_until;  /* it has taken pages itself: until then it is asked for no more than it
                               has given */
+    VbPressure pressure;   /* what its counters said of waits for memory */
     uint32_t target;       /* what was decided; what is wanted so far is in its VbSeat */
     uint32_t by_hand;      /* what an operator wants in its balloon until all is decided again */
     int64_t waits_since;
@@ -387,6 +388,12 @@ bool seat_is_due(struct seat *seat);
 
 /* Follows what its last report says; whether it has rested until now. */
 bool seat_moves(struct seat *seat);
+
+/* ---- pressure.c */
+
+/* Takes the counters of its last statistics; and whether its own work waits for memory. */
+void pressure_hears(struct seat *seat);
+bool seat_is_pressed(const struct seat *seat);
 
 /* ---- policy.c */
 

@@ -13,8 +13,14 @@ const char *reason_word(enum reason reason)
     static const char *const words[] = {[BY_GUESTS] = "guests",
                                         [BY_BUDGET] = "budget",
                                         [BY_SPARE] = "spare",
-                                        [BY_MISSING] = "missing"};
+                                        [BY_MISSING] = "missing",
+                                        [BY_PRESSURE] = "pressure"};
     return words[reason];
+}
+
+bool reason_has_guest(enum reason reason)
+{
+    return reason == BY_SPARE || reason == BY_PRESSURE;
 }
 
 const char *tier_word(uint32_t tier)
@@ -44,7 +50,8 @@ static const char *bound_word(enum bound bound)
     static const char *const words[] = {[BY_STATISTICS] = "statistics",
                                         [BY_SILENCE] = "silence",
                                         [BY_PAUSE] = "pause",
-                                        [BY_LOAN] = "loan"};
+                                        [BY_LOAN] = "loan",
+                                        [BY_STALLS] = "pressure"};
     return words[bound];
 }
 
@@ -53,7 +60,7 @@ static void print_decision(FILE *to, const struct decision *decision)
     fprintf(to, "ms %" PRId64 " frames %" PRIu32 " floor %" PRIu32 " short %" PRIu64, decision->at,
             decision->frames, decision->floor, decision->missing);
     fprintf(to, " tier %s why %s %s", tier_word(decision->tier), reason_word(decision->reason),
-            decision->reason == BY_SPARE ? decision->who : "-");
+            reason_has_guest(decision->reason) ? decision->who : "-");
     for (unsigned i = 0; i < decision->count; i++) {
         const struct share *share = &decision->shares[i];
         fprintf(to,

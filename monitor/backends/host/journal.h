@@ -3,6 +3,8 @@
 #define JOURNAL_H
 #include "vb_policy.h"
 
+#include <stdbool.h>
+
 struct host;
 
 enum {
@@ -11,15 +13,16 @@ enum {
     MOST_DECISIONS = 512, /* that are kept */
 };
 
-enum reason { BY_GUESTS, BY_BUDGET, BY_SPARE, BY_MISSING };
+enum reason { BY_GUESTS, BY_BUDGET, BY_SPARE, BY_MISSING, BY_PRESSURE };
 
 /* What a guest can spare goes by this. */
-enum bound { BY_STATISTICS, BY_SILENCE, BY_PAUSE, BY_LOAN };
+enum bound { BY_STATISTICS, BY_SILENCE, BY_PAUSE, BY_LOAN, BY_STALLS };
 
 struct share {
     char name[MOST_NAME];
     VbTiers tiers;
     enum bound bound;
+    bool pressed; /* its own work waits for memory */
     uint32_t ballooned, old, target;
 };
 
@@ -28,12 +31,17 @@ struct decision {
     uint32_t frames, floor, tier; /* tier: up to which guests give, VB_TIER_NONE .. */
     uint64_t missing;             /* 0, or by how much the guests fall short */
     enum reason reason;
-    char who[MOST_NAME]; /* BY_SPARE: who is asked for more than it can spare */
+    char who
+        [MOST_NAME]; /* BY_SPARE: the guest that is asked for more than it can spare; BY_PRESSURE:
+                            the pressed one that gets pages back */
     unsigned count;
     struct share shares[2 * MOST_GUESTS];
 };
 
 const char *reason_word(enum reason reason);
+
+/* Whether a decision for this reason is about one guest, who. */
+bool reason_has_guest(enum reason reason);
 
 /* The word for a tier. */
 const char *tier_word(uint32_t tier);

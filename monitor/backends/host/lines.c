@@ -36,9 +36,9 @@ static void print_seat(const struct seat *seat)
             guest_wait_word(seat_waits_for(seat)));
     fprintf(to,
             " overhead %" PRIu32 " limit %" PRIu64 " limit_failures %" PRIu64 " cooperates %d"
-            " weight %" PRIu32 "\n",
+            " weight %" PRIu32 " pressed %d\n",
             seat->terms.overhead, seat->writer.written, seat->writer.failures, seat->cooperates,
-            seat->terms.weight);
+            seat->terms.weight, seat_is_pressed(seat));
 }
 
 static void print_guests(const struct host *host)

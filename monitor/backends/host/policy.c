@@ -63,7 +63,8 @@ static VbFigures figures_of(const struct seat *seat)
                        .contact = contact_of(seat),
                        .strict = seat->holds,
                        .uncounted = its->uncounted != 0,
-                       .paused = is_paused(seat)};
+                       .paused = is_paused(seat),
+                       .pressed = seat_is_pressed(seat)};
 }
 
 /* By what is known of it, what a guest can spare is found. */
@@ -71,7 +72,9 @@ static enum bound bound_of(const struct seat *seat)
 {
     if (place_of(seat)->uncounted || (seat->holds && seat_asked(seat) > 0))
         return BY_LOAN;
-    return !is_heard(seat) ? BY_SILENCE : is_paused(seat) ? BY_PAUSE : BY_STATISTICS;
+    if (!is_heard(seat))
+        return BY_SILENCE;
+    return is_paused(seat) ? BY_PAUSE : seat_is_pressed(seat) ? BY_STALLS : BY_STATISTICS;
 }
 
 static VbPolicyBudget budget_of(const struct host *host)
@@ -109,6 +112,7 @@ void policy_hears(struct seat *seat)
     }
     seat->known = seat->tells_free || seat->tells_available;
     seat->ballooned_then = report->ballooned_then;
+    pressure_hears(seat);
     seat->host->news = true;
 }
 
@@ -173,16 +177,28 @@ uint64_t policy_lacks(struct host *host, const struct seat *newcomer, uint32_t p
     return share_out(&guests, host).missing;
 }
 
+/* The first guest that is asked for more than it can spare; or, where `pressed` is set, that is
+ * pressed and gets pages back. NULL: there is none. */
+static const struct share *first_share(const struct decision *decision, bool pressed)
+{
+    for (unsigned i = 0; i < decision->count; i++) {
+        const struct share *its = &decision->shares[i];
+        if (pressed ? its->pressed && its->target < its->old : its->old > its->tiers.most)
+            return its;
+    }
+    return NULL;
+}
+
 /* Why targets change, where nothing but what guests can spare has changed. */
 static void explain(const struct host *host, struct decision *decision)
 {
+    const struct share *pressed = first_share(decision, true),
+                       *about = pressed ? pressed : first_share(decision, false);
     decision->reason = host->anew ? host->reason : BY_MISSING;
-    for (unsigned i = 0; i < decision->count && !host->anew; i++)
-        if (decision->shares[i].old > decision->shares[i].tiers.most) {
-            decision->reason = BY_SPARE;
-            strcpy(decision->who, decision->shares[i].name);
-            return;
-        }
+    if (host->anew || !about)
+        return;
+    decision->reason = pressed ? BY_PRESSURE : BY_SPARE;
+    strcpy(decision->who, about->name);
 }
 
 static void note(struct host *host, const struct guests *guests, VbDecision is)
@@ -200,6 +216,7 @@ static void note(struct host *host, const struct guests *guests, VbDecision is)
         strcpy(share->name, seat->name);
         share->tiers = tiers_of(host, &guests->figures[i]);
         share->bound = bound_of(seat);
+        share->pressed = guests->figures[i].pressed != 0;
         share->ballooned = guests->figures[i].ballooned;
         share->old = seat->target;
         share->target = guests->targets[i];

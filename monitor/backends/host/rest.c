@@ -26,7 +26,8 @@ static bool is_at_peace(const struct seat *seat)
     bool obeyed = seat_told(seat) == seat->target && report->target == seat->target &&
                   report->ballooned == seat->target;
     bool answered = seat->known && seat->silent == 0 && seat->asked_at == 0;
-    return seat_is_ready(seat) && answered && obeyed && seat_waits_for(seat) == WAITS_FOR_NOTHING;
+    bool waits = seat_waits_for(seat) != WAITS_FOR_NOTHING || seat_is_pressed(seat);
+    return seat_is_ready(seat) && answered && obeyed && !waits;
 }
 
 bool seat_rests(const struct seat *seat)

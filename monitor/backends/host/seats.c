@@ -46,6 +46,7 @@ void seat_clear(struct seat *seat)
     seat->heard = seat->taken = seat->number = seat->answered = seat->lost = 0;
     seat->heard_at = seat->paused_until = seat->asked_at = seat->waits_since = 0;
     seat->serving = 0;
+    seat->pressure = (VbPressure){0};
     seat->still = (struct stillness){0};
     seat->moved_at = seat->passed_over = 0;
     seat->ask = (struct ask){WAITS_FOR_NOTHING, 0};

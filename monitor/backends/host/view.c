@@ -97,6 +97,7 @@ void host_see(const struct host *host, struct host_view *view)
         view->waiting += seat_waits_for(seat) != WAITS_FOR_NOTHING;
         view->silent += seat_is_ready(seat) && !seat_answers(seat);
         view->uncooperative += !cooperates(seat);
+        view->pressed += seat_is_pressed(seat);
     }
 }
 
@@ -147,6 +148,9 @@ void host_see_guest(const struct host *host, unsigned number, struct guest_view 
                                 .answers = seat_answers(seat),
                                 .reports = seat_reports(seat),
                                 .cooperates = cooperates(seat),
+                                .pressed = seat_is_pressed(seat),
+                                .figures = report->figures,
+                                .figure_count = report->figure_count,
                                 .waits_for = seat_waits_for(seat),
                                 .ended = seat->ended,
                                 .clients = seat->clients,

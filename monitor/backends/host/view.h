@@ -5,6 +5,7 @@
 #define VIEW_H
 #include "limit.h"
 #include "owner.h"
+#include "vb_types.h"
 
 #include <stdbool.h>
 #include <stddef.h>
@@ -84,13 +85,16 @@ struct guest_view {
     bool answers;             /* its statistics have come within three periods */
     bool reports;    /* its process has answered within three periods; true where there is none */
     bool cooperates; /* it hasn't taken pages unasked since it came */
+    bool pressed;    /* its own work waits for memory, or did just now */
     enum guest_wait waits_for;
     double waits;            /* seconds, for that */
     struct ended_wait ended; /* its last wait that ended */
     double silent;           /* seconds since its last statistics */
     double process_silent;   /* seconds since its process answered last */
     uint64_t inflated, deflated, reported, taken, statistics, told, discarded, skipped, chains,
-        kicks;        /* see counters.h */
+        kicks;                  /* see counters.h */
+    const VbStatistic *figures; /* its last statistics */
+    unsigned figure_count;
     uint64_t clients; /* how many have come to its socket */
     uint64_t lost;    /* messages that its process or the lender didn't read in time */
 };
@@ -110,9 +114,9 @@ struct host_view {
     bool is_short;           /* they couldn't for that long */
     const char *gives_first; /* who had the lowest priority then; NULL: nobody */
     uint64_t overdrawn;      /* frames that are lent above the budget */
-    unsigned waiting, silent, uncooperative; /* guests */
-    bool strict;                             /* of a guest that comes without terms of its own */
-    int64_t period;                          /* milliseconds */
+    unsigned waiting, silent, uncooperative, pressed; /* guests */
+    bool strict;    /* of a guest that comes without terms of its own */
+    int64_t period; /* milliseconds */
     uint64_t looks, above, peak_kib, decisions, changed, shorts, admitted, refused, gone;
     uint64_t shortages, command_failures; /* that lasted; of the command for these */
     uint64_t dropped;                     /* lines of words or answers that nobody read in time */

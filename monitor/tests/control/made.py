@@ -23,7 +23,16 @@ PHASES, GUESTS = 2, 6
 
 # Flags of guests, a bit for each guest: no two are alike over all guests. States of guests; what
 # each waits for in both phases, and how the waits end that the second doesn't have any longer.
-FLAGS = {"strict": 0b000111, "answers": 0b011001, "reports": 0b101010, "cooperates": 0b110101}
+FLAGS = {
+    "strict": 0b000111,
+    "answers": 0b011001,
+    "reports": 0b101010,
+    "cooperates": 0b110101,
+    "pressed": 0b100110,
+}
+# How many statistics a guest reports. The first guest has one without a name, for swap in; and the
+# second one a number that is above those of JSON.
+TAGS, HUGE = 16, (1 << 64) - 1
 STATES = ("ABSENT", "COMING", "WAITING", "STARTING", "READY", "LEAVING")
 WAITS = (
     ("NOTHING", "ROOM"),
@@ -93,6 +102,10 @@ class Made:
             how=f"WAS_{ENDS.get(number, 'GRANTED')}",
         )
         ended["number"] = phase if number in ENDS else 0
+        figures = {
+            (it or TAGS) if number == 0 else it: self.value("uint64_t", "") for it in range(TAGS)
+        }
+        figures |= {number: HUGE} if number == 1 else {}
         state = {
             "state": f"GUEST_{STATES[(number + phase) % GUESTS]}",
             "waits_for": f"WAITS_FOR_{WAITS[number][phase]}",
@@ -103,6 +116,8 @@ class Made:
             terms=terms,
             ended=ended,
             name=f"guest-{number}",
+            figures=figures,
+            figure_count=TAGS,
             **state,
             **flags,
         )
@@ -127,7 +142,12 @@ class Made:
         """Returns a decision about two guests."""
         shares = [
             self.struct(
-                "host/journal.h", "share", name=f"guest-{it}", bound="BY_LOAN", tiers=self.tiers()
+                "host/journal.h",
+                "share",
+                name=f"guest-{it}",
+                bound="BY_LOAN",
+                tiers=self.tiers(),
+                pressed=it == 1,
             )
             for it in range(2)
         ]
@@ -173,17 +193,30 @@ class MadeHost:
         ]
         self.hosts[1]["decisions"] = self.hosts[0]["decisions"] + 1
         self.guests = [[made.guest(it, phase) for it in range(GUESTS)] for phase in range(PHASES)]
-        self.decisions = [made.decision("BY_SPARE"), made.decision("BY_MISSING")]
+        self.decisions = [made.decision("BY_PRESSURE"), made.decision("BY_MISSING")]
         self.measures = made.measures()
         self.counters = [made.struct("control/control.h", "control_counters") for _ in range(2)]
 
+    def figures(self):
+        """Returns the statistics of all guests as C, and the guests with their names in place of
+        them."""
+        arrays, guests = "", []
+        for phase, its in enumerate(self.guests):
+            names = [f"MADE_{phase}_{number}" for number in range(GUESTS)]
+            for name, guest in zip(names, its):
+                pairs = ", ".join(f"{{{tag}, {value}u}}" for tag, value in guest["figures"].items())
+                arrays += f"static const VbStatistic {name}[] = {{{pairs}}};\n"
+            guests.append([guest | {"figures": name} for name, guest in zip(names, its)])
+        return arrays, guests
+
     def header(self):
         """Returns them as C."""
-        return "".join(
+        arrays, guests = self.figures()
+        return arrays + "".join(
             f"static const struct {kind} {name} = {written(values)};\n"
             for kind, name, values in (
                 ("host_view", f"made_hosts[{PHASES}]", self.hosts),
-                ("guest_view", f"made_guests[{PHASES}][{GUESTS}]", self.guests),
+                ("guest_view", f"made_guests[{PHASES}][{GUESTS}]", guests),
                 ("decision", "made_decisions[]", self.decisions),
                 ("measures", "made_measures", self.measures),
                 ("control_counters", "made_counters[]", self.counters),

@@ -117,6 +117,11 @@ WAITS = (
     ({"waits_for": "deflate", "waits": 0.42}, "deflate, 0.4 s"),
     ({"answers": False}, "silent"),
     ({"cooperates": False}, "uncooperative"),
+    ({"pressed": True}, "pressed"),
+    ({"pressed": True, "waits_for": "reset", "waits": 1}, "reset, 1.0 s"),
+    ({"pressed": True, "answers": False}, "silent"),
+    ({"pressed": True, "cooperates": False}, "uncooperative"),
+    ({"pressed": False}, ""),
     ({"answers": False, "state": "coming"}, ""),
     ({"waits_for": "room", "waits": 120, "answers": False}, "room, 2 min"),
 )

@@ -266,8 +266,7 @@ OF_GUESTS = {
     "process": ("process", 1),
     **{it: (f"terms.{it}", PAGE) for it in ("least", "most", "overhead")},
     **{it: (f"terms.{it}", 1) for it in ("priority", "weight")},
-    "answers": ("answers", 1),
-    "reports": ("reports", 1),
+    **{it: (it, 1) for it in ("answers", "reports", "pressed")},
     "waits": ("waits_for", 1),
 }
 OF_HOST = {

@@ -24,7 +24,14 @@ def test_decisions_by_their_numbers(host, arrive):
     # Each gives 50 of 54 unused pages, as 6 are its reserve.
     assert last["tier"] == "unused"
     assert last["shares"] == [
-        {"guest": name, "memory": 128 * PAGE, "spare": 60 * PAGE, "old": 0, "target": 50 * PAGE}
+        {
+            "guest": name,
+            "memory": 128 * PAGE,
+            "spare": 60 * PAGE,
+            "old": 0,
+            "target": 50 * PAGE,
+            "pressed": False,
+        }
         for name in "ab"
     ]
     assert [it["number"] for it in log["decisions"]] == list(range(log["next"]))

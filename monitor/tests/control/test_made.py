@@ -62,14 +62,14 @@ GUEST = {
     **rows(
         "pages", "pages=memory loan excess asked limit target ballooned actual free available spare"
     ),
-    **rows("flag", "answers reports cooperates"),
+    **rows("flag", "answers reports cooperates pressed"),
     **rows("seconds", "waits silent process_silent"),
     **rows("pages", " ".join(f"{it}=counters.{it}" for it in COUNTERS_IN_PAGES.split())),
     **rows("count", " ".join(f"{it}=counters.{it}" for it in COUNTERS.split())),
 }
 HOST = {
     **rows("text", "folder on_short gives_first tier"),
-    **rows("count", "guests reserve step waiting silent uncooperative patience"),
+    **rows("count", "guests reserve step waiting silent uncooperative pressed patience"),
     **rows("pages", "budget overdraft floor lent short_by=missing overdrawn"),
     **rows("kib", "held_kib=held peak_kib=counters.peak"),
     **rows("flag", "strict is_short=short"),
@@ -85,12 +85,20 @@ HOST = {
         ),
     ),
 }
-SHARE = rows("text", "name=guest") | rows("pages", "old target")
+SHARE = rows("text", "name=guest") | rows("pages", "old target") | rows("flag", "pressed")
 DECISION = {
     **rows("ms", "at=seconds"),
     **rows("word", "reason tier"),
     **rows("pages", "frames=budget floor missing"),
 }
+# The names of the tags of statistics, from 0 on: those of VIRTIO 1.1, 5.5.6.3, and of Linux 6.12
+# (VIRTIO_BALLOON_S_NAMES).
+STATISTICS = (
+    "swap_in swap_out major_faults minor_faults free_memory total_memory available_memory "
+    "disk_caches hugetlb_allocations hugetlb_failures oom_kills alloc_stalls async_scans "
+    "direct_scans async_reclaims direct_reclaims"
+).split()
+MOST_SHOWN = (1 << 63) - 1
 BOUNDS = [0.001, 0.005, 0.02, 0.1, 0.5, 2, 10]
 GONE, UNGRANTED = ("left", "refused", "removed", "died"), ("refused", "withdrawn")
 
@@ -111,8 +119,17 @@ def shown(values, table):
 
 def shown_guest(guest):
     """Returns what is shown of a guest."""
-    its = {name: it for name, it in guest.items() if name != "ended"}
-    return shown(its, GUEST | {"terms": ("terms", "text")}) | {"terms": shown(its["terms"], TERMS)}
+    other = ("ended", "figures", "figure_count")
+    its = {name: it for name, it in guest.items() if name not in other}
+    statistics = {
+        STATISTICS[tag]: min(it, MOST_SHOWN)
+        for tag, it in guest["figures"].items()
+        if tag < len(STATISTICS)
+    }
+    return shown(its, GUEST | {"terms": ("terms", "text")}) | {
+        "terms": shown(its["terms"], TERMS),
+        "statistics": statistics,
+    }
 
 
 def shown_host(made, phase):
@@ -135,7 +152,7 @@ def shown_decision(made, phase):
     its = dict(made.decisions[phase])
     shares = [dict(it) for it in its.pop("shares")]
     tiers = [it.pop("tiers") for it in shares]
-    about = its.pop("who") if its["reason"] == "BY_SPARE" else ""
+    about = its.pop("who") if its["reason"] in ("BY_SPARE", "BY_PRESSURE") else ""
     told = {name: its[name] for name in DECISION}
     return shown(told, DECISION) | {
         "number": made.hosts[phase]["decisions"] - 1,
@@ -268,6 +285,7 @@ METRICS = {
     "guests_waiting": "waiting",
     "guests_silent": "silent",
     "guests_uncooperative": "uncooperative",
+    "guests_pressed": "pressed",
     "looks_total": "counters.looks",
     "looks_above_budget_total": "counters.above",
     "decisions_total": "counters.decisions",
@@ -300,6 +318,23 @@ OF_GUESTS_HERE = {
     "process_silent_seconds": "process_silent",
     "waiting_seconds": "waits",
     "cooperates": "cooperates",
+    "pressed": "pressed",
+}
+# Of the statistics that a guest reports, by their names: what there is now, and what there was.
+OF_STATISTICS = {
+    **{f"{it}_bytes": it for it in ("total_memory", "disk_caches")},
+    **{
+        f"{it}_bytes_total": it
+        for it in (
+            "swap_in swap_out async_scans direct_scans async_reclaims direct_reclaims".split()
+        )
+    },
+    **{
+        f"{it}_total": it
+        for it in (
+            "major_faults minor_faults hugetlb_allocations hugetlb_failures oom_kills alloc_stalls"
+        ).split()
+    },
 }
 OF_GUESTS = {
     **{
@@ -353,6 +388,11 @@ def metrics_of(host, guests):
             f"bigvasta_guest_{name}{label}": found_in(guest, place)
             for name, place in OF_GUESTS_HERE.items()
         }
+        wanted |= {
+            f"bigvasta_guest_{name}{label}": float(guest["statistics"][place])
+            for name, place in OF_STATISTICS.items()
+            if place in guest["statistics"]
+        }
         flags = {"ready": guest["state"] == "ready", "is_waiting": guest["waits_for"] != "nothing"}
         wanted |= {f"bigvasta_guest_{name}{label}": it for name, it in flags.items()}
         wanted[
@@ -401,7 +441,9 @@ def test_each_column_and_each_line(made, host):
     status = host.ask("status")
     its, guests = status["host"], status["guests"]
     sums = {it: mebibytes(its[it]) for it in ("budget", "held", "lent", "missing")}
-    counts = ", ".join(f"{its[it]} {it}" for it in ("waiting", "silent", "uncooperative"))
+    counts = ", ".join(
+        f"{its[it]} {it}" for it in ("waiting", "silent", "uncooperative", "pressed")
+    )
     head, columns, *rest = bigvasta(host.control, "status").stdout.splitlines()
     assert (
         head

@@ -46,6 +46,7 @@ def most_of(share, floor):
         "silence": ballooned,
         "pause": ballooned,
         "loan": share["spare"],
+        "pressure": share["pages"],
     }
     return min(share["spare"] + floor // 8, limits[share["by"]])
 

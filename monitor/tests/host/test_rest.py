@@ -3,11 +3,14 @@
 import time
 
 import pytest
-from tenants import FREE, PAGES, go_on, process_of, stop
+from tenants import FREE, PAGES, eventually, go_on, process_of, stop
 
 # Seconds of a period, those in which a guest that does nothing has come to rest; in how many
 # periods one that rests is asked once, those for which it is looked at, and how often.
 PERIOD, RESTED, ASKED_ONCE_IN, LOOKS, TRIES = 0.05, 1.5, 5, 80, 5
+
+# The tag of allocations that stalled (Linux 6.12).
+STALLS = 11
 
 
 @pytest.fixture
@@ -51,6 +54,22 @@ def test_a_guest_that_has_changed_is_not_at_rest_for_ten_periods(resting):
         if asked >= looks - 2:
             return
         time.sleep(RESTED)
+    raise AssertionError(f"it is asked {asked} times in {looks} looks")
+
+
+def test_a_pressed_guest_is_asked_in_each_period(resting):
+    # Nothing of it changes but its stalls. Where the machine holds up a guest, it is asked less.
+    lender, guest = resting
+    guest.figures[STALLS] = 0
+    before = lender.guests()["a"]["statistics"]
+    eventually(lambda: lender.guests()["a"]["statistics"] > before + 1)
+    for stalls in range(1, 1 + TRIES):
+        guest.figures[STALLS] = stalls
+        lender.become("a", pressed=1)
+        asked, looks = asked_in(lender, LOOKS // 2)
+        if asked >= looks - looks // ASKED_ONCE_IN:
+            return
+        lender.become("a", pressed=0)
     raise AssertionError(f"it is asked {asked} times in {looks} looks")
 
 

@@ -85,14 +85,21 @@ def test_statistics(start):
 
 def test_the_names_of_statistics(start):
     client = start()
-    # The tags of VIRTIO 1.1, 5.5.6.4, from 0 on.
+    # The tags of VIRTIO 1.1, 5.5.6.4, from 0 on, and from 10 on those of Linux 6.12, by its names
+    # for them (VIRTIO_BALLOON_S_NAMES). All that have one fit into a report.
     names = (
         "swap_in swap_out major_faults minor_faults free_memory total_memory available_memory "
-        "disk_caches"
-        " hugetlb_allocations hugetlb_failures other"
+        "disk_caches hugetlb_allocations hugetlb_failures oom_kills alloc_stalls async_scans "
+        "direct_scans async_reclaims direct_reclaims"
     ).split()
-    post_statistics(client, *range(100, 111), first=0)
-    assert client.backend.statistics() == (1, dict(zip(names, range(100, 111))))
+    post_statistics(client, *range(100, 116), first=0)
+    assert client.backend.statistics() == (1, dict(zip(names, range(100, 116))))
+
+
+def test_a_statistic_without_a_name(start):
+    client = start()
+    post_statistics(client, 7, first=16)
+    assert client.backend.statistics() == (1, {"other": 7})
 
 
 def test_more_statistics_than_are_kept(start):

@@ -1,0 +1,58 @@
+/* Whether a guest's own work waits for memory: its counters are passed on, and vb_policy.h says
+ * what they mean. */
+#include "places.h"
+
+/* The tags of the counters (VIRTIO 1.1, 5.5.6.3, and Linux). */
+enum {
+    SWAP_IN = 0,
+    SWAP_OUT = 1,
+    OOM_KILLS = 10,
+    ALLOC_STALLS = 11,
+    DIRECT_SCANS = 13,
+    DIRECT_RECLAIMS = 15
+};
+
+/* Where a sample has the counter of a tag; NULL: it has none. */
+static VbCounter *counter_of(VbSample *sample, uint16_t tag)
+{
+    switch (tag) {
+    case SWAP_IN:
+        return &sample->swap_in;
+    case SWAP_OUT:
+        return &sample->swap_out;
+    case OOM_KILLS:
+        return &sample->oom_kills;
+    case ALLOC_STALLS:
+        return &sample->stalls;
+    case DIRECT_SCANS:
+        return &sample->direct_scan;
+    case DIRECT_RECLAIMS:
+        return &sample->direct_reclaim;
+    default:
+        return NULL;
+    }
+}
+
+/* What it reports: its balloon is as its driver says, which alone knows what it is still to put
+ * there. */
+static VbSample sample_of(const struct lending_message *report)
+{
+    VbSample sample = {.ballooned = report->actual, .target = report->target};
+    for (uint32_t i = 0; i < report->figure_count; i++) {
+        VbCounter *counter = counter_of(&sample, report->figures[i].tag);
+        if (counter)
+            *counter = (VbCounter){.value = report->figures[i].value, .present = 1};
+    }
+    return sample;
+}
+
+void pressure_hears(struct seat *seat)
+{
+    VbSample sample = sample_of(&seat->report);
+    seat->pressure = vb_policy_press(&seat->pressure, &sample, (uint64_t)loop_now());
+}
+
+bool seat_is_pressed(const struct seat *seat)
+{
+    return vb_policy_pressed(&seat->pressure, (uint64_t)loop_now()) != 0;
+}
