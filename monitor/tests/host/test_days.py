@@ -26,7 +26,8 @@ pytestmark = pytest.mark.timeout(0)
 class Day(NamedTuple):
     """Guests of 244 MiB, one of which may reboot after each of its works, and MiB for all; by how
     many MiB what they want passes what fits, how many times as long as usually their steps take,
-    and whether the lender is killed every 10 seconds at most.
+    and whether the lender is killed every 10 seconds at most; or whether the working set moves
+    (test_moves.py).
     """
 
     guests: int
@@ -36,6 +37,7 @@ class Day(NamedTuple):
     slow: int = 1
     killed: int = 0
     overdraft: int = 0
+    moves: int = 0
 
 
 # The last numbers are of works that are done on a day, at least, and of the first day: a lender

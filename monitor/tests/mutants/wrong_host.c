@@ -19,6 +19,10 @@
  *    19  takes a report for that of the guest at the next place
  *    20  sends no target
  *    21  is built with another layout of vb_host.h than the library's
+ *    22  has no guest pressed
+ *    23  has a guest pressed for good
+ *    24  takes page cache for unused memory
+ *    25  has a guest pressed by what its own balloon reclaims
  *
  * 5 and 8 are wrong in guests' processes (wrong_lent.c).
  */
@@ -45,7 +49,11 @@ enum {
     NO_BUDGET,
     NEXT_PLACE,
     TELLS_NONE,
-    OTHER_LAYOUT
+    OTHER_LAYOUT,
+    NONE_PRESSED,
+    PRESSED_FOR_GOOD,
+    NO_TIERS,
+    PRESSED_BY_BALLOON
 };
 
 VbDecision __real_vb_policy_decide(const VbPolicyBudget *, const VbFigures *, size_t,
@@ -54,6 +62,10 @@ VbDecision __wrap_vb_policy_decide(const VbPolicyBudget *, const VbFigures *, si
                                    VbPolicyRoom *, size_t, uint32_t *, size_t);
 VbTiers __real_vb_policy_tiers(const VbPolicyBudget *, const VbFigures *);
 VbTiers __wrap_vb_policy_tiers(const VbPolicyBudget *, const VbFigures *);
+VbPressure __real_vb_policy_press(const VbPressure *, const VbSample *, uint64_t);
+VbPressure __wrap_vb_policy_press(const VbPressure *, const VbSample *, uint64_t);
+uint32_t __real_vb_policy_pressed(const VbPressure *, uint64_t);
+uint32_t __wrap_vb_policy_pressed(const VbPressure *, uint64_t);
 void __real_host_changed(struct host *, enum reason);
 void __wrap_host_changed(struct host *, enum reason);
 void __real_limits_follow(struct host *);
@@ -97,6 +109,33 @@ VbTiers __wrap_vb_policy_tiers(const VbPolicyBudget *budget, const VbFigures *fi
     return __real_vb_policy_tiers(&other, figures);
 }
 
+VbPressure __wrap_vb_policy_press(const VbPressure *pressure, const VbSample *sample, uint64_t now)
+{
+    VbSample its = *sample;
+    if (wrong() == PRESSED_BY_BALLOON)
+        its.ballooned = its.target = 0;
+    VbPressure next = __real_vb_policy_press(pressure, &its, now);
+    if (wrong() == PRESSED_FOR_GOOD && next.until > now)
+        next.until = UINT64_MAX;
+    return next;
+}
+
+uint32_t __wrap_vb_policy_pressed(const VbPressure *pressure, uint64_t now)
+{
+    return wrong() != NONE_PRESSED && __real_vb_policy_pressed(pressure, now);
+}
+
+/* All page cache counts as unused memory. */
+static const VbFigures *with_free(const VbFigures *figures, size_t count)
+{
+    static VbFigures others[2 * MOST_GUESTS];
+    for (size_t i = 0; i < count; i++) {
+        others[i] = figures[i];
+        others[i].free = UINT32_MAX;
+    }
+    return others;
+}
+
 static uint64_t all_pages(const VbPolicyBudget *budget, const VbFigures *figures, size_t count)
 {
     uint64_t pages = 0;
@@ -113,8 +152,9 @@ VbDecision __wrap_vb_policy_decide(const VbPolicyBudget *budget, const VbFigures
     VbPolicyBudget other = *budget;
     other.frames = left_by_dead(all_pages(budget, figures, count), budget->frames);
     other.floor = floor_of(budget->floor);
+    const VbFigures *seen = wrong() == NO_TIERS ? with_free(figures, count) : figures;
     VbDecision answer =
-        __real_vb_policy_decide(&other, figures, count, rooms, rooms_count, targets, targets_count);
+        __real_vb_policy_decide(&other, seen, count, rooms, rooms_count, targets, targets_count);
     if (answer.code != VB_OK || count == 0)
         return answer;
     for (size_t i = 0; i < count; i++)

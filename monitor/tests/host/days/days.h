@@ -11,8 +11,20 @@
 #include <stdbool.h>
 #include <stdint.h>
 
-/* Microseconds; pages of a request of Linux's. */
-enum { MILLISECOND = 1000, SECOND = 1000 * MILLISECOND, PAGES_OF_REQUEST = 256 };
+/* Microseconds; the longest that a step takes; pages of a request of Linux's, and those that nobody
+ * may have but the kernel itself. */
+enum {
+    MILLISECOND = 1000,
+    SECOND = 1000 * MILLISECOND,
+    LONGEST = 5 * SECOND / 2,
+    PAGES_OF_REQUEST = 256,
+    KERNEL_KEEPS = 512
+};
+
+/* What a kernel counts of its reclaim, in pages but for the stalls. */
+struct reclaims {
+    uint64_t stalls, async_scanned, scanned, async_reclaimed, reclaimed;
+};
 
 /* What somebody of a guest waits for. */
 struct wait {
@@ -23,6 +35,8 @@ struct wait {
 struct guest {
     unsigned number;
     uint32_t pages, used; /* its memory, and what its kernel and its programs use of it */
+    uint32_t cached;      /* beside that its page cache */
+    struct reclaims reclaims;
     /* Its process: what it reports, where it speaks to the lender, and what is on the queues of its
      * device. */
     struct lending_message report;
@@ -69,6 +83,11 @@ struct day {
     uint32_t budget, left;            /* pages; left: that nobody uses, and somebody may */
     int64_t seen[MOST_GUESTS_OF_DAY]; /* when each guest was last looked at */
     int64_t waited, longest;
+    /* Where the working set moves: which shift it is, when it ends, when something was read from a
+     * disk, and since when the busy guest, which had as many pages then, has none from the host. */
+    unsigned shifts;
+    int64_t shift_ends, read_at, came_at;
+    uint32_t had;
     uint64_t lenders; /* that have ended */
 };
 
@@ -121,9 +140,20 @@ void driver_fills(struct guest *guest, uint32_t pages);
 /* A new life begins, whose balloon is empty. */
 void driver_begins(struct guest *guest);
 
-/* Pages that nobody has; those that may be had without more ado. */
+/* Pages that nobody has; those that may be had, the page cache among them. */
 uint32_t driver_free(const struct guest *guest);
 uint32_t driver_spare(const struct guest *guest);
+
+/* As many pages are about to be used: what isn't free is reclaimed, while its user waits, or in the
+ * background; whether some was. */
+bool driver_frees(struct guest *guest, uint32_t pages, bool waits);
+
+/* ---- moves.c */
+
+/* The first shift begins; demands what a day of shifts has to have; a balloon takes page cache. */
+void moves_begin(void);
+void moves_look(void);
+void moves_gives_cache(void);
 
 /* ---- town.c */
 

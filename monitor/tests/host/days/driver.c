@@ -3,9 +3,9 @@
  * and what takes memory waits for that. */
 #include "days.h"
 
-/* Pages that nobody may have but the kernel itself; microseconds of a page that is filled; and
- * before a driver that finds no page to give tries again. */
-enum { KERNEL_KEEPS = 512, OF_PAGE = 2, TRIES_AGAIN = SECOND / 5 };
+/* Microseconds of a page that is filled, and before a driver that finds no page to give tries
+ * again; pages that are looked at for each that is reclaimed. */
+enum { OF_PAGE = 2, TRIES_AGAIN = SECOND / 5, SCANNED_EACH = 3 };
 
 static void work(struct guest *guest);
 static void fill(struct guest *guest);
@@ -17,13 +17,25 @@ static uint32_t smaller(uint32_t one, uint32_t other)
 
 uint32_t driver_free(const struct guest *guest)
 {
-    return guest->pages - guest->used - guest->balloon - guest->leaks;
+    return guest->pages - guest->used - guest->cached - guest->balloon - guest->leaks;
 }
 
 uint32_t driver_spare(const struct guest *guest)
 {
-    uint32_t free = driver_free(guest);
+    uint32_t free = driver_free(guest) + guest->cached;
     return free - smaller(free, KERNEL_KEEPS);
+}
+
+bool driver_frees(struct guest *guest, uint32_t pages, bool waits)
+{
+    struct reclaims *its = &guest->reclaims;
+    uint32_t free = driver_free(guest) - smaller(driver_free(guest), KERNEL_KEEPS);
+    uint32_t lacks = pages - smaller(pages, free), taken = smaller(lacks, guest->cached);
+    guest->cached -= taken;
+    *(waits ? &its->reclaimed : &its->async_reclaimed) += taken;
+    *(waits ? &its->scanned : &its->async_scanned) += (uint64_t)SCANNED_EACH * taken;
+    its->stalls += waits && lacks > 0;
+    return taken > 0;
 }
 
 /* Pages leave the balloon by a request, and are free once it is used. */
@@ -64,6 +76,8 @@ static void request(struct guest *guest)
         leak(guest, pages);
         return;
     }
+    if (driver_frees(guest, pages, true))
+        moves_gives_cache();
     guest->balloon += pages;
     guest->inflates = pages;
     process_kicked(guest);
@@ -148,7 +162,7 @@ static void boot(struct guest *guest)
 
 void driver_begins(struct guest *guest)
 {
-    guest->balloon = guest->leaks = 0;
+    guest->balloon = guest->leaks = guest->report.actual = 0;
     guest->locked = guest->worker_waits = guest->work_is_queued = guest->out_of_memory = false;
     later(guest, boot, chance(SECOND / 2, 2 * SECOND));
 }

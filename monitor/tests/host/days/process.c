@@ -13,7 +13,7 @@
  * before the process does. */
 enum { NEWS_EVERY = 10 * MILLISECOND, ANSWERS_IN = 100 * MILLISECOND };
 
-enum { FREE_MEMORY = 4, AVAILABLE_MEMORY = 6, PAGE_KIB = 4 };
+enum { FREE_MEMORY = 4, AVAILABLE_MEMORY = 6, ALLOC_STALLS = 11, PAGE_KIB = 4 };
 
 static void turn(struct guest *guest);
 
@@ -46,14 +46,26 @@ static void send_report(struct guest *guest, uint64_t number)
         guest->reports_at = day->now + NEWS_EVERY;
 }
 
+/* What it tells: memory in bytes. */
+static void set_figures(const struct guest *guest, struct lending_message *report)
+{
+    const struct reclaims *its = &guest->reclaims;
+    const uint64_t reclaims[] = {its->async_scanned, its->scanned, its->async_reclaimed,
+                                 its->reclaimed};
+    VbStatistic *next = report->figures;
+    *next++ = (VbStatistic){FREE_MEMORY, (uint64_t)driver_free(guest) * BALLOON_PAGE};
+    *next++ = (VbStatistic){AVAILABLE_MEMORY, (uint64_t)driver_spare(guest) * BALLOON_PAGE};
+    *next++ = (VbStatistic){ALLOC_STALLS, its->stalls};
+    for (unsigned i = 0; i < sizeof reclaims / sizeof reclaims[0]; i++)
+        *next++ = (VbStatistic){(uint16_t)(ALLOC_STALLS + 1 + i), reclaims[i] * BALLOON_PAGE};
+    report->figure_count = (uint32_t)(next - report->figures);
+}
+
 /* The guest has told its figures. */
 static void tell_figures(struct guest *guest)
 {
     struct lending_message *report = &guest->report;
-    report->figures[0] = (VbStatistic){FREE_MEMORY, (uint64_t)driver_free(guest) * BALLOON_PAGE};
-    report->figures[1] =
-        (VbStatistic){AVAILABLE_MEMORY, (uint64_t)driver_spare(guest) * BALLOON_PAGE};
-    report->figure_count = 2;
+    set_figures(guest, report);
     report->counters.statistics++;
     report->ballooned_then = report->ballooned;
     report->taken_since = false;
@@ -246,6 +258,6 @@ void process_begins(struct guest *guest, const char *folder)
         listen(guest->listener, 1))
         town_ends("no socket for a guest", guest);
     guest->target = guest->read_target = guest->balloon;
-    guest->report =
-        (struct lending_message){.holds = true, .ready = true, .ballooned = guest->balloon};
+    guest->report = (struct lending_message){
+        .holds = true, .ready = true, .ballooned = guest->balloon, .actual = guest->balloon};
 }

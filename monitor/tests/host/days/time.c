@@ -10,8 +10,8 @@
 #include <time.h>
 #include <unistd.h>
 
-/* When the clock begins, in seconds: no moment is 0. The longest that a step takes. */
-enum { BEGIN = 1000, LONGEST = 5 * SECOND / 2 };
+/* When the clock begins, in seconds: no moment is 0. */
+enum { BEGIN = 1000 };
 
 /* How long a lender is there, and how long there is none at most. */
 enum { SHORTEST_LIFE = SECOND / 2, LONGEST_LIFE = 10 * SECOND, LONGEST_AWAY = 3 * SECOND };

@@ -3,7 +3,7 @@
  * for all, SECONDS how long it is, FOLDER where the lender finds them; REBOOTS whether one of them
  * reboots, BEYOND by how many MiB what they want passes what fits, SLOW how many times as long as
  * usually each step takes, KILLED whether lenders end, OVERDRAFT how many MiB may be lent above the
- * budget. */
+ * budget, MOVES whether the working set moves from guest to guest, in place of works. */
 #define _GNU_SOURCE
 #include "days.h"
 
@@ -36,12 +36,13 @@ unsigned town_number(const char *name)
 static void print_guest(const struct guest *guest)
 {
     const struct lending_message *its = &guest->report;
-    printf("guest-%u has %u pages, uses %u, balloon %u, in it %u, target %u, waits for %u%s, wants "
-           "%u, works %llu%s%s\n",
-           guest->number + 1, guest->pages, guest->used, guest->balloon, its->ballooned,
-           guest->target, its->held_pages, guest->reset.waits ? " and a new life" : "",
-           guest->wants, (unsigned long long)guest->works,
-           guest->out_of_memory ? ", out of memory" : "", its->ready ? "" : ", boots");
+    printf("guest-%u has %u pages, uses %u, caches %u, balloon %u, in it %u, target %u, waits for "
+           "%u%s, wants %u, works %llu%s%s\n",
+           guest->number + 1, guest->pages, guest->used, guest->cached, guest->balloon,
+           its->ballooned, guest->target, its->held_pages,
+           guest->reset.waits ? " and a new life" : "", guest->wants,
+           (unsigned long long)guest->works, guest->out_of_memory ? ", out of memory" : "",
+           its->ready ? "" : ", boots");
 }
 
 void town_ends(const char *fault, const struct guest *guest)
@@ -119,6 +120,8 @@ void town_looks(void)
         else
             look_at(guest, &guest->held, DEFLATE_WAITS, "waits for a deflate");
     }
+    if (town_number("MOVES") > 0)
+        moves_look();
     if (day->now >= town_number("SECONDS") * (int64_t)SECOND)
         town_ends(NULL, NULL);
 }
@@ -132,7 +135,7 @@ static void __attribute__((constructor)) begin(int count, char **words)
     if (!day_begins(town_number("DAY"), words))
         return;
     unsigned size = day->size = town_number("GUESTS");
-    bool reboots = town_number("REBOOTS") > 0;
+    bool reboots = town_number("REBOOTS") > 0, moves = town_number("MOVES") > 0;
     day->budget = town_number("BUDGET") * MIB;
     day->left = day->budget + town_number("BEYOND") * MIB - (size - reboots) * (OWN + LEFT) * MIB -
                 (reboots ? MEMORY * MIB : 0);
@@ -144,6 +147,9 @@ static void __attribute__((constructor)) begin(int count, char **words)
                                 .reboots = reboots && i + 1 == size};
         guest->balloon = guest->pages - day->budget / size;
         process_begins(guest, getenv("FOLDER"));
-        later(guest, work_begins, chance(0, SECOND));
+        if (!moves)
+            later(guest, work_begins, chance(0, SECOND));
     }
+    if (moves)
+        moves_begin();
 }
