@@ -5,14 +5,15 @@ import re
 from bigvasta.statuses import Usage
 
 PAGE, MIB = 4096, 1 << 20
+MOST_SIZE = ((1 << 32) - 2) * PAGE
 UNITS = {"K": 1 << 10, "M": 1 << 20, "G": 1 << 30, "T": 1 << 40}
 
 
 def parse_size(text, name="size"):
-    """Returns the bytes of a size such as 480M: a number with K, M, G or T, in whole pages."""
+    """Returns the bytes of a size such as 480M: a number with K, M, G or T, in whole pages; or 0."""
     found = re.fullmatch(r"(\d{1,12})([KMGT])(?:iB)?", text, re.ASCII)
-    size = int(found[1]) * UNITS[found[2]] if found else -1
-    if not found or size % PAGE:
+    size = int(found[1]) * UNITS[found[2]] if found else 0 if text == "0" else -1
+    if not 0 <= size <= MOST_SIZE or size % PAGE:
         raise Usage(
             f"{name}: {text!r} is no size: a number with K, M, G or T, in pages of 4K, such as 480M"
         )

@@ -12,7 +12,7 @@
  * It says `ready`, and starts a process for each client that comes, which serves its balloon:
  * vhost_user_balloon, beside this program or at --program. It obeys lines of its standard input,
  * whose end is no line. Each is answered by a line on standard output, or by one that says how many
- * follow:
+ * follow. Where MIB or PAGES is, a size may be, as 8G:
  *
  *     add NAME [TERMS]    a guest may come to the socket FOLDER/NAME, and again once it has gone
  *     terms NAME TERMS    its terms are these from now on: least=MIB, most=MIB, priority=NUMBER,
@@ -42,7 +42,8 @@
  * `bigvasta` speaks to it by its control socket, FOLDER/.control (--control), and by one that only
  * shows the host, FOLDER/.status (--status): docs/CONTROL.md. --config: a file that says the same,
  * and the guests; SIGHUP has it read anew. --check: says what is wrong in such a file, and does
- * nothing else: the status is 0 where a host would start by it, else 1. --log-level: error, warning, notice, info (as it is) or
+ * nothing else: the status is 0 where a host would start by it, else 1.
+ * --log-level: error, warning, notice, info (as it is) or
  * debug.
  *
  * --reserve: percent of its pages that each guest keeps of its page cache as long as others have
@@ -84,13 +85,14 @@ enum {
 /* Milliseconds in which guests' processes end that are told to. */
 enum { LEAVES_IN = 1000 };
 
-/* A number of mebibytes, as pages. */
+/* A size, or a number of mebibytes, as pages. */
 static bool read_mebibytes(const char *word, void *at)
 {
     uint64_t number;
-    bool read = read_number(word, 10, UINT32_MAX / PAGES_PER_MIB, &number);
-    *(uint32_t *)at = read ? (uint32_t)number * PAGES_PER_MIB : *(uint32_t *)at;
-    return read;
+    if (!read_number(word, 10, UINT32_MAX / PAGES_PER_MIB, &number))
+        return read_size(word, at);
+    *(uint32_t *)at = (uint32_t)number * PAGES_PER_MIB;
+    return true;
 }
 
 static bool read_number_of(const char *word, void *at)
@@ -99,6 +101,12 @@ static bool read_number_of(const char *word, void *at)
     bool read = read_number(word, 10, UINT32_MAX, &number);
     *(uint32_t *)at = read ? (uint32_t)number : *(uint32_t *)at;
     return read;
+}
+
+/* A size, or a number of pages. */
+static bool read_pages(const char *word, void *at)
+{
+    return read_number_of(word, at) || read_size(word, at);
 }
 
 static bool read_percent(const char *word, void *at)
@@ -161,7 +169,7 @@ static enum command_line read_words(struct host *host, struct service *service, 
         {"floor", .read = read_mebibytes, .at = &host->floor},
         {"step", .read = read_number_of, .at = &host->step},
         {"reserve", .read = read_percent, .at = &host->reserve},
-        {"overdraft", .read = read_number_of, .at = &host->lends.overdraft},
+        {"overdraft", .read = read_pages, .at = &host->lends.overdraft},
         {"patience", .read = read_patience, .at = &host->patience},
         {"on-short", .read = read_word, .at = &host->on_short},
         {"period", .read = read_period, .at = &host->period},

@@ -5,6 +5,7 @@
 #include <ctype.h>
 #include <errno.h>
 #include <stdlib.h>
+#include <string.h>
 
 bool read_number(const char *word, int base, uint64_t most, uint64_t *number)
 {
@@ -13,6 +14,27 @@ bool read_number(const char *word, int base, uint64_t most, uint64_t *number)
     *number = strtoull(word, &end, base);
     /* It would take spaces and a sign before them. */
     return isxdigit((unsigned char)word[0]) && !*end && errno == 0 && *number <= most;
+}
+
+bool read_size(const char *word, uint32_t *pages)
+{
+    enum { MOST_DIGITS = 15, PAGE_KIB = 4 };
+    static const char units[] = "KMGT";
+    const uint64_t most = (uint64_t)(UINT32_MAX - 1) * PAGE_KIB;
+    char digits[MOST_DIGITS + 1];
+    size_t length = strlen(word);
+    const char *unit = length > 0 ? strchr(units, word[length - 1]) : NULL;
+    if (!strcmp(word, "0"))
+        return *pages = 0, true;
+    if (!unit || length > sizeof digits)
+        return false;
+    uint64_t number, kib = UINT64_C(1) << (10 * (unit - units));
+    memcpy(digits, word, length - 1);
+    digits[length - 1] = 0;
+    if (!read_number(digits, 10, most / kib, &number) || number * kib % PAGE_KIB)
+        return false;
+    *pages = (uint32_t)(number * kib / PAGE_KIB);
+    return true;
 }
 
 bool read_features(const char *word, void *at)

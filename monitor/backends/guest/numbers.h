@@ -8,6 +8,10 @@
  * is another word, or where the number is more than `most`. */
 bool read_number(const char *word, int base, uint64_t most, uint64_t *number);
 
+/* Reads a size into pages: a number with K, M, G or T, in whole pages, under 16T; or 0. False where
+ * it is none: then nothing has changed. */
+bool read_size(const char *word, uint32_t *pages);
+
 /* A feature: the driver takes no page of the balloon into use before it has told. */
 enum { MUST_TELL_HOST = 1 };
 

@@ -65,12 +65,12 @@ static void print_counters(const struct host *host)
             it->grants, tier_word(host->tier));
 }
 
-/* Reads a number of MiB as pages. */
+/* Reads a size, or a number of MiB, as pages. */
 static bool read_mib(const char *word, uint32_t *pages)
 {
     uint64_t mib;
     if (!read_number(word, 10, UINT32_MAX / PAGES_PER_MIB, &mib))
-        return false;
+        return read_size(word, pages);
     *pages = (uint32_t)mib * PAGES_PER_MIB;
     return true;
 }
@@ -79,7 +79,8 @@ static void set_pages(struct host *host, const char *word,
                       const char *(*set)(struct host *host, uint32_t pages))
 {
     uint32_t pages;
-    const char *fault = read_mib(word, &pages) ? set(host, pages) : "a number of MiB";
+    const char *fault =
+        read_mib(word, &pages) ? set(host, pages) : "a number of MiB, or a size such as 8G";
     fprintf(out(host), fault ? "error: %s\n" : "ok\n", fault);
 }
 

@@ -28,15 +28,15 @@ const struct key config_keys[CONFIG_KEYS] = {
 
 const struct key guest_keys[GUEST_KEYS] = {
     [TERM_LEAST] = {"guest", "least", WORD_SIZE_OR_NONE, TERM(least)},
-    [TERM_MOST] = {"guest", "most", WORD_SIZE, TERM(most)},
-    [TERM_PRIORITY] = {"guest", "priority", WORD_NUMBER, TERM(priority)},
+    [TERM_MOST] = {"guest", "most", WORD_SIZE_LIMIT, TERM(most)},
+    [TERM_PRIORITY] = {"guest", "priority", WORD_PRIORITY, TERM(priority)},
     [TERM_WEIGHT] = {"guest", "weight", WORD_WEIGHT, TERM(weight)},
     [TERM_STRICT] = {"guest", "strict", WORD_BOOLEAN, TERM(strict)},
     [TERM_OVERHEAD] = {"guest", "overhead", WORD_SIZE_OR_NONE, TERM(overhead)},
     [TERM_LIMIT] = {"guest", "limit", WORD_LIMIT, TERM(limit)},
     [TERM_USER] = {"guest", "user", WORD_USER, TERM(user)},
-    [TERM_MEMORY] = {"guest", "memory", WORD_SIZE, TERM(memory)},
-    [TERM_START] = {"guest", "start", WORD_SIZE, TERM(start)},
+    [TERM_MEMORY] = {"guest", "memory", WORD_SIZE_LIMIT, TERM(memory)},
+    [TERM_START] = {"guest", "start", WORD_SIZE_LIMIT, TERM(start)},
 };
 
 int key_find(const struct key *table, unsigned count, const char *section, const char *name)

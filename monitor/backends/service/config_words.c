@@ -16,6 +16,9 @@
 #define NUMBER(number) #number
 #define BETWEEN(what, least, most) what ", from " NUMBER(least) " to " NUMBER(most)
 
+/* What a size is. */
+#define A_SIZE "a number with K, M, G or T, in pages of 4K, under 16T"
+
 bool word_is_name(const char *name)
 {
     static const char letters[] =
@@ -24,22 +27,22 @@ bool word_is_name(const char *name)
     return length > 0 && length < MOST_CONFIG_NAME && strspn(name, letters) == length;
 }
 
-/* Reads a number with its unit as pages. */
-static bool read_size(const char *word, uint32_t least, uint32_t *pages)
+/* Reads a size of so many pages or more. */
+static bool read_pages(const char *word, uint32_t least, uint32_t *pages)
 {
-    static const char units[] = "MGT";
-    char digits[MOST_CONFIG_WORD];
-    size_t length = strlen(word);
-    const char *unit =
-        length > 0 && length < sizeof digits ? strchr(units, word[length - 1]) : NULL;
-    uint64_t number, each = UINT64_C(1) << (8 + 10 * (unit ? unit - units : 0));
-    if (!unit || !*unit)
+    uint32_t read;
+    if (!read_size(word, &read) || read < least)
         return false;
-    memcpy(digits, word, length - 1);
-    digits[length - 1] = 0;
-    if (!read_number(digits, 10, (UINT32_MAX - 1) / each, &number) || number * each < least)
-        return false;
-    *pages = (uint32_t)(number * each);
+    *pages = read;
+    return true;
+}
+
+/* Reads a size, or that there is no limit. */
+static bool read_limited(const char *word, uint32_t *pages)
+{
+    if (strcmp(word, "none") != 0)
+        return read_size(word, pages);
+    *pages = UINT32_MAX;
     return true;
 }
 
@@ -98,16 +101,19 @@ const char *word_read(enum word_kind kind, const char *word, void *at)
     case WORD_GROUP:
         return read_text(word, getgrnam(word) != NULL, at) ? NULL : "a group of this machine";
     case WORD_SIZE:
-        return read_size(word, 1, at) ? NULL
-                                      : "a size of 1M or more: a number with M, G or T, under 16T";
+        return read_pages(word, 1, at) ? NULL : "a size of 4K or more: " A_SIZE;
     case WORD_SIZE_OR_NONE:
-        return read_size(word, 0, at) ? NULL : "a size: a number with M, G or T, under 16T";
+        return read_pages(word, 0, at) ? NULL : "a size: " A_SIZE;
+    case WORD_SIZE_LIMIT:
+        return read_limited(word, at) ? NULL : "none, or a size: " A_SIZE;
     case WORD_NUMBER:
         return read_between(word, 0, UINT32_MAX - 1, at) ? NULL : "a number up to 4294967294";
     case WORD_PERCENT:
         return read_between(word, 0, 100, at) ? NULL : "percent, from 0 to 100";
+    case WORD_PRIORITY:
+        return read_between(word, 0, UINT32_MAX, at) ? NULL : "a number up to 4294967295";
     case WORD_WEIGHT:
-        return read_between(word, 1, UINT32_MAX - 1, at) ? NULL : "a number from 1 to 4294967294";
+        return read_between(word, 1, UINT32_MAX, at) ? NULL : "a number from 1 to 4294967295";
     case WORD_MILLISECONDS:
         return read_between(word, LEAST_PERIOD, MOST_PERIOD, at)
                    ? NULL

@@ -6,14 +6,15 @@
 
 /* Each says what the word is, and what it is read into: WORD_PATH and WORD_GROUP into
  * MOST_CONFIG_WORD bytes, WORD_BOOLEAN into a bool, WORD_LIMIT into a struct guest_limit, the
- * others into a uint32_t. Sizes are read as pages: a number of whole MiB with M, or of GiB or TiB
- * with G or T. */
+ * others into a uint32_t. Sizes are read as pages (read_size); of a limit, none is UINT32_MAX. */
 enum word_kind {
     WORD_PATH,
     WORD_GROUP,
     WORD_SIZE,
     WORD_SIZE_OR_NONE,
+    WORD_SIZE_LIMIT,
     WORD_NUMBER,
+    WORD_PRIORITY,
     WORD_PERCENT,
     WORD_WEIGHT,
     WORD_MILLISECONDS,

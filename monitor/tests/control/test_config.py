@@ -34,7 +34,7 @@ lines = 2000
 
 # A key's line in that file, and what is in its place; then what is said of it, after the file's
 # name.
-SIZE = "a number with M, G or T, under 16T"
+SIZE = "a number with K, M, G or T, in pages of 4K, under 16T"
 NO_USER = "a user of this machine, a user's number, or none"
 WRONG = (
     (
@@ -48,12 +48,12 @@ WRONG = (
         "line 3: folder: a path from / on, of 127 bytes at most",
     ),
     ("folder = {folder}", "folder =", "line 3: folder: a path from / on, of 127 bytes at most"),
-    ("budget = 480M", "budget = 480", f"line 4: budget: a size of 1M or more: {SIZE}"),
-    ("budget = 480M", "budget = 0M", f"line 4: budget: a size of 1M or more: {SIZE}"),
-    ("budget = 480M", "budget = 16T", f"line 4: budget: a size of 1M or more: {SIZE}"),
-    ("budget = 480M", "budget = -1M", f"line 4: budget: a size of 1M or more: {SIZE}"),
-    ("budget = 480M", "budget = M", f"line 4: budget: a size of 1M or more: {SIZE}"),
-    ("budget = 480M", "budget = 4 M", f"line 4: budget: a size of 1M or more: {SIZE}"),
+    ("budget = 480M", "budget = 480", f"line 4: budget: a size of 4K or more: {SIZE}"),
+    ("budget = 480M", "budget = 0M", f"line 4: budget: a size of 4K or more: {SIZE}"),
+    ("budget = 480M", "budget = 16T", f"line 4: budget: a size of 4K or more: {SIZE}"),
+    ("budget = 480M", "budget = -1M", f"line 4: budget: a size of 4K or more: {SIZE}"),
+    ("budget = 480M", "budget = M", f"line 4: budget: a size of 4K or more: {SIZE}"),
+    ("budget = 480M", "budget = 4 M", f"line 4: budget: a size of 4K or more: {SIZE}"),
     ("floor = 8M", "floor = 8k", f"line 5: floor: a size: {SIZE}"),
     ("floor = 8M", "overdraft = 8k", f"line 5: overdraft: a size: {SIZE}"),
     ("floor = 8M", "reserve = 101", "line 5: reserve: percent, from 0 to 100"),
@@ -74,11 +74,11 @@ WRONG = (
     ("lines = 2000", "lines = x", "line 15: lines: a number up to 4294967294"),
     ("lines = 2000", "lines = 2000\nlines = 21", "line 16: lines: it is said twice"),
     ("[guest web-1]", "[guest web-1]\nleast = 5", f"line 18: least: a size: {SIZE}"),
-    ("[guest web-1]", "[guest web-1]\nmost = 0M", f"line 18: most: a size of 1M or more: {SIZE}"),
+    ("[guest web-1]", "[guest web-1]\nmost = 5", f"line 18: most: none, or a size: {SIZE}"),
     (
         "[guest web-1]",
         "[guest web-1]\npriority = high",
-        "line 18: priority: a number up to 4294967294",
+        "line 18: priority: a number up to 4294967295",
     ),
     ("[guest web-1]", "[guest web-1]\nstrict = true", "line 18: strict: yes or no"),
     (
@@ -95,14 +95,10 @@ WRONG = (
     (
         "[guest web-1]",
         "[guest web-1]\nweight = 0",
-        "line 18: weight: a number from 1 to 4294967294",
+        "line 18: weight: a number from 1 to 4294967295",
     ),
-    (
-        "[guest web-1]",
-        "[guest web-1]\nmemory = 0M",
-        f"line 18: memory: a size of 1M or more: {SIZE}",
-    ),
-    ("[guest web-1]", "[guest web-1]\nstart = 0M", f"line 18: start: a size of 1M or more: {SIZE}"),
+    ("[guest web-1]", "[guest web-1]\nmemory = 6K", f"line 18: memory: none, or a size: {SIZE}"),
+    ("[guest web-1]", "[guest web-1]\nstart = 5", f"line 18: start: none, or a size: {SIZE}"),
     (
         "[guest web-1]",
         "[guest web-1]\nstart = 9M",
