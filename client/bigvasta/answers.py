@@ -75,6 +75,9 @@ HOST = {
     ),
     **fields(Maybe(is_count), "patience reserve pressed"),
     "short": Maybe(is_flag),
+    "differs": Maybe(
+        [{"guest": is_text_or_null, **fields(is_text, "key file now"), "lasts": is_flag}]
+    ),
     "tier": Maybe(is_text),
     **fields(Maybe(is_text_or_null), "on_short gives_first"),
     "counters": {
@@ -121,9 +124,11 @@ DECISION = {
 # The answer to each request, an event, and what refuses a request.
 ANSWERS = {
     "status": {"host": HOST, "guests": [GUEST]},
-    **dict.fromkeys(("guest", "add", "renew"), {"guest": GUEST}),
-    "budget": {"budget": is_count},
-    "floor": {"floor": is_count},
+    **dict.fromkeys(("guest", "add", "renew"), {"guest": GUEST, "lasts": Maybe(is_flag)}),
+    "remove": {"lasts": Maybe(is_flag)},
+    "budget": {"budget": is_count, "lasts": Maybe(is_flag)},
+    "floor": {"floor": is_count, "lasts": Maybe(is_flag)},
+    "config": {"config": is_text},
     "log": {"decisions": [DECISION], **fields(is_count, "next lost")},
 }
 EVENT = {

@@ -3,7 +3,7 @@
  *
  *     vhost_user_host FOLDER --budget MIB [--floor MIB] [--period MS] [--step N] [--strict]
  *                     [--strict-pages] [--events] [--features HEX] [--lines N] [--program PATH]
- *                     [--no-sandbox] [--end-with-lender] [--config FILE] [--check FILE]
+ *                     [--no-sandbox] [--end-with-lender] [--config FILE] [--state FOLDER] [--check FILE]
  *                     [--control PATH]
  *                     [--control-mode OCTAL] [--control-group NAME] [--status PATH]
  *                     [--status-mode OCTAL] [--status-group NAME] [--log-level WORD]
@@ -43,6 +43,7 @@
  * shows the host, FOLDER/.status (--status): docs/CONTROL.md. --config: a file that says the same,
  * and the guests; SIGHUP has it read anew. --check: says what is wrong in such a file, and does
  * nothing else: the status is 0 where a host would start by it, else 1.
+ * --state: a folder where what bigvasta changes lasts, and is before what the file says.
  * --log-level: error, warning, notice, info (as it is) or
  * debug.
  *
@@ -156,7 +157,8 @@ static const char help[] =
     "[--reserve PERCENT] [--overdraft PAGES] [--patience SECONDS] [--on-short PATH] [--cost MS] "
     "[--strict] [--strict-pages] [--events] "
     "[--features HEX] [--lines N] [--program PATH] [--no-sandbox] [--end-with-lender] [--leave]\n"
-    "                [--config FILE] [--check FILE] [--control PATH] [--control-mode OCTAL] "
+    "                [--config FILE] [--state FOLDER] [--check FILE] [--control PATH] "
+    "[--control-mode OCTAL] "
     "[--control-group "
     "NAME] [--status PATH] [--status-mode OCTAL] "
     "[--status-group NAME] [--log-level WORD]";
@@ -195,6 +197,8 @@ static enum command_line read_words(struct host *host, struct service *service, 
     if (service->checks)
         return line;
     take_config(host, &service->config);
+    if (line == LINE_READ)
+        service_recall(service, host);
     return line == LINE_READ && !(host->folder && host->frames > 0) ? LINE_WRONG : line;
 }
 

@@ -10,9 +10,23 @@ from bigvasta.words import say
 
 def ask(asked, request, fields, words):
     """Asks the host, and prints its answer, or the words that are made of it."""
+    if asked.until_restart:
+        fields["until_restart"] = True
     with Connection(asked.control) as host:
         answer = host.ask(request, **fields)
     say(json.dumps(answer) if asked.json else words(answer))
+
+
+def how_long(answer):
+    """Returns the words for how long a change lasts, where that isn't for good."""
+    return ", until the host restarts" if answer.get("lasts") is False else ""
+
+
+def run_config(asked):
+    """Prints all that is so now, as a configuration file."""
+    with Connection(asked.control) as host:
+        answer = host.ask("config")
+    say(*([json.dumps(answer)] if asked.json else answer["config"].splitlines()))
 
 
 def run_add(asked):
@@ -27,13 +41,24 @@ def run_add(asked):
 
 def run_remove(asked):
     """Ends the service of a guest."""
-    ask(asked, "remove", {"name": asked.name}, lambda _: f"{asked.name} is removed")
+    ask(asked, "remove", {"name": asked.name}, lambda it: f"{asked.name} is removed{how_long(it)}")
 
 
 def run_size(asked):
     """Prints the budget or the floor, or sets it."""
     fields = {} if asked.size is None else {"bytes": parse_size(asked.size, asked.request)}
-    ask(asked, asked.request, fields, lambda it: f"{mebibytes(it[asked.request])} MiB")
+    ask(
+        asked, asked.request, fields, lambda it: f"{mebibytes(it[asked.request])} MiB{how_long(it)}"
+    )
+
+
+def until_restart(words):
+    """Adds the option for what isn't to last."""
+    words.add_argument(
+        "--until-restart",
+        action="store_true",
+        help="the host forgets it as it restarts, though it has a folder for what was changed",
+    )
 
 
 def add(commands, common):
@@ -49,6 +74,7 @@ def add(commands, common):
     )
     words.add_argument("name", metavar="NAME")
     words.add_argument("words", metavar="KEY=VALUE", nargs="*", help=TERMS_HELP)
+    until_restart(words)
     words.set_defaults(run=run_add, changes=lambda asked: True)
     words = commands.add_parser(
         "remove",
@@ -57,6 +83,7 @@ def add(commands, common):
         description="Ends the service of a guest.",
     )
     words.add_argument("name", metavar="NAME")
+    until_restart(words)
     words.set_defaults(run=run_remove, changes=lambda asked: True)
     for request, what in (
         ("budget", "what all guests may hold together"),
@@ -69,6 +96,14 @@ def add(commands, common):
             description=f"Prints {what}, or sets it.",
         )
         words.add_argument("size", metavar="SIZE", nargs="?", help="such as 480M")
+        until_restart(words)
         words.set_defaults(
             run=run_size, request=request, changes=lambda asked: asked.size is not None
         )
+    words = commands.add_parser(
+        "config",
+        parents=[common],
+        help="all that is so now, as a configuration file",
+        description="Prints all that is so now, as a configuration file of the host.",
+    )
+    words.set_defaults(run=run_config)

@@ -2,6 +2,7 @@
 
 import json
 
+from bigvasta.commands.changes import how_long, until_restart
 from bigvasta.connection import Connection
 from bigvasta.sizes import mebibytes
 from bigvasta.waits import wait_of
@@ -41,9 +42,13 @@ def describe(guest):
 def run(asked):
     """Changes what is asked for, and prints the guest."""
     fields = parse_terms(asked.words, TERMS | TARGET)
+    if asked.until_restart:
+        fields["until_restart"] = True
     with Connection(asked.control) as host:
         answer = host.ask("guest", name=asked.name, **said(fields))
     say(*([json.dumps(answer)] if asked.json else describe(answer["guest"])))
+    if how_long(answer) and not asked.json:
+        say(f"  changed{how_long(answer)}")
 
 
 def add(commands, common):
@@ -59,4 +64,5 @@ def add(commands, common):
     )
     words.add_argument("name", metavar="NAME")
     words.add_argument("words", metavar="KEY=VALUE", nargs="*", help=f"{TERMS_HELP} target=SIZE")
+    until_restart(words)
     words.set_defaults(run=run, changes=lambda asked: bool(asked.words))

@@ -51,6 +51,14 @@ def others(host, guests):
         yield f"processes of another version: {', '.join(words)}"
 
 
+def differences(host):
+    """Yields the lines about what is otherwise than the configuration file says."""
+    for it in host.get("differs", ()):
+        whose = f"{it['guest']}: " if it["guest"] else ""
+        until = "" if it["lasts"] else " until the host restarts"
+        yield f"{whose}{it['key']} is {it['now']}{until}, and {it['file']} in the file"
+
+
 def run(asked):
     """Prints the status."""
     with Connection(asked.control) as host:
@@ -64,6 +72,7 @@ def run(asked):
             summary(answer["host"]),
             *table([COLUMNS, *map(row, answer["guests"])]),
             *others(answer["host"], answer["guests"]),
+            *differences(answer["host"]),
         )
 
 

@@ -24,7 +24,7 @@ enum field_kind {
 /* Whether a request, or a field of it, changes the host or shows it. */
 enum effect { SHOWS, CHANGES };
 
-enum { MOST_FIELDS = 12, PAGE_BYTES = 4096 };
+enum { MOST_FIELDS = 14, PAGE_BYTES = 4096 };
 
 struct field {
     const char *name; /* NULL: no field */

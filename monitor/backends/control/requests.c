@@ -1,13 +1,11 @@
 #include "requests.h"
 
 #include "answers.h"
+#include "asked.h"
 #include "events.h"
 #include "fields.h"
 #include "parts.h"
 #include "status.h"
-
-#include "../host/view.h"
-#include "../service/service.h"
 
 #include <stdarg.h>
 #include <stdio.h>
@@ -15,14 +13,6 @@
 
 /* Decisions of one answer, and bytes of what is said of a refusal. */
 enum { MOST_DECISIONS_OF_ANSWER = 16, MOST_WORDS = 256 };
-
-/* A request whose fields are right, and who asks. */
-struct asked {
-    struct control *control;
-    struct control_client *client;
-    struct host *host;
-    const json_t *fields;
-};
 
 struct kind {
     const char *name;
@@ -46,157 +36,10 @@ json_t *request_refusal(const char *code, const char *field, const char *format,
     return json_pack("{s:b, s:o}", "ok", 0, "error", error);
 }
 
-/* What a call of the host's answered: done, or why not. */
-static json_t *outcome(const char *fault)
-{
-    return fault ? request_refusal("refused", NULL, "%s", fault) : json_pack("{s:b}", "ok", 1);
-}
-
-static json_t *no_guest(const char *name)
-{
-    return request_refusal("no-guest", "name", "no guest is named %s", name);
-}
-
 static json_t *status(const struct asked *asked)
 {
     asked->client->rest = status_text(asked->control, asked->host);
     return asked->client->rest ? json_pack("{s:b}", "ok", 1) : NULL;
-}
-
-/* The terms that a request asks for, where the others stay as they are. */
-static struct guest_terms terms_of(const json_t *fields, struct guest_terms terms)
-{
-    if (field_is_there(fields, "least"))
-        terms.least = field_pages(fields, "least");
-    if (field_is_there(fields, "most"))
-        terms.most = field_pages(fields, "most");
-    if (field_is_there(fields, "priority"))
-        terms.priority = (uint32_t)field_number(fields, "priority");
-    if (field_is_there(fields, "weight"))
-        terms.weight = (uint32_t)field_number(fields, "weight");
-    if (field_is_there(fields, "strict"))
-        terms.strict = field_number(fields, "strict");
-    if (field_is_there(fields, "overhead"))
-        terms.overhead = field_pages(fields, "overhead");
-    if (field_is_there(fields, "limit"))
-        terms.limit = field_kernel_limit(fields, "limit");
-    if (field_is_there(fields, "user"))
-        terms.user = field_user(fields, "user");
-    if (field_is_there(fields, "memory"))
-        terms.memory = field_pages(fields, "memory");
-    if (field_is_there(fields, "start"))
-        terms.start = field_pages(fields, "start");
-    return terms;
-}
-
-static bool changes_terms(const json_t *fields)
-{
-    static const char *const names[] = {"least", "most", "priority", "strict", "overhead",
-                                        "limit", "user", "memory",   "start",  "weight"};
-    for (unsigned i = 0; i < sizeof names / sizeof names[0]; i++)
-        if (field_is_there(fields, names[i]))
-            return true;
-    return false;
-}
-
-/* Changes what a request asks for of a guest; NULL, or why not: then it is as it was, and nothing
- * is decided anew. */
-static const char *change(const struct asked *asked, const struct guest_view *guest)
-{
-    const json_t *fields = asked->fields;
-    bool has_terms = changes_terms(fields), has_target = field_is_there(fields, "target");
-    struct guest_terms terms = terms_of(fields, guest->terms);
-    char name[64];
-    snprintf(name, sizeof name, "%s", guest->name);
-    const char *fault = has_terms ? host_refuses(asked->host, name, &terms) : NULL;
-    if (!fault && has_target)
-        fault = host_set_target(asked->host, name, field_pages(fields, "target"));
-    if (fault || !has_terms)
-        return fault;
-    fault = host_set_terms(asked->host, name, &terms);
-    if (fault && has_target)
-        host_set_target(asked->host, name, guest->target);
-    return fault;
-}
-
-/* The guest of this number, after what was done to it. */
-static json_t *guest_answer(const struct asked *asked, int number)
-{
-    return json_pack("{s:b, s:o}", "ok", 1, "guest", answer_guest(asked->host, (unsigned)number));
-}
-
-static json_t *guest(const struct asked *asked)
-{
-    const char *name = field_name(asked->fields, "name");
-    int number = host_find(asked->host, name);
-    if (number < 0)
-        return no_guest(name);
-    struct guest_view view;
-    host_see_guest(asked->host, (unsigned)number, &view);
-    const char *fault = change(asked, &view);
-    return fault ? outcome(fault) : guest_answer(asked, number);
-}
-
-static json_t *add(const struct asked *asked)
-{
-    const char *name = field_name(asked->fields, "name");
-    struct guest_terms terms = terms_of(asked->fields, host_usual_terms(asked->host));
-    if (host_find(asked->host, name) >= 0)
-        return request_refusal("guest-exists", "name", "a guest is named %s already", name);
-    const char *fault = host_add(asked->host, name, &terms);
-    return fault ? outcome(fault) : guest_answer(asked, host_find(asked->host, name));
-}
-
-static json_t *remove_guest(const struct asked *asked)
-{
-    const char *name = field_name(asked->fields, "name");
-    return host_find(asked->host, name) < 0 ? no_guest(name)
-                                            : outcome(host_remove(asked->host, name));
-}
-
-static json_t *upgrade(const struct asked *asked)
-{
-    return outcome(host_upgrade(asked->host));
-}
-
-static json_t *reload(const struct asked *asked)
-{
-    return outcome(service_reload(asked->control->service));
-}
-
-static json_t *renew(const struct asked *asked)
-{
-    const char *name = field_name(asked->fields, "name");
-    int number = host_find(asked->host, name);
-    if (number < 0)
-        return no_guest(name);
-    const char *fault = host_renew(asked->host, name);
-    return fault ? outcome(fault) : guest_answer(asked, number);
-}
-
-/* Sets a number of pages of the host's where the request has one, and answers what it is then. */
-static json_t *host_pages(const struct asked *asked, const char *name,
-                          const char *(*set)(struct host *, uint32_t))
-{
-    const char *fault = field_is_there(asked->fields, "bytes")
-                            ? set(asked->host, field_pages(asked->fields, "bytes"))
-                            : NULL;
-    struct host_view view;
-    host_see(asked->host, &view);
-    uint64_t pages = !strcmp(name, "budget") ? view.budget : view.floor;
-    return fault ? outcome(fault) : json_pack("{s:b, s:o}", "ok", 1, name, part_bytes(pages));
-}
-
-static json_t *budget(const struct asked *asked)
-{
-    if (field_is_there(asked->fields, "bytes") && field_pages(asked->fields, "bytes") == 0)
-        return request_refusal("bad-field", "bytes", "a budget of one page or more");
-    return host_pages(asked, "budget", host_set_budget);
-}
-
-static json_t *set_floor(const struct asked *asked)
-{
-    return host_pages(asked, "floor", host_set_floor);
 }
 
 static json_t *decisions(const struct asked *asked)
@@ -214,6 +57,7 @@ static json_t *follow(const struct asked *asked)
 }
 
 /* clang-format off */
+#define LASTS {"until_restart", FIELD_BOOLEAN, .effect = SHOWS}
 #define TERMS \
     {"least", FIELD_BYTES, .effect = CHANGES}, {"most", FIELD_LIMIT, .effect = CHANGES}, \
     {"strict", FIELD_BOOLEAN, .effect = CHANGES}, \
@@ -221,29 +65,27 @@ static json_t *follow(const struct asked *asked)
     {"weight", FIELD_NUMBER, .effect = CHANGES, .least = 1, .most = UINT32_MAX}, \
     {"overhead", FIELD_BYTES, .effect = CHANGES}, \
     {"limit", FIELD_KERNEL_LIMIT, .effect = CHANGES}, {"user", FIELD_USER, .effect = CHANGES}, \
-    {"memory", FIELD_LIMIT, .effect = CHANGES}, {"start", FIELD_LIMIT, .effect = CHANGES}
-/* clang-format on */
+    {"memory", FIELD_LIMIT, .effect = CHANGES}, {"start", FIELD_LIMIT, .effect = CHANGES}, LASTS
+#define NAMED {"name", FIELD_NAME, .needed = true}
 
 static const struct kind kinds[] = {
     {"status", SHOWS, status, {{0}}},
-    {"guest",
-     SHOWS,
-     guest,
-     {{"name", FIELD_NAME, .needed = true}, TERMS, {"target", FIELD_BYTES, .effect = CHANGES}}},
-    {"add", CHANGES, add, {{"name", FIELD_NAME, .needed = true}, TERMS}},
-    {"remove", CHANGES, remove_guest, {{"name", FIELD_NAME, .needed = true}}},
-    {"upgrade", CHANGES, upgrade, {{0}}},
-    {"reload", CHANGES, reload, {{0}}},
-    {"renew", CHANGES, renew, {{"name", FIELD_NAME, .needed = true}}},
-    {"budget", SHOWS, budget, {{"bytes", FIELD_BYTES, .effect = CHANGES}}},
-    {"floor", SHOWS, set_floor, {{"bytes", FIELD_BYTES, .effect = CHANGES}}},
-    {"log",
-     SHOWS,
-     decisions,
+    {"guest", SHOWS, answer_to_guest,
+     {NAMED, TERMS, {"target", FIELD_BYTES, .effect = CHANGES}}},
+    {"add", CHANGES, answer_to_add, {NAMED, TERMS}},
+    {"remove", CHANGES, answer_to_remove, {NAMED, LASTS}},
+    {"upgrade", CHANGES, answer_to_upgrade, {{0}}},
+    {"reload", CHANGES, answer_to_reload, {{0}}},
+    {"renew", CHANGES, answer_to_renew, {NAMED}},
+    {"budget", SHOWS, answer_to_budget, {{"bytes", FIELD_BYTES, .effect = CHANGES}, LASTS}},
+    {"floor", SHOWS, answer_to_floor, {{"bytes", FIELD_BYTES, .effect = CHANGES}, LASTS}},
+    {"config", SHOWS, answer_to_config, {{0}}},
+    {"log", SHOWS, decisions,
      {{"since", FIELD_NUMBER, .most = INT64_MAX},
       {"limit", FIELD_NUMBER, .least = 1, .most = MOST_DECISIONS_OF_ANSWER}}},
     {"events", SHOWS, follow, {{0}}},
 };
+/* clang-format on */
 
 /* Refuses what would change the host, at a socket where one may look alone; else NULL. */
 static json_t *change_refusal(const struct asked *asked, const struct kind *kind)

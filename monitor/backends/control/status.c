@@ -2,8 +2,11 @@
 
 #include "answers.h"
 #include "client.h"
+#include "differs.h"
+#include "parts.h"
 
 #include "../loop/loop.h"
+#include "../service/service.h"
 
 #include <stdlib.h>
 
@@ -22,8 +25,10 @@ static void make(struct control *control, const struct host *host)
     struct made_status *status = &control->status;
     double begin = loop_processor_seconds(), now = loop_seconds();
     size_t length;
-    json_t *object =
-        json_pack("{s:o, s:o}", "host", answer_host(control, host), "guests", answer_guests(host));
+    const struct service *service = control->service;
+    json_t *its = part_set(answer_host(control, host), "differs", answer_differs(service));
+    its = part_set(its, "state", json_pack("s?", service->changes.path));
+    json_t *object = json_pack("{s:o, s:o}", "host", its, "guests", answer_guests(host));
     free(status->text);
     status->text = client_text(object, NULL, &length);
     json_decref(object);

@@ -285,6 +285,9 @@ bool is_name(const char *name);
 /* The seat of this name, or NULL. */
 struct seat *seat_of(const struct host *host, const char *name);
 
+/* Why no seat of this name can be made; NULL: one can. */
+const char *seat_fault(const struct host *host, const char *name);
+
 /* Makes a seat, whose socket waits for its client, or takes over its process; NULL, or why it
  * can't. */
 const char *seat_add(struct host *host, const char *name, const struct guest_terms *terms);

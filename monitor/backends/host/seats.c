@@ -94,12 +94,18 @@ static bool name_seat(struct seat *seat, const char *name)
                     seat->host->channels, name) < MOST_PATH;
 }
 
-const char *seat_add(struct host *host, const char *name, const struct guest_terms *terms)
+const char *seat_fault(const struct host *host, const char *name)
 {
     if (!is_name(name) || seat_of(host, name))
         return "a name has 1 to 31 letters, digits, - and _, and no other guest has it";
-    if (host->count == MOST_GUESTS)
-        return "there are as many guests as can be";
+    return host->count == MOST_GUESTS ? "there are as many guests as can be" : NULL;
+}
+
+const char *seat_add(struct host *host, const char *name, const struct guest_terms *terms)
+{
+    const char *fault = seat_fault(host, name);
+    if (fault)
+        return fault;
     struct seat *seat = calloc(1, sizeof *seat);
     if (!seat)
         return strerror(ENOMEM);

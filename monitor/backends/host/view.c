@@ -190,9 +190,14 @@ const char *host_set_patience(struct host *host, uint32_t seconds)
     return NULL;
 }
 
+const char *host_budget_fault(const struct host *host, uint32_t pages)
+{
+    return host->lends.overdraft > pages ? above_budget : NULL;
+}
+
 const char *host_set_budget(struct host *host, uint32_t pages)
 {
-    if (host->lends.overdraft > pages)
+    if (host_budget_fault(host, pages))
         return above_budget;
     host->frames = pages;
     host_changed(host, BY_BUDGET);
@@ -246,6 +251,13 @@ const char *host_refuses(const struct host *host, const char *name, const struct
     if (!fault && needs_limit && terms->limit.kind == LIMIT_NONE)
         fault = "its limit stays until its balloon has what it started without";
     return fault ? fault : limit_refusal(host, name, terms);
+}
+
+const char *host_cannot_add(const struct host *host, const char *name,
+                            const struct guest_terms *terms)
+{
+    const char *fault = host_refuses(host, name, terms);
+    return fault ? fault : seat_fault(host, name);
 }
 
 const char *host_add(struct host *host, const char *name, const struct guest_terms *terms)

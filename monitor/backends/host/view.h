@@ -145,6 +145,10 @@ void host_set_step(struct host *host, uint32_t step);
 const char *host_add(struct host *host, const char *name, const struct guest_terms *terms);
 const char *host_remove(struct host *host, const char *name);
 const char *host_set_terms(struct host *host, const char *name, const struct guest_terms *terms);
+/* Why it can't be set, or added; NULL: it can, as far as nothing of the kernel's is missing. */
+const char *host_budget_fault(const struct host *host, uint32_t pages);
+const char *host_cannot_add(const struct host *host, const char *name,
+                            const struct guest_terms *terms);
 /* Why no guest can have these terms, and by which of them; NULL: one can. */
 const char *terms_fault(const struct guest_terms *terms, const char **term);
 /* Why a guest of this name, which there may be, can't have these terms; NULL: it can. */

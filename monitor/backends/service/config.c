@@ -12,8 +12,10 @@
 #include <stdlib.h>
 #include <string.h>
 
-/* Bytes of a line with its end, as the parser reads it; of a file; and of what is said of a name. */
+/* Bytes of a line with its end, as the parser reads it; of a file; of what is said of a name. */
 enum { MOST_LINE = 190, MOST_FILE = 1 << 20, MOST_SHOWN = 64 };
+
+const char changes_end[] = "# The end of what was changed.\n";
 
 /* A file that is being read. */
 struct reader {
@@ -24,7 +26,8 @@ struct reader {
     unsigned line; /* of the last line that was read */
     bool faulty;
     unsigned lines[CONFIG_KEYS]; /* that say the keys */
-    unsigned guest_lines[MOST_CONFIG_GUESTS][GUEST_KEYS];
+    unsigned guest_lines[MOST_CHANGED_GUESTS][GUEST_KEYS];
+    bool of_changes; /* of what was changed, in place of a configuration */
 };
 
 static bool fault_at(struct reader *reader, unsigned line, const char *key, const char *words)
@@ -43,18 +46,18 @@ static bool fault(struct reader *reader, const char *key, const char *words)
     return fault_at(reader, reader->line, key, words);
 }
 
-/* The guest of a section `guest NAME`, which may be new; NULL, which is said, where it is none. */
-static struct config_guest *guest_of(struct reader *reader, const char *section)
+struct config_guest *config_guest_of(struct config *config, const char *name)
 {
-    struct config *config = reader->config;
-    const char *name = section + strlen("guest ");
     for (unsigned i = 0; i < config->count; i++)
         if (!strcmp(config->guests[i].name, name))
             return &config->guests[i];
-    if (!word_is_name(name))
-        return fault(reader, section, "a guest's name has 1 to 31 letters, digits, - and _"), NULL;
-    if (config->count == MOST_CONFIG_GUESTS)
-        return fault(reader, section, "there are as many guests as can be"), NULL;
+    return NULL;
+}
+
+struct config_guest *config_new_guest(struct config *config, unsigned most, const char *name)
+{
+    if (config->count == most)
+        return NULL;
     struct config_guest *guest = &config->guests[config->count++];
     *guest = (struct config_guest){.terms = {.most = UINT32_MAX,
                                              .weight = 1,
@@ -65,6 +68,25 @@ static struct config_guest *guest_of(struct reader *reader, const char *section)
     strcpy(guest->name, name);
     return guest;
 }
+
+/* The guest of a section `guest NAME`, which may be new; NULL, which is said, where it is none. */
+static struct config_guest *guest_of(struct reader *reader, const char *section)
+{
+    const char *name = section + strlen("guest ");
+    struct config_guest *guest = config_guest_of(reader->config, name);
+    if (guest)
+        return guest;
+    if (!word_is_name(name))
+        return fault(reader, section, "a guest's name has 1 to 31 letters, digits, - and _"), NULL;
+    guest = config_new_guest(reader->config,
+                             reader->of_changes ? MOST_CHANGED_GUESTS : MOST_CONFIG_GUESTS, name);
+    if (!guest)
+        fault(reader, section, "there are as many guests as can be");
+    return guest;
+}
+
+/* What is said of a guest that was removed. */
+static const char removed_key[] = "removed";
 
 /* Takes the value of a key into what it belongs to, whose keys that were said are in `*says`, and
  * the lines that say them in `lines`. */
@@ -84,9 +106,14 @@ static void take_of_guest(struct reader *reader, const char *section, const char
                           const char *value)
 {
     int number = key_find(guest_keys, GUEST_KEYS, "guest", name);
-    struct config_guest *guest = number >= 0 ? guest_of(reader, section) : NULL;
-    if (number < 0)
+    bool removes = reader->of_changes && !strcmp(name, removed_key) && !strcmp(value, "yes");
+    struct config_guest *guest = number >= 0 || removes ? guest_of(reader, section) : NULL;
+    if (number < 0 && !removes)
         fault(reader, name, "this section has no such key");
+    if (guest && removes) {
+        guest->removed = true;
+        return;
+    }
     if (guest)
         keep(reader, guest_keys, (unsigned)number, guest, &guest->says,
              reader->guest_lines[guest - reader->config->guests], value);
@@ -100,7 +127,7 @@ static int take(void *context, const char *section, const char *name, const char
     int number = key_find(config_keys, CONFIG_KEYS, section, name);
     if (!strncmp(section, "guest ", strlen("guest ")))
         take_of_guest(reader, section, name, value);
-    else if (number < 0)
+    else if (number < 0 || (reader->of_changes && !key_can_change((unsigned)number)))
         fault(reader, name,
               *section ? "this section has no such key" : "a key comes after its section");
     else
@@ -224,7 +251,8 @@ static void parse(struct reader *reader)
         reader->line = (unsigned)line;
         fault(reader, "", "neither a section, nor a key with its value, nor a comment");
     }
-    check(reader);
+    if (!reader->of_changes)
+        check(reader);
 }
 
 bool config_read(const char *path, struct config *config)
@@ -240,6 +268,18 @@ bool config_read(const char *path, struct config *config)
     else
         parse(&reader);
     free(bytes);
+    return !reader.faulty;
+}
+
+bool changes_parse(const char *path, const char *bytes, size_t length, struct config *config)
+{
+    size_t end = strlen(changes_end);
+    struct reader reader = {
+        .path = path, .config = config, .next = bytes, .left = length, .of_changes = true};
+    *config = config_empty();
+    if (length < end || memcmp(bytes + length - end, changes_end, end) != 0)
+        return say_fault("%s: its end is missing", path);
+    parse(&reader);
     return !reader.faulty;
 }
 

@@ -5,14 +5,21 @@
 #include "../control/control.h"
 #include "../host/view.h"
 
-/* Guests that a file names; bytes of a word with its end. */
-enum { MOST_CONFIG_GUESTS = 64, MOST_CONFIG_NAME = 32, MOST_CONFIG_WORD = 128 };
+/* Guests that a file names, and of which something was changed, also those that were removed; bytes
+ * of a word with its end. */
+enum {
+    MOST_CONFIG_GUESTS = 64,
+    MOST_CHANGED_GUESTS = 2 * MOST_CONFIG_GUESTS,
+    MOST_CONFIG_NAME = 32,
+    MOST_CONFIG_WORD = 128
+};
 
 /* A guest of the file. */
 struct config_guest {
     char name[MOST_CONFIG_NAME];
     struct guest_terms terms;
     uint32_t says; /* a bit for each of its keys that the file says */
+    bool removed;  /* of changes: it is none of the host's any longer */
 };
 
 /* A control socket. */
@@ -41,7 +48,7 @@ struct config {
                        not said */
     uint32_t says;  /* a bit for each key that the file says, as config_keys.h numbers them */
     unsigned count;
-    struct config_guest guests[MOST_CONFIG_GUESTS];
+    struct config_guest guests[MOST_CHANGED_GUESTS];
 };
 
 /* A configuration that says nothing. */
@@ -50,6 +57,19 @@ struct config config_empty(void);
 /* Reads a file into a configuration; false where it can't be read or says something wrong, and each
  * fault is a line of say_fault(): the file, the line, the key and what should be there. */
 bool config_read(const char *path, struct config *config);
+
+/* The last line of what was changed: it shows that nothing of it was cut off. */
+extern const char changes_end[];
+
+/* Reads what was changed, of a file's bytes: whole, with its end, and with nothing in it that can't be
+ * changed; false as above, by the path. */
+bool changes_parse(const char *path, const char *bytes, size_t length, struct config *config);
+
+/* The guest of this name; NULL: there is none. */
+struct config_guest *config_guest_of(struct config *config, const char *name);
+
+/* A guest of which nothing was said yet but its name; NULL: there are as many as can be. */
+struct config_guest *config_new_guest(struct config *config, unsigned most, const char *name);
 
 /* Whether two configurations agree in what stays; else the first key that differs is in `*key`,
  * with its section. */

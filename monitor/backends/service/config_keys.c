@@ -47,23 +47,40 @@ int key_find(const struct key *table, unsigned count, const char *section, const
     return -1;
 }
 
+bool key_can_change(unsigned number)
+{
+    return number == KEY_BUDGET || number == KEY_FLOOR;
+}
+
 void *key_value(const struct key *key, void *whole)
 {
     return (char *)whole + key->at;
 }
 
-bool key_is_same(const struct key *key, const void *one, const void *other)
+/* Bytes of a value. */
+static size_t size_of(const struct key *key)
 {
-    const char *its = (const char *)one + key->at, *others = (const char *)other + key->at;
     switch (key->kind) {
     case WORD_PATH:
     case WORD_GROUP:
-        return !strcmp(its, others);
+        return MOST_CONFIG_WORD;
     case WORD_LIMIT:
-        return !memcmp(its, others, sizeof(struct guest_limit));
+        return sizeof(struct guest_limit);
     case WORD_BOOLEAN:
-        return *(const bool *)its == *(const bool *)others;
+        return sizeof(bool);
     default:
-        return !memcmp(its, others, sizeof(uint32_t));
+        return sizeof(uint32_t);
     }
+}
+
+void key_copy(const struct key *key, void *to, const void *from)
+{
+    memcpy((char *)to + key->at, (const char *)from + key->at, size_of(key));
+}
+
+bool key_is_same(const struct key *key, const void *one, const void *other)
+{
+    const char *its = (const char *)one + key->at, *others = (const char *)other + key->at;
+    bool is_text = key->kind == WORD_PATH || key->kind == WORD_GROUP;
+    return is_text ? !strcmp(its, others) : !memcmp(its, others, size_of(key));
 }

@@ -49,11 +49,17 @@ struct key {
 
 extern const struct key config_keys[CONFIG_KEYS], guest_keys[GUEST_KEYS];
 
+/* Whether a request changes the host by this key. */
+bool key_can_change(unsigned number);
+
 /* The number of the key of this name in a table of `count`; -1: there is none. */
 int key_find(const struct key *table, unsigned count, const char *section, const char *name);
 
 /* Where its value is in what it belongs to. */
 void *key_value(const struct key *key, void *whole);
+
+/* Takes its value from another one. */
+void key_copy(const struct key *key, void *to, const void *from);
 
 /* Whether its values in two of what it belongs to are the same. */
 bool key_is_same(const struct key *key, const void *one, const void *other);

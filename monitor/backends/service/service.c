@@ -1,7 +1,8 @@
 #define _GNU_SOURCE
 #include "service.h"
 
-#include "config_keys.h"
+#include "apply.h"
+#include "config_text.h"
 #include "notify.h"
 
 #include "../guest/levels.h"
@@ -100,80 +101,6 @@ bool read_log_level(const char *word, void *at)
     return read;
 }
 
-/* Whether guests are strict of which a configuration says nothing. */
-static bool usually_strict(const struct config *config, const struct host *host)
-{
-    return config_says(config->says, KEY_STRICT) ? config->strict : host_usual_terms(host).strict;
-}
-
-/* The terms of a guest of a configuration. */
-static struct guest_terms terms_of(const struct config_guest *guest, bool strict)
-{
-    struct guest_terms terms = guest->terms;
-    if (!config_says(guest->says, TERM_STRICT))
-        terms.strict = strict;
-    return terms;
-}
-
-/* Adds the guests of the file that the host hasn't, and gives the others their terms. A guest that
- * the file doesn't name stays. */
-static bool apply_guests(const char *file, const struct config *config, struct host *host)
-{
-    bool good = true, strict = host_usual_terms(host).strict;
-    for (unsigned i = 0; i < config->count; i++) {
-        const struct config_guest *guest = &config->guests[i];
-        struct guest_terms terms = terms_of(guest, strict);
-        const char *fault = host_find(host, guest->name) < 0
-                                ? host_add(host, guest->name, &terms)
-                                : host_set_terms(host, guest->name, &terms);
-        if (fault)
-            say_fault("%s: guest %s: %s", file, guest->name, fault);
-        good &= !fault;
-    }
-    return good;
-}
-
-/* Whether the host takes the terms of all guests of a file; else says which it doesn't. */
-static bool guests_fit(const char *file, const struct config *config, const struct host *host)
-{
-    bool good = true, strict = usually_strict(config, host);
-    for (unsigned i = 0; i < config->count; i++) {
-        const struct config_guest *guest = &config->guests[i];
-        struct guest_terms terms = terms_of(guest, strict);
-        const char *fault = host_refuses(host, guest->name, &terms);
-        if (fault)
-            say_fault("%s: guest %s: %s", file, guest->name, fault);
-        good &= !fault;
-    }
-    return good;
-}
-
-/* Sets what a configuration says of the host's frames. */
-static void set_sizes(const char *file, struct host *host, const struct config *config)
-{
-    const char *fault = NULL;
-    if (config->overdraft != UINT32_MAX)
-        host_set_overdraft(host, 0);
-    if (config->budget != UINT32_MAX)
-        fault = host_set_budget(host, config->budget);
-    if (config->overdraft != UINT32_MAX && !fault)
-        fault = host_set_overdraft(host, config->overdraft);
-    if (config->floor != UINT32_MAX)
-        host_set_floor(host, config->floor);
-    if (config->patience != UINT32_MAX)
-        host_set_patience(host, config->patience);
-    if (config_says(config->says, KEY_STRICT))
-        host_set_strict(host, config->strict);
-    if (config->on_short[0])
-        host->on_short = config->on_short;
-    if (config->reserve != UINT32_MAX)
-        host_set_reserve(host, config->reserve);
-    if (config->step != UINT32_MAX)
-        host_set_step(host, config->step);
-    if (fault)
-        say_fault("%s: %s", file, fault);
-}
-
 /* The first fault that is said while the configuration is read. */
 static char first_fault[MOST_FAULT];
 
@@ -193,7 +120,10 @@ static void keep_first(enum saying saying, const char *words)
 static bool can_replace(const struct service *service, const struct config *config)
 {
     const char *section, *key;
-    if (!guests_fit(service->file, config, service->host))
+    static struct config whole;
+    whole = *config;
+    changes_put_over(&service->changes, &whole);
+    if (!apply_fits(service->file, &whole, service->host))
         return false;
     return config_stays(&service->config, config, &section, &key) ||
            say_fault("%s: %s of [%s] can't change while the host runs: the old configuration stays",
@@ -202,15 +132,16 @@ static bool can_replace(const struct service *service, const struct config *conf
 
 static void take_again(struct service *service)
 {
-    static struct config config;
+    static struct config config, whole;
     if (!config_read(service->file, &config) || !can_replace(service, &config)) {
         say_fault("%s: the old configuration stays", service->file);
         return;
     }
-    service->config = config;
+    service->config = whole = config;
     take_config(service);
-    set_sizes(service->file, service->host, &service->config);
-    apply_guests(service->file, &config, service->host);
+    changes_put_over(&service->changes, &whole);
+    apply_sizes(service->file, service->host, &whole);
+    apply_guests(service->file, &whole, &config, service->host);
     say_news("%s: read anew", service->file);
 }
 
@@ -242,8 +173,12 @@ static bool is_enough(const char *file, const struct config *config, const struc
 bool service_check(const struct service *service, const struct host *host)
 {
     static struct config config;
-    return config_read(service->checks, &config) && is_enough(service->checks, &config, host) &&
-           guests_fit(service->checks, &config, host);
+    static struct changes changes;
+    if (!config_read(service->checks, &config))
+        return false;
+    changes_open(&changes, service->state, false);
+    changes_put_over(&changes, &config);
+    return is_enough(service->checks, &config, host) && apply_fits(service->checks, &config, host);
 }
 
 /* A word for the service manager. */
@@ -318,6 +253,50 @@ static bool find_socket(struct service *service, enum control_rights rights, con
     return true;
 }
 
+/* The configuration with what was changed. */
+static const struct config *whole(const struct service *service)
+{
+    static struct config all;
+    all = service->config;
+    changes_put_over(&service->changes, &all);
+    return &all;
+}
+
+void service_see(const struct service *service, struct config *seen)
+{
+    struct config *all = seen;
+    const struct config *said = whole(service);
+    apply_see(service->host, all);
+    for (unsigned i = 0; i < CONTROL_SOCKETS; i++) {
+        struct config_socket *its = &all->fixed.sockets[i];
+        *its = said->fixed.sockets[i];
+        snprintf(its->path, sizeof its->path, "%s", service->paths[i]);
+        its->mode = service->sockets[i].mode;
+    }
+    all->lines = most_lines;
+    all->level = said->level != UINT32_MAX ? said->level : LEVEL_INFO;
+    all->says |= UINT32_C(1) << KEY_CONTROL_SOCKET | UINT32_C(1) << KEY_CONTROL_MODE |
+                 UINT32_C(1) << KEY_STATUS_SOCKET | UINT32_C(1) << KEY_STATUS_MODE |
+                 UINT32_C(1) << KEY_LEVEL | UINT32_C(1) << KEY_LINES | said->says;
+}
+
+char *service_text(const struct service *service)
+{
+    static struct config seen;
+    service_see(service, &seen);
+    return config_text(&seen);
+}
+
+void service_recall(struct service *service, struct host *host)
+{
+    changes_open(&service->changes, service->state, true);
+    const struct config *lasting = &service->changes.lasting;
+    if (config_says(lasting->says, KEY_BUDGET))
+        host->frames = lasting->budget;
+    if (config_says(lasting->says, KEY_FLOOR))
+        host->floor = lasting->floor;
+}
+
 bool service_begin(struct service *service, struct host *host, const char *folder)
 {
     for (unsigned i = 0; i < CONTROL_SOCKETS; i++)
@@ -326,7 +305,7 @@ bool service_begin(struct service *service, struct host *host, const char *folde
     service->hangup = service->file ? process_reload() : -1;
     if ((service->file && service->hangup < 0) ||
         !control_open(&service->control, service->sockets) ||
-        !apply_guests(service->file, &service->config, host))
+        !apply_guests(service->file, whole(service), &service->config, host))
         return false;
     for (unsigned i = 0; i < CONTROL_SOCKETS; i++)
         notify_keep(control_socket_word(i), service->control.sockets[i].listener);

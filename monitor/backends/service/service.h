@@ -2,14 +2,16 @@
  * manager is told. */
 #ifndef SERVICE_H
 #define SERVICE_H
-#include "config.h"
+#include "changes.h"
 
 #include "../control/control.h"
 
 struct service {
-    const char *file;   /* of the configuration; NULL: none */
-    const char *checks; /* a file that is to be checked alone; NULL: none */
-    struct config config;
+    const char *file;     /* of the configuration; NULL: none */
+    const char *state;    /* the folder of what was changed; NULL: none */
+    const char *checks;   /* a file that is to be checked alone; NULL: none */
+    struct config config; /* what the file says */
+    struct changes changes;
     struct host *host;
     struct control control;
     struct control_options sockets[CONTROL_SOCKETS];
@@ -31,6 +33,7 @@ struct service {
     }
 #define SERVICE_OPTIONS(its)                                                                       \
     {"config", .read = read_config, .at = (its)},                                                  \
+        {"state", .read = read_word, .at = &(its)->state},                                         \
         {"check", .read = read_word, .at = &(its)->checks},                                        \
         SOCKET_OPTIONS(its, MAY_CHANGE, "control"), SOCKET_OPTIONS(its, MAY_LOOK, "status"),       \
     {                                                                                              \
@@ -46,12 +49,22 @@ bool read_log_level(const char *word, void *at);
 /* As no option was read yet. */
 void service_defaults(struct service *service);
 
+/* Takes what was changed of the host, before all that was said of it. */
+void service_recall(struct service *service, struct host *host);
+
 /* Whether a host could start by the file that is to be checked, where its folder and its budget are
  * said before; else each fault is said. */
 bool service_check(const struct service *service, const struct host *host);
 
 /* Reads the configuration again; NULL, or the first fault: then the old one stays. Each is said. */
 const char *service_reload(struct service *service);
+
+/* What there is just now, in a configuration that says all of it. */
+void service_see(const struct service *service, struct config *seen);
+
+/* All that is so just now, as a configuration file; what is to be freed, NULL where there is no
+ * memory. */
+char *service_text(const struct service *service);
 
 /* Opens the control sockets of a host whose folder this is, adds the guests of the configuration,
  * and takes part in the host's loop; false where it can't, which is said. Then the service manager

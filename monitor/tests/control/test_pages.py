@@ -164,6 +164,7 @@ COMPLETIONS = (
             "remove",
             "budget",
             "floor",
+            "config",
             "log",
             "watch",
             "metrics",

@@ -290,7 +290,7 @@ def test_what_the_units_start():
         (
             (
                 "/usr/bin/vhost_user_host --leave --status /run/bigvasta-status/socket --config "
-                "/etc/bigvasta/host.conf"
+                "/etc/bigvasta/host.conf --state /var/lib/bigvasta"
             ),
             "/usr/bin/bigvasta metrics --listen localhost:9750",
         ),

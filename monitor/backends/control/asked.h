@@ -1,0 +1,26 @@
+/* A request whose fields are right, and the answers to those that change the host. */
+#ifndef CONTROL_ASKED_H
+#define CONTROL_ASKED_H
+#include "client.h"
+
+#include "../host/view.h"
+
+struct asked {
+    struct control *control;
+    struct control_client *client;
+    struct host *host;
+    const json_t *fields;
+};
+
+/* What each of these requests does, and is answered. */
+json_t *answer_to_guest(const struct asked *asked);
+json_t *answer_to_add(const struct asked *asked);
+json_t *answer_to_remove(const struct asked *asked);
+json_t *answer_to_budget(const struct asked *asked);
+json_t *answer_to_floor(const struct asked *asked);
+json_t *answer_to_upgrade(const struct asked *asked);
+json_t *answer_to_reload(const struct asked *asked);
+json_t *answer_to_renew(const struct asked *asked);
+json_t *answer_to_config(const struct asked *asked);
+
+#endif

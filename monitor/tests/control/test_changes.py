@@ -1,0 +1,367 @@
+"""What is changed of a host lasts: a file in a folder of its own has it, beside the configuration
+file, and both are one whole after a restart and after a reload."""
+
+import os
+import shutil
+import signal
+import subprocess
+
+import pytest
+from bigvasta.statuses import Refused
+from hosts import Host, Raw, say
+from installed import bigvasta
+from waiting import PATIENCE, eventually, patience_from_now
+
+MIB = 1 << 20
+
+FILE = """[host]
+folder = {folder}
+budget = 480M
+
+[guest web-1]
+most = 100M
+
+[guest web-2]
+"""
+
+
+class Kept:
+    """A host whose changes last in a folder."""
+
+    def __init__(self, program, folder):
+        self.program, self.folder = program, folder
+        self.state, self.file = folder / "state", folder / "host.conf"
+        self.state.mkdir(mode=0o700)
+        self.file.write_text(FILE.format(folder=folder))
+        self.changes = self.state / "changes.conf"
+        self.host = None
+
+    def start(self, *words):
+        """Starts it; returns the host."""
+        options = ("--config", str(self.file), "--state", str(self.state))
+        self.host = Host(self.program, self.folder, *options, *words)
+        assert self.host.lines.next(patience_from_now()) == "ready", self.host.said()
+        return self.host
+
+    def again(self):
+        """Ends it with all that a reboot would take, and starts it."""
+        assert self.host.end() == 0
+        for path in self.folder.iterdir():
+            if path.name.startswith((".", "=")):
+                path.unlink() if path.is_symlink() or not path.is_dir() else shutil.rmtree(path)
+        return self.start()
+
+
+@pytest.fixture
+def kept(program, folder):
+    it = Kept(program, folder)
+    it.start()
+    yield it
+    assert it.host.end() == 0, it.host.said()
+
+
+def terms(host):
+    """Returns the terms of each guest, by its name."""
+    return {it["name"]: it["terms"] for it in host.ask("status")["guests"]}
+
+
+def changed(host):
+    """Changes one of each, and says what there is then."""
+    assert host.ask("budget", bytes=300 * MIB)["lasts"]
+    assert host.ask("floor", bytes=0)["lasts"]
+    assert host.ask("guest", name="web-1", most=None, weight=3, priority=0xFFFFFFFF)["lasts"]
+    assert host.ask("guest", name="web-2", least=4096, user=0, limit=None)["lasts"]
+    assert host.ask("add", name="new", strict=True, memory=0, overhead=12288)["lasts"]
+    assert host.ask("add", name="gone")["lasts"]
+    assert host.ask("remove", name="gone")["lasts"]
+    return host.status()["budget"], host.status()["floor"], terms(host)
+
+
+def test_what_is_changed_is_there_after_a_restart_and_a_reload(kept):
+    wanted = changed(kept.host)
+    assert wanted[0] == 300 * MIB and wanted[1] == 0 and set(wanted[2]) == {"web-1", "web-2", "new"}
+    assert (wanted[2]["web-1"]["most"], wanted[2]["web-2"]["least"]) == (None, 4096)
+    host = kept.again()
+    assert (host.status()["budget"], host.status()["floor"], terms(host)) == wanted
+    assert host.ask("reload")["ok"]
+    assert (host.status()["budget"], host.status()["floor"], terms(host)) == wanted
+    host.process.send_signal(signal.SIGHUP)
+    eventually(lambda: len([it for it in host.said() if it.endswith("read anew")]) == 2)
+    assert (host.status()["budget"], host.status()["floor"], terms(host)) == wanted
+
+
+def test_a_guest_of_the_file_that_is_removed_stays_so(kept):
+    assert kept.host.ask("remove", name="web-1")["lasts"]
+    assert set(terms(kept.again())) == {"web-2"}
+    assert kept.host.ask("reload")["ok"] and set(terms(kept.host)) == {"web-2"}
+    # Who adds it again has it as they say, not as the file does.
+    assert kept.host.ask("add", name="web-1", least=MIB)["guest"]["terms"]["most"] is None
+    wanted = terms(kept.host)
+    assert terms(kept.again()) == wanted and wanted["web-1"]["most"] is None
+
+
+def test_what_is_changed_until_a_restart(kept):
+    before = kept.host.status()["budget"], terms(kept.host)
+    until = {"until_restart": True}
+    assert kept.host.ask("budget", bytes=100 * MIB, **until)["lasts"] is False
+    assert kept.host.ask("guest", name="web-1", most=MIB, **until)["lasts"] is False
+    assert kept.host.ask("remove", name="web-2", **until)["lasts"] is False
+    assert kept.host.ask("add", name="new", **until)["lasts"] is False
+    wanted = kept.host.status()["budget"], terms(kept.host)
+    assert wanted[0] == 100 * MIB and set(wanted[1]) == {"web-1", "new"}
+    assert not kept.changes.exists()
+    # A reload is no restart.
+    assert kept.host.ask("reload")["ok"]
+    assert (kept.host.status()["budget"], terms(kept.host)) == wanted
+    host = kept.again()
+    assert (host.status()["budget"], terms(host)) == before
+
+
+def test_what_lasts_takes_the_place_of_what_does_not(kept):
+    kept.host.ask("budget", bytes=100 * MIB, until_restart=True)
+    kept.host.ask("budget", bytes=200 * MIB)
+    assert kept.host.ask("reload")["ok"]
+    assert kept.host.status()["budget"] == 200 * MIB
+    assert kept.again().status()["budget"] == 200 * MIB
+
+
+def test_what_is_changed_back_is_as_the_file_says_from_then_on(kept):
+    kept.host.ask("budget", bytes=300 * MIB)
+    kept.host.ask("guest", name="web-1", most=MIB, weight=2)
+    kept.host.ask("budget", bytes=480 * MIB)
+    kept.host.ask("guest", name="web-1", most=100 * MIB)
+    kept.file.write_text(kept.file.read_text().replace("480M", "240M").replace("100M", "50M"))
+    assert kept.host.ask("reload")["ok"]
+    assert kept.host.status()["budget"] == 240 * MIB
+    its = terms(kept.host)["web-1"]
+    assert (its["most"], its["weight"]) == (50 * MIB, 2)
+
+
+def test_where_file_and_change_differ_is_shown(kept):
+    assert kept.host.status()["differs"] == []
+    kept.host.ask("budget", bytes=300 * MIB)
+    kept.host.ask("guest", name="web-1", most=MIB, until_restart=True)
+    kept.host.ask("remove", name="web-2")
+    kept.host.ask("floor", bytes=MIB)  # of which the file says nothing
+    assert kept.host.status()["differs"] == [
+        {"guest": None, "key": "budget", "file": "480M", "now": "300M", "lasts": True},
+        {"guest": "web-1", "key": "most", "file": "100M", "now": "1M", "lasts": False},
+        {"guest": "web-2", "key": "removed", "file": "no", "now": "yes", "lasts": True},
+    ]
+    lines = bigvasta(kept.host.control, "status").stdout.splitlines()
+    assert lines[-3:] == [
+        "budget is 300M, and 480M in the file",
+        "web-1: most is 1M until the host restarts, and 100M in the file",
+        "web-2: removed is yes, and no in the file",
+    ]
+    kept.host.ask("budget", bytes=480 * MIB)
+    assert len(kept.host.status()["differs"]) == 2
+
+
+def test_all_of_it_as_a_file(kept, program):
+    """A host that starts by what `bigvasta config` prints is the same."""
+    changed(kept.host)
+    text = kept.host.ask("config")["config"]
+    ran = bigvasta(kept.host.control, "config")
+    assert (ran.returncode, ran.stdout, ran.stderr) == (0, text, "")
+    seen = {k: v for k, v in kept.host.status().items() if k in ("budget", "floor", "reserve")}
+    wanted = terms(kept.host)
+    assert kept.host.end() == 0
+    shutil.rmtree(kept.state)
+    (kept.folder / "other.conf").write_text(text)
+    host = kept.host = Host(program, kept.folder, "--config", f"{kept.folder}/other.conf")
+    assert host.lines.next(patience_from_now()) == "ready"
+    assert {k: host.status()[k] for k in seen} == seen and terms(host) == wanted
+    assert host.ask("config")["config"] == text
+
+
+def test_a_host_without_a_folder_says_so(host):
+    assert host.ask("budget", bytes=300 * MIB)["lasts"] is False
+    assert host.ask("add", name="a")["lasts"] is False
+    assert "lasts" not in host.ask("guest", name="a") and "lasts" not in host.ask("budget")
+
+
+def test_a_change_that_cannot_be_written_is_not_made(kept):
+    kept.host.ask("budget", bytes=300 * MIB)
+    before = kept.host.status()["budget"], terms(kept.host)
+    shutil.rmtree(kept.state)
+    for request in (
+        {"request": "budget", "bytes": MIB},
+        {"request": "guest", "name": "web-1", "most": MIB},
+        {"request": "add", "name": "new"},
+        {"request": "remove", "name": "web-1"},
+    ):
+        with pytest.raises(Refused, match="it can't be kept: No such file .* --until-restart"):
+            kept.host.ask(**request)
+    assert (kept.host.status()["budget"], terms(kept.host)) == before
+    assert kept.host.ask("budget", bytes=MIB, until_restart=True)["budget"] == MIB
+
+
+def test_a_change_that_the_host_refuses_is_not_kept(kept):
+    kept.host.ask("budget", bytes=300 * MIB)
+    text = kept.changes.read_text()
+    (kept.folder / "taken").write_text("where its socket would be")
+    for request in (
+        {"request": "guest", "name": "web-1", "least": 200 * MIB},
+        {"request": "guest", "name": "web-1", "weight": 2, "target": 0},
+        {"request": "add", "name": "a" * 500},
+        {"request": "add", "name": "\u00e9"},
+        {"request": "add", "name": "a", "start": MIB},
+        {"request": "add", "name": "taken"},
+    ):
+        with pytest.raises(Refused):
+            kept.host.ask(**request)
+    raw = Raw(kept.host.control)
+    for limit in ("tmpfs:/a\nbudget = 1T", "cgroup:/a ; b", "cgroup:/\x1b"):
+        assert not raw.answer(say(request="add", name="a", strict=True, limit=limit))["ok"]
+    raw.close()
+    assert kept.changes.read_text() == text
+
+
+def spoiled(kept, bytes_):
+    """Puts other bytes in the place of what was changed, and starts the host."""
+    kept.host.ask("budget", bytes=300 * MIB)
+    kept.host.ask("add", name="new")
+    kept.host.end()
+    text = kept.changes.read_bytes()
+    kept.changes.write_bytes(bytes_(text))
+    kept.host = None
+    return kept.start()
+
+
+DAMAGED = {
+    "cut": (lambda text: text[:-5], "its end is missing"),
+    "empty": (lambda text: b"", "its end is missing"),
+    "zeros": (lambda text: bytes(len(text)), "its end is missing"),
+    "half": (lambda text: text[: len(text) // 2], "its end is missing"),
+    "other-key": (lambda text: text.replace(b"budget", b"overdraft"), "line 3: overdraft"),
+    "twice": (lambda text: text.replace(b"budget = 300M\n", b"budget = 300M\n" * 2), "said twice"),
+    "name": (lambda text: text.replace(b"guest new", b"guest \xff"), "a guest's name"),
+    "digits": (lambda text: text.replace(b"300M", b"9" * 40 + b"M"), "line 3: budget"),
+    "zero": (lambda text: text.replace(b"300M", b"0M"), "line 3: budget"),
+    "large": (lambda text: text + b"#" * (1 << 20), "no file of 256 KiB at most"),
+}
+
+
+@pytest.mark.parametrize("name", DAMAGED)
+def test_what_is_damaged_is_named_and_harms_nothing(kept, name):
+    spoil, words = DAMAGED[name]
+    host = spoiled(kept, spoil)
+    assert host.status()["budget"] == 480 * MIB and set(terms(host)) == {"web-1", "web-2"}
+    said = [it for it in host.said() if str(kept.changes) in it]
+    assert said and any(words in it for it in said), said
+    # It stays as it is, so that somebody may mend it, and no change is lost in it.
+    text = kept.changes.read_bytes()
+    with pytest.raises(Refused, match="changes.conf: .*--until-restart"):
+        host.ask("budget", bytes=MIB)
+    assert host.ask("budget", bytes=MIB, until_restart=True)["lasts"] is False
+    assert kept.changes.read_bytes() == text
+
+
+def of_another_user(kept):
+    os.chown(kept.changes, 65534, -1)
+
+
+def that_others_may_write(kept):
+    kept.changes.chmod(0o666)
+
+
+def a_link(kept):
+    os.rename(kept.changes, kept.folder / "elsewhere")
+    os.symlink(kept.folder / "elsewhere", kept.changes)
+
+
+def a_pipe(kept):
+    kept.changes.unlink()
+    os.mkfifo(kept.changes, 0o600)
+
+
+def a_folder(kept):
+    kept.changes.unlink()
+    kept.changes.mkdir(mode=0o700)
+
+
+def a_folder_of_another_user(kept):
+    os.chown(kept.state, 65534, -1)
+
+
+def a_folder_that_others_may_write(kept):
+    kept.state.chmod(0o777)
+
+
+def no_folder(kept):
+    shutil.rmtree(kept.state)
+
+
+@pytest.mark.parametrize(
+    "spoil",
+    (
+        of_another_user,
+        that_others_may_write,
+        a_link,
+        a_pipe,
+        a_folder,
+        a_folder_of_another_user,
+        a_folder_that_others_may_write,
+        no_folder,
+    ),
+)
+def test_what_is_not_the_hosts_is_not_taken(kept, spoil):
+    if os.geteuid():
+        pytest.skip("this isn't root")
+    kept.host.ask("budget", bytes=300 * MIB)
+    kept.host.end()
+    spoil(kept)
+    host = kept.start()
+    assert host.status()["budget"] == 480 * MIB
+    assert any(str(kept.state) in it and "no change is kept" in it for it in host.said())
+    with pytest.raises(Refused, match="it can't be kept"):
+        host.ask("budget", bytes=MIB)
+
+
+def test_two_hosts_do_not_share_a_folder(kept, program, folder):
+    other = folder / "other"
+    other.mkdir()
+    words = (str(other), "--budget", "100", "--state", str(kept.state))
+    host = Host(program, other, *words)
+    assert host.lines.next(patience_from_now()) == "ready"
+    assert any("it is another host's" in it for it in host.said())
+    assert host.end() == 0
+
+
+def test_a_kill_at_any_moment_leaves_the_old_or_the_new(kept):
+    """Each change is whole in the file, or isn't there."""
+    kept.host.ask("budget", bytes=300 * MIB)
+    for number in range(8):
+        raw = Raw(kept.host.control)
+        for it in range(40):
+            raw.socket.sendall(say(request="add", name=f"g{number}-{it}") + b"\n")
+        [raw.lines.readline() for _ in range(number)]
+        kept.host.process.kill()
+        kept.host.process.wait()
+        raw.close()
+        kept.host.end()
+        for path in kept.folder.iterdir():
+            if path.name.startswith("="):
+                path.unlink()
+        shutil.rmtree(kept.folder / ".channels")
+        host = kept.start()
+        assert not [it for it in host.said() if "no change is kept" in it]
+        assert host.status()["budget"] == 300 * MIB
+        for name in set(terms(host)) - {"web-1", "web-2"}:
+            host.ask("remove", name=name)
+
+
+def test_a_check_looks_at_the_whole(kept):
+    kept.host.ask("budget", bytes=3 * MIB)
+    file = kept.folder / "next.conf"
+    file.write_text(kept.file.read_text().replace("480M", "480M\noverdraft = 4M"))
+    for words, status in ((("--state", str(kept.state)), 1), ((), 0)):
+        ran = subprocess.run(
+            [kept.program, *words, "--check", str(file)], capture_output=True, timeout=PATIENCE
+        )
+        assert ran.returncode == status, ran
+    kept.file.write_text(file.read_text())
+    with pytest.raises(Refused, match="overdraft: more than the budget that was set"):
+        kept.host.ask("reload")
+    assert kept.host.status()["overdraft"] == 0
