@@ -40,7 +40,7 @@ has_stalled before sampled = has_risen before.swap_in sampled.swap_in
     || has_risen before.direct_scan sampled.direct_scan
     || has_risen before.direct_reclaim sampled.direct_reclaim
 
--- A process was killed for want of memory.
+-- A process was killed for lack of memory.
 abbrev pub has_killed : Counters → Counters → Bool
 has_killed before sampled = has_risen before.oom_kills sampled.oom_kills
 

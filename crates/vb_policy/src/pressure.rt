@@ -45,7 +45,7 @@ pub struct Counters {
     pub swap_in: Counter,
     /// Memory that was swapped out.
     pub swap_out: Counter,
-    /// Processes that were killed for want of memory.
+    /// Processes that were killed for lack of memory.
     pub oom_kills: Counter,
     /// Allocations that waited until memory was reclaimed.
     pub stalls: Counter,
@@ -67,7 +67,7 @@ impl Counters {
             || self.direct_reclaim.has_risen(&sampled.direct_reclaim)
     }
 
-    /// Whether a process was killed for want of memory.
+    /// Whether a process was killed for lack of memory.
     fn has_killed(&self, sampled: &Counters) -> bool
         ensures { result ≡ has_killed self.now sampled.now }
     {
