@@ -47,6 +47,11 @@
 #include <sys/un.h>
 #include <unistd.h>
 
+/* The client's next message, as far as it is there; and the pages in its guest's balloon. */
+static struct inbox inbox;
+static uint64_t set[MOST_SET / 64];
+static struct marks marks = {.set = set};
+
 /* Removes the socket of an earlier backend, and nothing else. */
 static void remove_socket(const char *path)
 {
@@ -100,7 +105,6 @@ static void accept_client(struct backend *backend)
  * it can't be served any longer. */
 static int serve(struct backend *backend)
 {
-    static struct inbox inbox;
     if (backend->socket < 0)
         return accept_client(backend), 1;
     enum stream_state state = inbox_read(backend->socket, &inbox);
@@ -119,8 +123,6 @@ static int serve(struct backend *backend)
  * for one. */
 static bool admit(struct backend *backend)
 {
-    static uint64_t set[MOST_SET / 64];
-    static struct marks marks = {.set = set};
     if (!marks_follow(backend, &marks,
                       backend->balloon.state.device.settings.memory_end / BALLOON_PAGE))
         backend->balloon.ballooned = NULL;

@@ -227,16 +227,24 @@ static int go_on(void *what)
     return inbox_is_whole(&lent->kept->inbox) ? serve_client(lent) : 1;
 }
 
-static bool begin(struct lent *lent, const struct options *options, struct kept *kept)
+/* Makes the process of what its client hasn't said anything to; false where it can't, which is
+ * said. */
+static bool prepare(struct lent *lent, const struct options *options, struct kept *kept)
 {
-    const struct notes *notes = &kept_state(kept)->notes;
     lent->kept = kept;
     if (!backend_start(&lent->backend, options))
         return false;
-    lent->notes.channel = notes->channel;
+    lent->notes.channel = kept_state(kept)->notes.channel;
     lent->look = loop_now() + LOOK_EVERY;
     lent->reads_until = loop_now() + READS_IN;
     set_hooks(lent);
+    return true;
+}
+
+static bool begin(struct lent *lent, const struct options *options, struct kept *kept)
+{
+    if (!prepare(lent, options, kept))
+        return false;
     if (kept->ended_by > 0)
         complain("its process has ended by signal %u: another one goes on", kept->ended_by);
     if (kept->stays)

@@ -1,8 +1,9 @@
 #define _GNU_SOURCE
 #include "client.h"
 
-#include "../../backends/guest/vhost_user.h"
+#include "plans.h"
 #include "script.h"
+#include "sent.h"
 
 #include <fcntl.h>
 #include <sys/eventfd.h>
@@ -10,28 +11,15 @@
 #include <sys/socket.h>
 #include <unistd.h>
 
-enum {
-    PAGE = 4096,
-    HEAD = 12,
-    ASKS_FOR_ANSWER = 8,
-    VERSION = 1,
-    OF_QUEUE = 3 * PAGE,
-    BUFFER_PAGE = 16,
-    MOST_POSTED = 40,
-    TABLE = 8,
-    PLACE = 32
-};
-enum { MEMORY, OTHER_MEMORY, EVENT, PIPE, SOCKET, NOTHING, KINDS };
-
-static const uint64_t guest_at[REGIONS] = {0x100000, 0x180000},
-                      user_at[REGIONS] = {0x7f0000000000, 0x7f1000000000};
+enum { HEAD = 12, ASKS_FOR_ANSWER = 8, VERSION = 1, BUFFER_PAGE = 16, MOST_POSTED = 40 };
 
 struct client client;
 
 int client_comes(void)
 {
     int ends[2];
-    client = (struct client){.others = {-1, -1}, .events = {-1, -1, -1, -1, -1, -1, -1, -1}};
+    client = (struct client){
+        .others = {-1, -1}, .source = -1, .events = {-1, -1, -1, -1, -1, -1, -1, -1}};
     demand(!socketpair(AF_UNIX, SOCK_STREAM | SOCK_CLOEXEC | SOCK_NONBLOCK, 0, ends));
     for (unsigned i = 0; i < REGIONS; i++) {
         client.memory[i] = memfd_create("memory", MFD_CLOEXEC);
@@ -57,10 +45,15 @@ static void let_go_of_events(void)
         let_go(&client.events[i]);
 }
 
+void client_ends(void)
+{
+    shutdown(client.socket, SHUT_RDWR);
+}
+
 void client_goes(void)
 {
     let_go(&client.socket);
-    let_go(&client.others[0]), let_go(&client.others[1]);
+    let_go(&client.others[0]), let_go(&client.others[1]), let_go(&client.source);
     let_go_of_events();
     for (unsigned i = 0; i < REGIONS; i++) {
         munmap(client.bytes[i], REGION_BYTES);
@@ -89,12 +82,36 @@ static void send_all(const void *bytes, size_t size, const int *files, unsigned 
         continue;
 }
 
+/* A log of the pages that are written; now and then its file is too short for it. */
+static int open_log(void)
+{
+    int file = memfd_create("log", MFD_CLOEXEC);
+    demand(file >= 0 && !ftruncate(file, next_byte() == 255 ? 1 : PAGE));
+    return file;
+}
+
+/* The end of a pipe by which a device comes, whole or not; now and then the pipe stays open. */
+static int open_source(void)
+{
+    uint8_t bytes[MOST_SAVED];
+    int ends[2];
+    size_t length = saved_bytes(bytes);
+    demand(!pipe2(ends, O_CLOEXEC) && write(ends[1], bytes, length) == (ssize_t)length);
+    let_go(&client.source);
+    client.source = ends[1];
+    if (next_byte() % 16 != 15)
+        let_go(&client.source);
+    return ends[0];
+}
+
 /* A file of this kind to hand over. */
 static int open_kind(unsigned kind)
 {
     int ends[2] = {-1, -1};
     if (kind == MEMORY || kind == OTHER_MEMORY)
         return dup(client.memory[kind]);
+    if (kind == LOG || kind == SOURCE)
+        return kind == LOG ? open_log() : open_source();
     if (kind == EVENT) {
         int *event = &client.events[client.handed++ % EVENTS];
         let_go(event);
@@ -110,131 +127,35 @@ static int open_kind(unsigned kind)
     return ends[1];
 }
 
-/* A message: its request, its body, and the kinds of its files. */
-struct sent {
-    uint32_t request, flags, size;
-    uint8_t body[MOST_BODY + 64], kinds[MOST_FILES + 1];
-    unsigned files;
-};
-
-static void put(struct sent *sent, uint64_t number, unsigned bytes)
+static void send_message(const struct sent *sent)
 {
-    memcpy(sent->body + sent->size, &number, bytes);
-    sent->size += bytes;
-}
-
-static void put_region(struct sent *sent, unsigned region)
-{
-    const uint64_t numbers[] = {guest_at[region], REGION_BYTES, user_at[region], 0};
-    memcpy(sent->body + sent->size, numbers, sizeof numbers);
-    sent->size += sizeof numbers;
-    sent->kinds[sent->files++] = region == 0 ? MEMORY : OTHER_MEMORY;
-}
-
-/* Where a queue is; now and then writes to its used ring are to be logged, there or elsewhere. */
-static void put_addresses(struct sent *sent, unsigned queue, unsigned choice)
-{
-    uint64_t here = queue * (uint64_t)OF_QUEUE, at = user_at[0] + here, logs = choice % 4 == 3;
-    uint64_t log = choice % 8 == 3 ? guest_at[0] + here + 2 * PAGE : 0;
-    const uint64_t numbers[] = {queue | logs << 32, at, at + 2 * PAGE, at + PAGE, log};
-    memcpy(sent->body, numbers, sizeof numbers);
-    sent->size = sizeof numbers;
-}
-
-/* An event of a queue, of one kind or another, or none. */
-static void put_event(struct sent *sent, unsigned queue, unsigned choice)
-{
-    enum { NO_FILE = 0x100, OF_EVENTS = 4 };
-    static const uint8_t kinds[OF_EVENTS] = {EVENT, PIPE, SOCKET, NOTHING};
-    bool none = choice % (OF_EVENTS + 1) == OF_EVENTS;
-    put(sent, none ? queue | NO_FILE : queue, 8);
-    if (!none)
-        sent->kinds[sent->files++] = kinds[choice % (OF_EVENTS + 1)];
-}
-
-/* The words of a message that has one. */
-static const uint64_t words[][4] = {
-    [SET_FEATURES] = {0x140000027, 0x100000027, 0x140000025, UINT64_MAX},
-    [SET_PROTOCOL_FEATURES] = {0x1e229, 0x4228, 0x1a229, 0x8000},
-    [SET_STATUS] = {15, 0, 128, 0x100},
-};
-
-/* The second word of a message that names a queue. */
-static const uint32_t states[][4] = {
-    [SET_VRING_NUM] = {8, 1024, 3, 1025}, [SET_VRING_BASE] = {0, 1, 8, 0x10000},
-    [GET_VRING_BASE] = {0, 0, 0, 0},      [SET_VRING_ENABLE] = {1, 0, 1, 2},
-    [VRING_KICK] = {0, 0, 0, 0},
-};
-
-/* What a client usually sends; `choice` says which of several. */
-static void fill(struct sent *sent, unsigned queue, unsigned choice)
-{
-    uint32_t request = sent->request;
-    if (request == SET_FEATURES || request == SET_PROTOCOL_FEATURES || request == SET_STATUS) {
-        put(sent, words[request][choice % 4], 8);
-    } else if (request == SET_VRING_ADDR) {
-        put_addresses(sent, queue, choice);
-    } else if (request == SET_VRING_KICK || request == SET_VRING_CALL || request == SET_VRING_ERR) {
-        put_event(sent, queue, choice);
-    } else if (request == SET_MEM_TABLE) {
-        put(sent, REGIONS, TABLE);
-        put_region(sent, 0), put_region(sent, 1);
-    } else if (request == ADD_MEM_REG || request == REM_MEM_REG) {
-        put(sent, 0, TABLE);
-        put_region(sent, choice % REGIONS);
-        sent->files = request == ADD_MEM_REG;
-    } else if (request == SET_BACKEND_REQ_FD) {
-        sent->kinds[sent->files++] = choice % 4 == 0 ? SOCKET : PIPE;
-    } else if (request == GET_CONFIG || request == SET_CONFIG) {
-        static const uint8_t sizes[] = {16, 4, 0, 200};
-        const uint32_t head[] = {choice / 4 % 4 * 4, sizes[choice % 4], choice / 16};
-        memcpy(sent->body, head, sizeof head);
-        sent->size = sizeof head + sizes[choice % 4];
-    } else if (request < sizeof states / sizeof states[0] &&
-               (states[request][0] || request == VRING_KICK || request == GET_VRING_BASE ||
-                request == SET_VRING_BASE)) {
-        put(sent, queue | (uint64_t)states[request][choice % 4] << 32, 8);
-    }
-}
-
-/* What is wrong with it: nothing, its size, a byte, its files, its flags. */
-static void twist(struct sent *sent, unsigned how)
-{
-    enum { SHORT = 1, LONG, CHANGED, MORE_FILES, NO_FILES, FLAGS, ANY };
-    unsigned at = how == CHANGED ? next_below(sent->size + 1) : 0;
-    if (how == SHORT)
-        sent->size = sent->size > 4 ? sent->size - 4 : sent->size;
-    else if (how == LONG)
-        sent->size += 8;
-    else if (how == CHANGED)
-        sent->body[at] = next_byte();
-    else if (how == MORE_FILES)
-        sent->files = next_below(MOST_FILES + 2);
-    else if (how == NO_FILES)
-        sent->files = 0;
-    else if (how == FLAGS)
-        sent->flags = next_byte();
-    else if (how == ANY)
-        sent->size = (uint32_t)next_bytes(sent->body, next_below(MOST_BODY / 2));
+    int files[MOST_FILES + 1];
+    uint8_t bytes[HEAD + sizeof sent->body];
+    const uint32_t head[] = {sent->request, sent->flags, sent->size};
+    memcpy(bytes, head, HEAD);
+    memcpy(bytes + HEAD, sent->body, sent->size);
+    for (unsigned i = 0; i < sent->files; i++)
+        files[i] = open_kind(sent->kinds[i] % KINDS);
+    send_all(bytes, HEAD + sent->size, files, sent->files);
+    for (unsigned i = 0; i < sent->files; i++)
+        close(files[i]);
 }
 
 void client_sends(void)
 {
-    enum { REQUESTS = 42, TWISTS = 16, OF_QUEUES = 6 };
+    enum { REQUESTS = 44, TWISTS = 16, OF_QUEUES = 6 };
     struct sent sent = {.request = next_below(REQUESTS), .flags = VERSION | ASKS_FOR_ANSWER};
     unsigned queue = next_below(OF_QUEUES), choice = next_byte();
-    int files[MOST_FILES + 1];
-    uint8_t bytes[HEAD + sizeof sent.body];
-    fill(&sent, queue, choice);
-    twist(&sent, next_below(TWISTS));
-    const uint32_t head[] = {sent.request, sent.flags, sent.size};
-    memcpy(bytes, head, HEAD);
-    memcpy(bytes + HEAD, sent.body, sent.size);
-    for (unsigned i = 0; i < sent.files; i++)
-        files[i] = open_kind(sent.kinds[i] % KINDS);
-    send_all(bytes, HEAD + sent.size, files, sent.files);
-    for (unsigned i = 0; i < sent.files; i++)
-        close(files[i]);
+    sent_fill(&sent, queue, choice);
+    sent_twist(&sent, next_below(TWISTS));
+    send_message(&sent);
+}
+
+void client_tells(uint32_t request, unsigned queue, unsigned choice)
+{
+    struct sent sent = {.request = request, .flags = VERSION | ASKS_FOR_ANSWER};
+    sent_fill(&sent, queue, choice);
+    send_message(&sent);
 }
 
 void client_babbles(void)

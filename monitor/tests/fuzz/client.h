@@ -12,17 +12,23 @@ struct client {
     int events[EVENTS]; /* the last ones that it handed over, in turn */
     unsigned handed;
     int others[2]; /* the other ends of the last socket and of the last pipe that it handed over */
+    int source;    /* the end of the last pipe by which it has a device loaded */
     int memory[REGIONS]; /* files */
     uint8_t *bytes[REGIONS];
     uint16_t available[8]; /* of each queue */
     bool cut;              /* its memory's files are cut off */
+    bool migrates;         /* its guest may */
 };
 
 extern struct client client;
 
-/* Comes with new memory; returns the other end of its socket. */
+/* Comes with new memory; returns the other end of its socket. Ends its connection. Goes. */
 int client_comes(void);
+void client_ends(void);
 void client_goes(void);
+
+/* Sends a message as a client usually does; `choice` says which of several. */
+void client_tells(uint32_t request, unsigned queue, unsigned choice);
 
 /* Sends a message by the next bytes of the script; sends bytes as they are; posts a request; writes
  * into its memory; kicks by an event, or cuts its memory off. */

@@ -10,7 +10,7 @@ def pytest_addoption(parser):
         type=int,
         default=600,
         metavar="N",
-        help="how long all fuzzers run together (600)",
+        help="seconds of the processor for all fuzzers together (600)",
     )
     parser.addoption(
         "--keep", action="store_true", help="write the inputs that cover most into the corpus"

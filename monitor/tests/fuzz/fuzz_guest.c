@@ -1,10 +1,12 @@
 /* A guest's process of a host that lends, fuzzed: any messages, bytes and files of its client, any
  * rings and memory, and any orders of its lender, in any order; now and then another process goes
- * on with what is kept. After each step its count of pages in the balloon is that of its set, and
- * in the end no file is left open. */
+ * on with what is kept. Or one without a lender (alone.c), whose guest may migrate. After each step
+ * its count of pages in the balloon is that of its set, and in the end no file is left open. */
 #define _GNU_SOURCE
 #include "../../backends/guest/lent.c"
+#include "alone.h"
 #include "client.h"
+#include "plans.h"
 #include "ring_layout.h"
 #include "script.h"
 
@@ -88,11 +90,6 @@ static void lender_hears(void)
         demand(report.kind >= TELL_REPORT);
 }
 
-static void client_ends(void)
-{
-    shutdown(client.socket, SHUT_RDWR);
-}
-
 /* What comes while the process waits for its lender; the client goes at the end of the script. */
 static void act_while_it_waits(void)
 {
@@ -108,23 +105,30 @@ static void act_while_it_waits(void)
 int __wrap_poll_some(struct pollfd *files, nfds_t count, int limit)
 {
     (void)limit;
-    if (fuzzed.waits != WAIT_NOTHING)
+    if (alone_is_there())
+        alone_acts();
+    else if (fuzzed.waits != WAIT_NOTHING)
         act_while_it_waits();
     return __real_poll_some(files, count, 0);
 }
 
 static void act(void)
 {
+    enum { PLANS = 240, ENDS = 244, ENDS_AMID = 247, CHANGES = 250 };
     static void (*const acts[])(void) = {client_sends, client_sends,     client_posts,
                                          client_posts, client_scribbles, lender_orders,
                                          client_kicks, client_babbles};
+    if (plan_goes_on())
+        return;
     unsigned what = next_byte();
-    ends = what >= 244 && what < 250;
-    ends_at = what >= 247 && ends ? 1 + next_below(4) : 0;
-    if (what >= 250)
+    ends = what >= ENDS && what < CHANGES;
+    ends_at = what >= ENDS_AMID && ends ? 1 + next_below(4) : 0;
+    if (what >= CHANGES)
         lender_changes(what % 2);
     else if (ends_at > 0)
         client_sends();
+    else if (what >= PLANS && !ends)
+        plan_begins();
     else if (!ends)
         acts[what % (sizeof acts / sizeof acts[0])]();
     lender_hears();
@@ -138,23 +142,13 @@ void __wrap_kept_save(struct lent *lent)
         longjmp(ended, 1);
 }
 
-/* The set has as many pages as are counted. */
-static void check_balloon(void)
-{
-    const struct balloon *balloon = &fuzzed.backend.balloon;
-    if (balloon->ballooned)
-        demand(vb_count_ballooned(balloon->ballooned, balloon->ballooned_words) ==
-               fuzzed.backend.ballooned);
-}
-
 /* A process begins on what is kept. */
 static int process_begins(void)
 {
     ends_at = 0;
-    fuzzed = (struct lent){.kept = &kept};
-    rings_clear(&fuzzed.backend);
-    demand(backend_start(&fuzzed.backend, &options));
-    set_hooks(&fuzzed);
+    backend_clear(&fuzzed.backend);
+    memset((uint8_t *)&fuzzed + sizeof fuzzed.backend, 0, sizeof fuzzed - sizeof fuzzed.backend);
+    demand(prepare(&fuzzed, &options, &kept));
     demand(kept_regain(&kept));
     return guard(go_on, &fuzzed);
 }
@@ -206,11 +200,11 @@ static int another_goes_on(void)
     return process_begins();
 }
 
-static int comes(void)
+static int comes(unsigned kind)
 {
     int ends[2];
-    now = (struct timespec){1, 0};
-    unsigned kind = next_byte();
+    plans_clear();
+    process_is_shut = true;
     options = (struct options){.client = "fuzzed",
                                .features = UINT64_C(1) << 32 | 0x27,
                                .is_lent = true,
@@ -266,21 +260,18 @@ static void listen_once(void)
     later = socket(AF_UNIX, SOCK_SEQPACKET | SOCK_CLOEXEC | SOCK_NONBLOCK, 0);
     demand(!bind(later, (struct sockaddr *)&address, sizeof address.sun_family) &&
            !listen(later, 8));
-    process_is_shut = true;
     signal(SIGPIPE, SIG_IGN);
     demand(loop_add(&turns, (struct loop_part){&fuzzed, waits, turn}));
 }
 
-int LLVMFuzzerTestOneInput(const uint8_t *data, size_t size)
+/* The life of a client of a host. */
+static void lives(unsigned kind)
 {
-    listen_once();
-    int before = next_file();
-    script.at = data, script.end = data + size;
-    volatile int served = comes();
+    volatile int served = comes(kind);
     while (served > 0 && script_goes_on()) {
         act();
         served = setjmp(ended) == 0 ? guard(loop_turn, &turns) : 1;
-        check_balloon();
+        check_set(&fuzzed.backend);
         if ((served > 0 && ends) || (served == 0 && fuzzed.ends_anew))
             served = another_goes_on();
     }
@@ -293,6 +284,20 @@ int LLVMFuzzerTestOneInput(const uint8_t *data, size_t size)
     goes();
     for (int it; (it = accept(later, NULL, NULL)) >= 0;)
         close(it);
+}
+
+int LLVMFuzzerTestOneInput(const uint8_t *data, size_t size)
+{
+    enum { ALONE = 32 };
+    listen_once();
+    int before = next_file();
+    script.at = data, script.end = data + size;
+    now = (struct timespec){1, 0};
+    unsigned kind = next_byte();
+    if (kind & ALONE)
+        alone_runs(kind);
+    else
+        lives(kind);
     demand(next_file() == before);
     return 0;
 }

@@ -1,12 +1,15 @@
 """Coverage-guided fuzzing of a guest's process (fuzz_guest.c) and of a lender (fuzz_lender.c), by
 clang's libFuzzer with the checks of addresses and of undefined behaviour. Each begins with the
-inputs of its corpus. In the end a table says which part of the branches of each file all inputs
-have taken together; of those with a star they have to take 90 in 100."""
+inputs of its corpus, and has its seconds of the processor, however busy that is. In the end a table
+says which part of the branches of each file all inputs have taken together; of those with a star
+they have to take 90 in 100."""
 
 import base64
 import json
 import os
+import signal
 import subprocess
+import time
 
 import linux_kit
 import pytest
@@ -14,8 +17,12 @@ import pytest
 HERE = os.path.dirname(__file__)
 BACKENDS = os.path.join(linux_kit.MONITOR, "backends")
 
-# Per cent of the branches that have to be taken, and bytes of an input.
-LEAST, MOST_INPUT = 90, 400
+# Per cent of the branches that have to be taken, bytes of an input, and seconds between two looks
+# at what a fuzzer has had of the processor.
+LEAST, MOST_INPUT, LOOK = 90, 400, 0.5
+
+# What a fuzzer says of its run: the seed, and its numbers.
+NUMBERS = ("INFO: Seed", "stat::number", "stat::new")
 
 # Of each fuzzer (monitor/Makefile says what it is made of), the files whose branches count.
 FUZZERS = {
@@ -27,6 +34,11 @@ FUZZERS = {
         "guest/inbox",
         "guest/marks",
         "guest/lent_channel",
+        "guest/features",
+        "guest/migration",
+        "guest/dirty_log",
+        "guest/transfer",
+        "guest/moved",
     ),
     "lender": (
         "host/asks",
@@ -45,21 +57,45 @@ def corpus_of(name):
     return os.path.join(HERE, f"{name}.corpus")
 
 
+# How programs are run here.
+HOW = {
+    "stdin": subprocess.DEVNULL,
+    "stdout": subprocess.PIPE,
+    "stderr": subprocess.STDOUT,
+    "text": True,
+    "errors": "replace",
+}
+
+
+def good(words, status, said):
+    """Returns what a program said. A status that isn't 0 is a fault."""
+    assert status == 0, f"{words[0]} ends with status {status}:\n{said[-4000:]}"
+    return said
+
+
 def run(*words, **how):
-    """Runs a program; returns what it said. A status that isn't 0 is a fault."""
-    ran = subprocess.run(
-        words,
-        stdin=subprocess.DEVNULL,
-        stdout=subprocess.PIPE,
-        stderr=subprocess.STDOUT,
-        text=True,
-        errors="replace",
-        **how,
-    )
-    assert (
-        ran.returncode == 0
-    ), f"{words[0]} ends with status {ran.returncode}:\n{ran.stdout[-4000:]}"
-    return ran.stdout
+    """Runs a program; returns what it said."""
+    ran = subprocess.run(words, **HOW, **how)
+    return good(words, ran.returncode, ran.stdout)
+
+
+def seconds_of(process):
+    """Returns the seconds that a process has had of the processor."""
+    with open(f"/proc/{process}/stat", encoding="utf-8") as file:
+        user, system = file.read().rpartition(")")[2].split()[11:13]
+    return (int(user) + int(system)) / os.sysconf("SC_CLK_TCK")
+
+
+def fuzz(seconds, log, *words):
+    """Runs a fuzzer for its seconds of the processor, and then has it end; returns what it said."""
+    with open(log, "w+", encoding="utf-8", errors="replace") as file:
+        with subprocess.Popen(words, **{**HOW, "stdout": file}) as fuzzer:
+            while fuzzer.poll() is None and seconds_of(fuzzer.pid) < seconds:
+                time.sleep(LOOK)
+            fuzzer.send_signal(signal.SIGUSR1)
+            status = fuzzer.wait()
+        file.seek(0)
+        return good(words, status, file.read())
 
 
 def unpack(name, folder):
@@ -126,21 +162,24 @@ def check_branches(name, taken):
     assert not missing, f"of these files fewer than {LEAST}% of the branches are taken: {missing}"
 
 
-@pytest.mark.timeout(3600)
+@pytest.mark.timeout(7200)
 @pytest.mark.parametrize("name", FUZZERS)
 def test_fuzz(name, tmp_path, request):
     corpus, least = str(tmp_path / "corpus"), str(tmp_path / "least")
     program = linux_kit.built(f"fuzz/fuzz_{name}")
     unpack(name, corpus)
     seconds = request.config.getoption("--seconds") // len(FUZZERS)
-    limits = (
-        f"-max_total_time={seconds}",
+    said = fuzz(
+        seconds,
+        str(tmp_path / "log"),
+        program,
         f"-max_len={MOST_INPUT}",
         "-handle_bus=0",
         f"-artifact_prefix={tmp_path}/",
+        "-print_final_stats=1",
+        corpus,
     )
-    said = run(program, *limits, "-print_final_stats=1", corpus)
-    print(*(it for it in said.splitlines() if it.startswith(("Done", "stat::new"))), sep="\n")
+    print(*(it for it in said.splitlines() if it.startswith(NUMBERS)), sep="\n")
     os.makedirs(least)
     run(program, "-set_cover_merge=1", "-handle_bus=0", least, corpus)
     check_branches(name, branches(linux_kit.built(f"cover/fuzz_{name}"), str(tmp_path), least))
