@@ -46,7 +46,7 @@ SUITES = {
         "python3-fusepy",
     ),
     "fuzz": Suite(
-        "coverage-guided fuzzing of both programs of a host; `--seconds N` (600), `--keep`",
+        "coverage-guided fuzzing of both programs of a host; `--seconds N` of the processor (600), `--keep`",
         ("monitor/tests/fuzz", "-v", "-rP"),
         "clang libclang-rt-14-dev llvm",
     ),

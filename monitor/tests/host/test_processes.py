@@ -1,5 +1,7 @@
 """A process for each guest: who ends with whom, and what the lender has of a client."""
 
+import contextlib
+import fcntl
 import os
 import signal
 import socket
@@ -75,6 +77,40 @@ def test_a_client_is_taken_once_however_late_its_process_takes_it(lend, plain, t
         eventually(counters)
         assert [counters() for _ in range(20)] == 20 * [1]
         assert lender.guests()["a"]["here"] == 1
+
+
+def begun_with(program, *files):
+    """Begins a guest's process with these files, as a lender hands them on; returns its number."""
+    above = [fcntl.fcntl(it, fcntl.F_DUPFD_CLOEXEC, 100) for it in files]
+    words = [program, "--lent", "--features", "100000027", "--", "a"]
+    actions = [(os.POSIX_SPAWN_DUP2, file, 3 + number) for number, file in enumerate(above)]
+    child = os.posix_spawn(program, words, os.environ, file_actions=actions)
+    for file in above:
+        os.close(file)
+    return child
+
+
+def test_a_process_that_finds_no_client_ends(plain, tmp_path):
+    with contextlib.ExitStack() as opened:
+        clients, later = (
+            opened.enter_context(socket.socket(socket.AF_UNIX, kind | socket.SOCK_NONBLOCK))
+            for kind in (socket.SOCK_STREAM, socket.SOCK_SEQPACKET)
+        )
+        for name, its in (("clients", clients), ("later", later)):
+            its.bind(str(tmp_path / name)), its.listen()
+        ours, theirs = map(
+            opened.enter_context, socket.socketpair(socket.AF_UNIX, socket.SOCK_SEQPACKET)
+        )
+        child = begun_with(
+            f"{os.path.dirname(plain)}/vhost_user_balloon",
+            *(it.fileno() for it in (clients, theirs, later)),
+        )
+        try:
+            _, status = eventually(lambda: (it := os.waitpid(child, os.WNOHANG))[0] and it)
+        finally:
+            with contextlib.suppress(ProcessLookupError):
+                os.kill(child, signal.SIGKILL)
+        assert os.waitstatus_to_exitcode(status) == 1
 
 
 def test_another_process_goes_on_where_one_is_killed(lend, come):

@@ -9,6 +9,7 @@ import subprocess
 
 import linux_kit
 import pytest
+from bigvasta.connection import Connection
 from taken import call_within
 from tenants import FREE, eventually, process_of, status_of
 from test_strict import GIVEN
@@ -157,9 +158,26 @@ def numbers_of(process):
     return [int(it) for it in status_of(process)["NSpid"].split()]
 
 
-def test_a_process_is_alone(lend, come):
+def kill(lender, name):
+    """Kills a guest's process."""
+    os.kill(process_of(lender, name), signal.SIGKILL)
+
+
+def renew(lender, name):
+    """Has another process of the program that is there continue with a guest."""
+    with Connection(f"{lender.folder}/.control") as control:
+        control.ask("renew", name=name)
+
+
+@pytest.mark.parametrize("act", (None, kill, renew))
+def test_a_process_is_alone(lend, come, act):
+    """So is each that continues with a guest."""
     lender = lend(5)
     come(lender, "a", {FREE: 60}), come(lender, "b", {FREE: 60})
+    first = process_of(lender, "a")
+    if act:
+        act(lender, "a")
+        eventually(lambda: process_of(lender, "a") not in (0, first))
     processes = [lender.process.pid, *(process_of(lender, it) for it in "ab")]
     for of_one in zip(*map(namespaces_of, processes)):
         assert len(set(of_one)) == len(processes), of_one
@@ -204,7 +222,9 @@ def test_a_process_has_the_files_that_it_was_handed_and_no_other(lend, come):
     lender = lend(5)
     come(lender, "a", {FREE: 60}), come(lender, "b", {FREE: 60})
     process = process_of(lender, "b")
-    links = [os.readlink(f"/proc/{process}/fd/{it}") for it in os.listdir(f"/proc/{process}/fd")]
+    files = sorted(map(int, os.listdir(f"/proc/{process}/fd")))
+    links = [os.readlink(f"/proc/{process}/fd/{it}") for it in files]
+    assert (files[:3], links[:3]) == ([0, 1, 2], 3 * ["/dev/null"])
     known = [
         it
         for it in links
