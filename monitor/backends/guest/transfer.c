@@ -102,9 +102,11 @@ bool transfer_ends(struct backend *backend)
         fail(backend, "the device's state isn't taken whole");
     else if (state == TRANSFER_LOADS)
         fail(backend, "the pipe with the device's state hasn't ended");
+    else if (state == TRANSFER_READ && rings_run(backend))
+        remark(backend, "the device's state isn't loaded while queues run");
     transfer->state = TRANSFER_NONE;
-    return state == TRANSFER_SAVED ||
-           (state == TRANSFER_READ && moved_load(backend, transfer->bytes, transfer->length));
+    return state == TRANSFER_SAVED || (state == TRANSFER_READ && !rings_run(backend) &&
+                                       moved_load(backend, transfer->bytes, transfer->length));
 }
 
 static int serve(void *context, int file)

@@ -34,6 +34,25 @@ def test_while_queues_run(ready):
     demand_served(client, INFLATE, [FIRST])
 
 
+def test_queues_that_start_before_the_state_has_come(ready):
+    """It isn't loaded over a device that is at work."""
+    client = ready()
+    with_pages(client, [FIRST], 1)
+    bases = stopped(client)
+    data = saved(client)
+    theirs, ours = os.pipe()
+    assert ask(client, theirs, LOAD) == WELL
+    client.backend.ask("target 5")
+    client.go_on(bases)
+    os.write(ours, data)
+    os.close(ours)
+    assert client.send(CHECK_DEVICE_STATE) == WRONG
+    assert "isn't loaded while queues run" in client.why()
+    assert (client.counter("actual"), client.counter("target")) == (1, 5)
+    assert client.called(INFLATE) == 1
+    demand_served(client, INFLATE, [FIRST + 1])
+
+
 def edited(data, at, new):
     """Returns a device's bytes with others in place of some, and the right sum."""
     body = data[:at] + new + data[at + len(new) : -SUM]
