@@ -88,7 +88,10 @@ SUITES = {
         ("monitor/tests/linux/test_linux.py", "-v", "-rP"),
     ),
     "migrate": Suite(
-        "a Linux guest that migrates between two QEMUs of Debian 13, by emulation",
+        (
+            "a Linux guest that migrates between two QEMUs of Debian 13, or is saved, by emulation: "
+            "all its memory is compared"
+        ),
         ("monitor/tests/migrate", "-v", "-rP"),
         "ninja-build python3-venv libglib2.0-dev libfdt-dev zlib1g-dev patch",
     ),
