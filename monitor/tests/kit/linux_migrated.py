@@ -209,7 +209,7 @@ class Pair:
 
     def __init__(self, vmm, program, folder, shape, options=()):
         self.vmm, self.program, self.folder, self.shape = vmm, program, str(folder), shape
-        self.options, self.number, self.sides = options, 0, []
+        self.options, self.number, self.sides, self.most_held = options, 0, [], 0
         try:
             self.source = self.side(False)
             self.destination = self.side(True)
@@ -233,14 +233,20 @@ class Pair:
                 it.can(name)
         if parameters:
             self.source.qmp.do("migrate-set-parameters", **parameters)
+        self.most_held = 0
         self.destination.qmp.do("migrate-incoming", uri=uri)
         self.source.qmp.do("migrate", uri=uri)
+
+    def look(self):
+        """Returns how far the migration is, and notes the most that a side has held so far."""
+        self.most_held = max(self.most_held, *(it.held_mib() for it in self.sides))
+        return self.source.status()
 
     def end(self, wanted="completed"):
         """Waits until the migration has come to this."""
         ended = ("completed", "failed", "cancelled")
         said = eventually(
-            lambda: (lambda it: it if it[0] in ended else None)(self.source.status()),
+            lambda: (lambda it: it if it[0] in ended else None)(self.look()),
             lambda: str(self.source.status()),
         )
         if said[0] != wanted:

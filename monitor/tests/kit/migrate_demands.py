@@ -20,8 +20,8 @@ def with_balloon(pair, mib=SMALL):
 
 
 def demand_held(pair, before):
-    """Demands that neither side holds more than was held."""
-    held = [it.held_mib() for it in (pair.source, pair.destination)]
+    """Demands that neither side holds more than was held, nor did as the migration went on."""
+    held = [pair.most_held, *(it.held_mib() for it in (pair.source, pair.destination))]
     assert max(held) <= MORE * before, (before, held)
 
 

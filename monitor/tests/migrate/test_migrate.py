@@ -71,7 +71,8 @@ def test_pages_that_were_sent_before_they_were_given_up(pair):
     pair.source.settle()
     pair.hurry()
     pair.arrive()
-    demand_held(pair, pair.source.held_mib())
+    demand_held(pair, before)
+    assert pair.destination.held_mib() <= MORE * pair.source.held_mib()
     demand_right(pair.destination, sums)
 
 
