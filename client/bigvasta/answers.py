@@ -117,8 +117,16 @@ GUEST = {
 DECISION = {
     **fields(is_count, "number budget missing"),
     "tier": Maybe(is_text),
+    **fields(Maybe(is_seconds), "seconds time"),
     **fields(is_text, "reason guest"),
     "shares": [{"guest": is_text, **fields(is_count, "old target"), "pressed": Maybe(is_flag)}],
+}
+
+CHANGE = {
+    **fields(is_count, "change user process"),
+    **fields(is_seconds, "seconds time"),
+    **fields(is_text, "key was is"),
+    **fields(Maybe(is_text), "guest by"),
 }
 
 # The answer to each request, an event, and what refuses a request.
@@ -130,6 +138,7 @@ ANSWERS = {
     "floor": {"floor": is_count, "lasts": Maybe(is_flag)},
     "config": {"config": is_text},
     "log": {"decisions": [DECISION], **fields(is_count, "next lost")},
+    "changes": {"changes": [CHANGE], **fields(is_count, "next lost")},
 }
 EVENT = {
     "event": is_text,
@@ -138,6 +147,8 @@ EVENT = {
     "waits": Maybe(is_seconds),
     **fields(Maybe(is_count), "budget missing"),
     "decision": Maybe(DECISION),
+    **fields(Maybe(is_count), "change user process"),
+    **fields(Maybe(is_text), "key was is by"),
 }
 REFUSAL = {"error": {"code": is_text, "text": is_text, "field": Maybe(is_text)}}
 

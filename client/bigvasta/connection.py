@@ -2,6 +2,7 @@
 is followed."""
 
 import json
+import os
 import socket
 import time
 
@@ -17,12 +18,24 @@ CONTROL, STATUS = "/run/bigvasta/.control", "/run/bigvasta-status/socket"
 LIMIT = 10.0
 MOST_ANSWER, MOST_READ = 1 << 20, 1 << 16
 
+# Requests that change nothing; characters of a user's name.
+SHOWS, MOST_NAME = ("status", "log", "events", "changes", "config"), 64
+
+
+def named(request):
+    """Returns the field by which a host notes who asks for a change, by the name of who uses this
+    program: the kernel tells it the number."""
+    if request in SHOWS:
+        return {}
+    user = os.environ.get("SUDO_USER") or os.environ.get("LOGNAME") or os.environ.get("USER")
+    return {"by": user[:MOST_NAME]} if user and user.isascii() else {}
+
 
 class Connection:
     """A connection to a socket of a host."""
 
     def __init__(self, path, limit=LIMIT):
-        self.path, self.limit, self.unread = path, limit, bytearray()
+        self.path, self.limit, self.unread, self.names = path, limit, bytearray(), True
         self.socket = socket.socket(socket.AF_UNIX, socket.SOCK_STREAM)
         self.socket.settimeout(limit)
         try:
@@ -90,7 +103,15 @@ class Connection:
         try:
             self.socket.settimeout(self.limit)
             self.socket.sendall(
-                json.dumps({"version": VERSION, "request": request, **fields}).encode() + b"\n"
+                json.dumps(
+                    {
+                        "version": VERSION,
+                        "request": request,
+                        **(named(request) if self.names else {}),
+                        **fields,
+                    }
+                ).encode()
+                + b"\n"
             )
         except BrokenPipeError:
             pass  # what it said before it went is read yet
@@ -99,6 +120,9 @@ class Connection:
         answer = self.receive({"ok": is_flag, **ANSWERS.get(request, {})}, until)
         if answer["ok"]:
             return answer
+        if self.names and answer["error"].get("field") == "by":
+            self.names = False  # an older host knows no such field
+            return self.ask(request, **fields)
         raise Refused(answer["error"])
 
     def ends(self):

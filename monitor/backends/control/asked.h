@@ -1,15 +1,18 @@
 /* A request whose fields are right, and the answers to those that change the host. */
 #ifndef CONTROL_ASKED_H
 #define CONTROL_ASKED_H
-#include "client.h"
+#include "audit.h"
 
 #include "../host/view.h"
+
+enum { MOST_NOTES_OF_ANSWER = 16 };
 
 struct asked {
     struct control *control;
     struct control_client *client;
     struct host *host;
     const json_t *fields;
+    struct author author;
 };
 
 /* What each of these requests does, and is answered. */
@@ -22,5 +25,6 @@ json_t *answer_to_upgrade(const struct asked *asked);
 json_t *answer_to_reload(const struct asked *asked);
 json_t *answer_to_renew(const struct asked *asked);
 json_t *answer_to_config(const struct asked *asked);
+json_t *answer_to_changes(const struct asked *asked);
 
 #endif

@@ -5,6 +5,7 @@
 #include "requests.h"
 
 #include "../service/service.h"
+#include "vb.h"
 
 #include <stdlib.h>
 #include <string.h>
@@ -96,6 +97,15 @@ static const char *unless_done(const struct asked *asked, const char *fault)
     return fault;
 }
 
+/* Notes that a target was set by hand. */
+static void note_target(const struct asked *asked, const struct guest_view *guest)
+{
+    char was[MOST_KEY_TEXT], is[MOST_KEY_TEXT];
+    size_text(guest->target, was);
+    size_text(field_pages(asked->fields, "target"), is);
+    audit_note(asked->control->service, &asked->author, guest->name, "target", was, is);
+}
+
 /* Changes what a request asks for of a guest; NULL, or why not: then it is as it was, and nothing
  * is decided again. */
 static const char *change(const struct asked *asked, const struct guest_view *guest)
@@ -108,6 +118,8 @@ static const char *change(const struct asked *asked, const struct guest_view *gu
     const char *fault = has_terms ? host_refuses(asked->host, name, &terms) : NULL;
     if (!fault && has_target)
         fault = host_set_target(asked->host, name, field_pages(fields, "target"));
+    if (!fault && !has_terms && has_target)
+        note_target(asked, guest);
     if (fault || !has_terms)
         return fault;
     fault = keep_terms(asked, name, &terms, false);
@@ -115,6 +127,8 @@ static const char *change(const struct asked *asked, const struct guest_view *gu
         fault = unless_done(asked, host_set_terms(asked->host, name, &terms));
     if (fault && has_target)
         host_set_target(asked->host, name, guest->target);
+    else if (has_target)
+        note_target(asked, guest);
     return fault;
 }
 
@@ -165,7 +179,10 @@ json_t *answer_to_remove(const struct asked *asked)
 
 json_t *answer_to_upgrade(const struct asked *asked)
 {
-    return outcome(host_upgrade(asked->host));
+    const char *fault = host_upgrade(asked->host);
+    if (!fault)
+        audit_note(asked->control->service, &asked->author, "", "program", VB_VERSION, "upgraded");
+    return outcome(fault);
 }
 
 json_t *answer_to_reload(const struct asked *asked)
@@ -179,7 +196,12 @@ json_t *answer_to_renew(const struct asked *asked)
     int number = host_find(asked->host, name);
     if (number < 0)
         return no_guest(name);
+    struct guest_view view;
+    host_see_guest(asked->host, (unsigned)number, &view);
     const char *fault = host_renew(asked->host, name);
+    if (!fault)
+        audit_note(asked->control->service, &asked->author, name, "process", view.version,
+                   "renewed");
     return fault ? outcome(fault) : guest_answer(asked, number);
 }
 
@@ -220,6 +242,15 @@ json_t *answer_to_budget(const struct asked *asked)
 json_t *answer_to_floor(const struct asked *asked)
 {
     return host_pages(asked, "floor", KEY_FLOOR);
+}
+
+json_t *answer_to_changes(const struct asked *asked)
+{
+    uint64_t limit = MOST_NOTES_OF_ANSWER;
+    if (field_is_there(asked->fields, "limit"))
+        limit = field_number(asked->fields, "limit");
+    return answer_notes(&asked->control->service->audit, field_number(asked->fields, "since"),
+                        limit);
 }
 
 json_t *answer_to_config(const struct asked *asked)

@@ -14,8 +14,12 @@ enum { MOST_DIGITS = 15 };
 struct control_client *client_new(int socket, enum control_rights rights)
 {
     struct control_client *client = calloc(1, sizeof *client);
+    struct ucred its = {.uid = (uid_t)-1};
+    socklen_t size = sizeof its;
+    getsockopt(socket, SOL_SOCKET, SO_PEERCRED, &its, &size);
     if (client)
-        *client = (struct control_client){.socket = socket, .rights = rights};
+        *client = (struct control_client){
+            .socket = socket, .rights = rights, .user = its.uid, .process = its.pid};
     return client;
 }
 

@@ -8,6 +8,8 @@
 struct control_client {
     int socket;
     enum control_rights rights; /* those of the socket at which it came */
+    uid_t user;                 /* that has connected, and its process, as the kernel says */
+    pid_t process;
     char request[MOST_REQUEST];
     size_t came;  /* bytes of requests that came and aren't served */
     char *unread; /* what the client hasn't read, or NULL */

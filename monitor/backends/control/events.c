@@ -8,6 +8,7 @@
 #include "../host/journal.h"
 #include "../host/view.h"
 #include "../loop/loop.h"
+#include "../service/service.h"
 
 #include <stdio.h>
 #include <stdlib.h>
@@ -29,7 +30,7 @@ struct seen {
 };
 
 struct events {
-    uint64_t next, decisions, shortages;
+    uint64_t next, decisions, shortages, notes;
     bool is_short;
     uint32_t budget;
     unsigned next_guest; /* at which the next look begins */
@@ -232,6 +233,19 @@ static void look_at_guests(struct control *control, const struct host *host,
     }
 }
 
+/* Tells what was changed, and by whom. */
+static void tell_notes(struct control *control, const struct look *look)
+{
+    const struct audit *audit = &control->service->audit;
+    struct events *events = control->events;
+    uint64_t kept = audit_begin(audit);
+    events->notes = events->notes < kept ? kept : events->notes;
+    while (events->notes < audit->count && may_tell(look)) {
+        uint64_t number = events->notes++;
+        tell_more(control, "changed", NULL, answer_note(audit, number));
+    }
+}
+
 /* Tells decisions once all guests were looked at, and those that are next wait for the next
   * look. */
 static void tell_decisions(struct control *control, const struct host *host,
@@ -256,9 +270,11 @@ void events_look(struct control *control, const struct host *host)
         tell_more(control, "budget", NULL, json_pack("{s:o}", "budget", part_bytes(view.budget)));
     events->budget = view.budget;
     tell_shortage(control, &view);
+    tell_notes(control, &look);
     look_at_guests(control, host, &look, view.guests);
     tell_removed(control);
-    control->is_behind = events->next_guest < view.guests;
+    control->is_behind =
+        events->next_guest < view.guests || events->notes < control->service->audit.count;
     if (control->is_behind)
         return;
     events->next_guest = 0;

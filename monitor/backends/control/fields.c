@@ -5,7 +5,7 @@
 #include <string.h>
 
 /* What each request has. */
-static const char *const common[] = {"version", "id", "request"};
+static const char *const common[] = {"version", "id", "request", "by"};
 
 static bool is_common(const char *name)
 {

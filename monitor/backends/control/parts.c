@@ -1,6 +1,21 @@
+#define _GNU_SOURCE
 #include "parts.h"
 
+#include <time.h>
+
 #include "fields.h"
+
+static double seconds_of(clockid_t clock)
+{
+    struct timespec time;
+    clock_gettime(clock, &time);
+    return (double)time.tv_sec + (double)time.tv_nsec / 1e9;
+}
+
+double part_time(int64_t milliseconds)
+{
+    return seconds_of(CLOCK_REALTIME) - seconds_of(CLOCK_MONOTONIC) + (double)milliseconds / 1000;
+}
 
 json_t *part_bytes(uint64_t pages)
 {

@@ -4,6 +4,9 @@
 #include <jansson.h>
 #include <stdint.h>
 
+/* Seconds since 1970 of a moment by the monotonic clock, in milliseconds. */
+double part_time(int64_t milliseconds);
+
 /* Pages, as bytes. */
 json_t *part_bytes(uint64_t pages);
 

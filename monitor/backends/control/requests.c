@@ -7,6 +7,8 @@
 #include "parts.h"
 #include "status.h"
 
+#include "../service/service.h"
+
 #include <stdarg.h>
 #include <stdio.h>
 #include <string.h>
@@ -83,6 +85,9 @@ static const struct kind kinds[] = {
     {"log", SHOWS, decisions,
      {{"since", FIELD_NUMBER, .most = INT64_MAX},
       {"limit", FIELD_NUMBER, .least = 1, .most = MOST_DECISIONS_OF_ANSWER}}},
+    {"changes", SHOWS, answer_to_changes,
+     {{"since", FIELD_NUMBER, .most = INT64_MAX},
+      {"limit", FIELD_NUMBER, .least = 1, .most = MOST_NOTES_OF_ANSWER}}},
     {"events", SHOWS, follow, {{0}}},
 };
 /* clang-format on */
@@ -113,7 +118,25 @@ static json_t *common_refusal(const json_t *fields)
                                CONTROL_VERSION);
     if (id && !json_is_string(id) && !json_is_integer(id))
         return request_refusal("bad-field", "id", "a string or a whole number");
+    const json_t *by = json_object_get(fields, "by");
+    if (by && (!json_is_string(by) || json_string_length(by) >= MOST_BY))
+        return request_refusal("bad-field", "by", "a name of %d bytes at most", MOST_BY - 1);
     return NULL;
+}
+
+/* Answers a request, and notes what that has changed. */
+static json_t *answer_and_note(struct asked *asked, const struct kind *kind)
+{
+    static struct config before;
+    const char *by = json_string_value(json_object_get(asked->fields, "by"));
+    bool changes = kind->effect == CHANGES || field_that_changes(asked->fields, kind->fields);
+    if (!changes)
+        return kind->answer(asked);
+    snprintf(asked->author.by, sizeof asked->author.by, "%s", by ? by : "");
+    service_see(asked->control->service, &before);
+    json_t *answer = kind->answer(asked);
+    audit_compare(asked->control->service, &before, &asked->author);
+    return answer;
 }
 
 /* Answers an object. */
@@ -133,7 +156,7 @@ static json_t *answer(struct asked *asked)
         asked->control->has_acted =
             !refusal && asked->client->rights == MAY_CHANGE && kinds[i].answer != status;
         asked->control->status.is_old |= asked->control->has_acted;
-        return refusal ? refusal : kinds[i].answer(asked);
+        return refusal ? refusal : answer_and_note(asked, &kinds[i]);
     }
     if (!refusal)
         refusal = request_refusal("unknown-request", "request", "no request is named so");
@@ -156,7 +179,7 @@ json_t *request_answer(struct control *control, struct control_client *client, s
 {
     json_error_t fault;
     json_t *fields = json_loadb(line, length, JSON_REJECT_DUPLICATES, &fault);
-    struct asked asked = {control, client, host, fields};
+    struct asked asked = {control, client, host, fields, {client->user, client->process, ""}};
     json_t *reply;
     if (!fields)
         reply = request_refusal("trash", NULL, "no JSON: column %d: %s", fault.column, fault.text);

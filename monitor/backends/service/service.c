@@ -215,9 +215,12 @@ static int serve_clients(void *context, int file)
 static int take_hangup(void *context, int file)
 {
     struct service *service = context;
+    static struct config before;
+    const struct author nobody = {0};
     look(service);
-    if (process_took_reload(file))
-        service_reload(service);
+    service_see(service, &before);
+    if (process_took_reload(file) && !service_reload(service))
+        audit_compare(service, &before, &nobody);
     return LOOP_GOES_ON;
 }
 

@@ -4,7 +4,7 @@
 #define SERVICE_H
 #include "changes.h"
 
-#include "../control/control.h"
+#include "../control/audit.h"
 
 struct service {
     const char *file;     /* of the configuration; NULL: none */
@@ -12,6 +12,7 @@ struct service {
     const char *checks;   /* a file that is to be checked alone; NULL: none */
     struct config config; /* what the file says */
     struct changes changes;
+    struct audit audit;
     struct host *host;
     struct control control;
     struct control_options sockets[CONTROL_SOCKETS];
