@@ -10,7 +10,7 @@ UNITS = {"K": 1 << 10, "M": 1 << 20, "G": 1 << 30, "T": 1 << 40}
 
 
 def parse_size(text, name="size"):
-    """Returns the bytes of a size such as 480M: a number with K, M, G or T, in whole pages; or 0."""
+    """Returns the bytes of a size such as 480M: a number with K, M, G or T, whole pages; or 0."""
     found = re.fullmatch(r"(\d{1,12})([KMGT])(?:iB)?", text, re.ASCII)
     size = int(found[1]) * UNITS[found[2]] if found else 0 if text == "0" else -1
     if not 0 <= size <= MOST_SIZE or size % PAGE:

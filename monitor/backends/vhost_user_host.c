@@ -3,8 +3,8 @@
  *
  *     vhost_user_host FOLDER --budget MIB [--floor MIB] [--period MS] [--step N] [--strict]
  *                     [--strict-pages] [--events] [--features HEX] [--lines N] [--program PATH]
- *                     [--no-sandbox] [--end-with-lender] [--config FILE] [--state FOLDER] [--check FILE]
- *                     [--control PATH]
+ *                     [--no-sandbox] [--end-with-lender] [--config FILE] [--state FOLDER]
+ *                     [--check FILE] [--control PATH]
  *                     [--control-mode OCTAL] [--control-group NAME] [--status PATH]
  *                     [--status-mode OCTAL] [--status-group NAME] [--log-level WORD]
  *                     [--patience SECONDS] [--on-short PATH]

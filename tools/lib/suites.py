@@ -46,7 +46,10 @@ SUITES = {
         "python3-fusepy",
     ),
     "fuzz": Suite(
-        "coverage-guided fuzzing of both programs of a host; `--seconds N` of the processor (600), `--keep`",
+        (
+            "coverage-guided fuzzing of both programs of a host; `--seconds N` of the processor "
+            "(600), `--keep`"
+        ),
         ("monitor/tests/fuzz", "-v", "-rP"),
         "clang libclang-rt-14-dev llvm",
     ),
@@ -89,8 +92,8 @@ SUITES = {
     ),
     "migrate": Suite(
         (
-            "a Linux guest that migrates between two QEMUs of Debian 13, or is saved, by emulation: "
-            "all its memory is compared"
+            "a Linux guest that migrates between two QEMUs of Debian 13, or is saved, by "
+            "emulation: all its memory is compared"
         ),
         ("monitor/tests/migrate", "-v", "-rP"),
         "ninja-build python3-venv libglib2.0-dev libfdt-dev zlib1g-dev patch",

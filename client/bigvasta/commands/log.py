@@ -1,5 +1,5 @@
-"""`bigvasta log`: what the host decided, what was changed and by whom, and with -f what happens from
-now on."""
+"""`bigvasta log`: what the host decided, what was changed and by whom, and with -f what happens
+from now on."""
 
 import json
 import re

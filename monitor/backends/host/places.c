@@ -5,32 +5,6 @@
 
 enum { STANDS = 1000 }; /* milliseconds in which nothing moves, and a host stands still */
 
-uint32_t seat_pages(const struct seat *seat)
-{
-    return place_of(seat)->granted > 0 ? place_of(seat)->pages : 0;
-}
-
-uint32_t seat_told(const struct seat *seat)
-{
-    return place_of(seat)->target_number > 0 ? place_of(seat)->target : 0;
-}
-
-const VbSeat *added_place_of(const struct seat *seat)
-{
-    static const VbSeat none;
-    return seat->added == NO_PLACE ? &none : &seat->host->places[seat->added];
-}
-
-uint32_t seat_lent(const struct seat *seat)
-{
-    return vb_seat_lent(place_of(seat)) + vb_seat_lent(added_place_of(seat));
-}
-
-uint32_t seat_asked(const struct seat *seat)
-{
-    return vb_seat_asked(place_of(seat)) + vb_seat_asked(added_place_of(seat));
-}
-
 uint64_t places_owed(const struct host *host)
 {
     return vb_host_owed(host->places, host->place_count);

@@ -188,8 +188,8 @@ static void take_report(struct seat *seat, const struct lending_message *message
         seat_look(seat, true);
 }
 
-/* It says that its client has gone. What it was lent stays lent, and what it held is held, until the
- * kernel says that it has ended. */
+/* It says that its client has gone. What it was lent stays lent, and what it held is held, until
+ * the kernel says that it has ended. */
 static void take_leave(struct seat *seat)
 {
     bool had_pages = seat_pages(seat) > 0;

@@ -195,3 +195,31 @@ const char *seat_remove(struct host *host, struct seat *seat)
     host->leaving[host->leaving_count++] = seat;
     return NULL;
 }
+
+/* ---- what its places say */
+
+uint32_t seat_pages(const struct seat *seat)
+{
+    return place_of(seat)->granted > 0 ? place_of(seat)->pages : 0;
+}
+
+uint32_t seat_told(const struct seat *seat)
+{
+    return place_of(seat)->target_number > 0 ? place_of(seat)->target : 0;
+}
+
+const VbSeat *added_place_of(const struct seat *seat)
+{
+    static const VbSeat none;
+    return seat->added == NO_PLACE ? &none : &seat->host->places[seat->added];
+}
+
+uint32_t seat_lent(const struct seat *seat)
+{
+    return vb_seat_lent(place_of(seat)) + vb_seat_lent(added_place_of(seat));
+}
+
+uint32_t seat_asked(const struct seat *seat)
+{
+    return vb_seat_asked(place_of(seat)) + vb_seat_asked(added_place_of(seat));
+}

@@ -138,8 +138,8 @@ const char *host_set_floor(struct host *host, uint32_t pages);
 const char *host_set_overdraft(struct host *host, uint32_t pages);
 const char *host_set_patience(struct host *host, uint32_t seconds);
 const char *host_set_reserve(struct host *host, uint32_t percent);
-/* Whether guests are strict of which nothing else was said, from the next client of each on; and how
- * fast targets grow. */
+/* Whether guests are strict of which nothing else was said, from the next client of each on; and
+ * how fast targets grow. */
 void host_set_strict(struct host *host, bool strict);
 void host_set_step(struct host *host, uint32_t step);
 const char *host_add(struct host *host, const char *name, const struct guest_terms *terms);

@@ -3,8 +3,8 @@
 #define APPLY_H
 #include "config_keys.h"
 
-/* Whether the host takes the terms of all guests of a configuration, and its sizes; else says by the
- * file's name what it doesn't. */
+/* Whether the host takes the terms of all guests of a configuration, and its sizes; else says by
+ * the file's name what it doesn't. */
 bool apply_fits(const char *file, const struct config *config, const struct host *host);
 
 /* Sets what a configuration says of the host's frames. */

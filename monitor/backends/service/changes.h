@@ -27,8 +27,9 @@ void changes_put_over(const struct changes *changes, struct config *config);
 /* For how long a change lasts that is asked for: FOR_GOOD, where there is a folder. */
 enum lasting changes_last(const struct changes *changes, bool until_restart);
 
-/* Keeps a change: of a size of the host's; of these terms of a guest, which may be new; that a guest
- * is removed. `file` is the configuration file's. NULL, or why it can't be kept: then all stays. */
+/* Keeps a change: of a size of the host's; of these terms of a guest, which may be new; that a
+ * guest is removed. `file` is the configuration file's. NULL, or why it can't be kept: then all
+ * stays. */
 const char *changes_keep_size(struct changes *changes, const struct config *file,
                               enum lasting lasting, enum config_key key, uint32_t pages);
 const char *changes_keep_terms(struct changes *changes, const struct config *file,

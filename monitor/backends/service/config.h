@@ -61,8 +61,8 @@ bool config_read(const char *path, struct config *config);
 /* The last line of what was changed: it shows that nothing of it was cut off. */
 extern const char changes_end[];
 
-/* Reads what was changed, of a file's bytes: whole, with its end, and with nothing in it that can't be
- * changed; false as above, by the path. */
+/* Reads what was changed, of a file's bytes: whole, with its end, and with nothing in it that can't
+ * be changed; false as above, by the path. */
 bool changes_parse(const char *path, const char *bytes, size_t length, struct config *config);
 
 /* The guest of this name; NULL: there is none. */

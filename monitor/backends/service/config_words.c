@@ -27,7 +27,7 @@ bool word_is_name(const char *name)
     return length > 0 && length < MOST_CONFIG_NAME && strspn(name, letters) == length;
 }
 
-/* Reads a size of so many pages or more. */
+/* Reads a size of `least` pages or more. */
 static bool read_pages(const char *word, uint32_t least, uint32_t *pages)
 {
     uint32_t read;

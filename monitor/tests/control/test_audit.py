@@ -8,7 +8,7 @@ import time
 
 import pytest
 from bigvasta.connection import Connection
-from hosts import Answering, Host, Raw, say
+from hosts import Host, Raw, say
 from installed import bigvasta
 from waiting import eventually, patience_from_now
 

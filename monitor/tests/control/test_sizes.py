@@ -48,7 +48,8 @@ def test_a_size_is_the_same_wherever_it_is(program, folder, size, wanted):
     assert [terms[it] for it in ("least", "most", "overhead")] == [wanted] * 3
     assert host.end() == 0
     (folder / "file").write_text(
-        f"[host]\nfolder = {folder}\nbudget = {size}\noverdraft = {size}\n[guest b]\nmost = {size}\n"
+        f"[host]\nfolder = {folder}\nbudget = {size}\noverdraft = {size}\n"
+        f"[guest b]\nmost = {size}\n"
     )
     host = started(program, folder, "--config", f"{folder}/file")
     assert (host.status()["budget"], host.status()["overdraft"]) == (wanted, wanted)
