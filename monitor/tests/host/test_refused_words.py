@@ -1,5 +1,7 @@
 """Words of a host's command line and of its lines that are refused by name."""
 
+import os
+import re
 import subprocess
 
 import pytest
@@ -14,10 +16,27 @@ OPTIONS = (
 )
 
 
-@pytest.mark.parametrize("words, why", OPTIONS)
-def test_an_option_that_cannot_be_is_named(plain, tmp_path, words, why):
+# Of each option that has a number: its base, the least number and the most that it takes
+# (vhost_user_host(1), vhost_user_balloon(1)); any other is answered with the usage.
+BOUNDS = {
+    "budget": (10, 1, (1 << 24) - 1),
+    "floor": (10, 0, (1 << 24) - 1),
+    "period": (10, 10, 60000),
+    "step": (10, 0, (1 << 32) - 1),
+    "reserve": (10, 0, 100),
+    "overdraft": (10, 0, (1 << 32) - 1),
+    "patience": (10, 1, 86400),
+    "cost": (10, 0, (1 << 32) - 1),
+    "lines": (10, 0, (1 << 31) - 1),
+    "features": (16, 0, (1 << 64) - 1),
+}
+OF_A_BALLOON = ("lines", "features")
+
+
+def said_by(*words):
+    """Returns what a program says that ends as its words or its folder aren't good."""
     ran = subprocess.run(
-        [plain, str(tmp_path), "--budget", "1", *words],
+        words,
         stdin=subprocess.DEVNULL,
         capture_output=True,
         text=True,
@@ -25,7 +44,29 @@ def test_an_option_that_cannot_be_is_named(plain, tmp_path, words, why):
         env={"LC_ALL": "C"},
     )
     assert (ran.returncode, ran.stdout) == (2, "")
-    assert any(it.endswith(why) for it in ran.stderr.splitlines()), ran.stderr
+    return ran.stderr
+
+
+@pytest.mark.parametrize("program", ("vhost_user_host", "vhost_user_balloon"))
+def test_each_number_of_an_option_has_its_bounds(plain, program):
+    path, is_host = f"{os.path.dirname(plain)}/{program}", program == "vhost_user_host"
+    usage = subprocess.run([path, "--help"], capture_output=True, text=True, check=True).stdout
+    named = set(re.findall(r"--([\w-]+) (?:MIB|MS|N|PERCENT|PAGES|SECONDS|HEX)\b", usage))
+    assert named == set(BOUNDS if is_host else OF_A_BALLOON)
+    words = (path, "/nowhere/socket", *(("--budget", "1") if is_host else ()))
+    for name in sorted(named):
+        base, least, most = BOUNDS[name]
+        numbers = {
+            it: f"{it:x}" if base == 16 else f"{it}" for it in (least - 1, least, most, most + 1)
+        }
+        said = {it: said_by(*words, f"--{name}", text) for it, text in numbers.items()}
+        assert {it for it in said if usage not in said[it]} == {least, most}, (name, said)
+
+
+@pytest.mark.parametrize("words, why", OPTIONS)
+def test_an_option_that_cannot_be_is_named(plain, tmp_path, words, why):
+    said = said_by(plain, str(tmp_path), "--budget", "1", *words)
+    assert any(it.endswith(why) for it in said.splitlines()), said
 
 
 @pytest.mark.parametrize("twice", ("least", "most", "priority", "overhead", "memory", "start"))

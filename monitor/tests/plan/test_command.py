@@ -7,7 +7,9 @@ import subprocess
 
 import pytest
 from bigvasta.cli import parser
+from bigvasta.plan import command
 from bigvasta.plan.search import spread, tightest
+from bigvasta.statuses import Usage
 from linux_kit import HEADERS
 from planner import CLIENT, run
 from waiting import PATIENCE
@@ -170,6 +172,21 @@ def test_a_package_that_is_missing(tmp_path, day, module):
         run(day, "--draw", "plan.svg", status=2, path=f"{tmp_path}:{CLIENT}")
         == f"bigvasta: {MISSING[module]}\n"
     )
+
+
+# How a word is read, its least and its most with what they are, and the next ones, which aren't any.
+BOUNDS = (
+    (command.pages_of, {"4K": 1, "17179869180K": (1 << 32) - 1}, ("0K", "16T")),
+    (command.hundredths_of, {"0.01": 1, "100": 10000}, ("0", "100.01")),
+)
+
+
+@pytest.mark.parametrize("read, good, bad", BOUNDS)
+def test_the_least_and_the_most_of_a_word(read, good, bad):
+    assert {it: read(it, "--it") for it in good} == good
+    for it in bad:
+        with pytest.raises(Usage, match=f"--it: '{it}' isn't from"):
+            read(it, "--it")
 
 
 # Words of a command line that is refused, and what it says.
