@@ -11,7 +11,7 @@ use vb_monitor::{Budget, Cut, Outcome, Region, Room, Spot, serve};
 /// A guest of 32 pages.
 const SETTINGS: Settings = Settings {
     memory_end: 0x2_0000,
-    offered: 0x1_0000_002f,
+    offered: 0x1_0000_003f,
     reserved_pages: 0,
     needs_must_tell: 0,
     skips_bad_pages: 0,
@@ -128,35 +128,41 @@ const ITS_NEXT: Spot = Spot {
     offset: 0x3400,
 };
 
-/// Which chain is there: that of `put_request`, of `put_long_request`, or of `put_id`.
+/// Which chain is there: that of `put_request`, of `put_long_request`, of `put_id`, or of
+/// `put_free`.
 #[derive(Clone, Copy)]
 enum Request {
     Short,
     Long,
     Id,
+    Free,
 }
 
-/// A notice of a request: what it is, which request it is of, how many chains it may serve, whether
-/// it keeps all pages, whether an interrupt is wanted and more is available at its end, and its
-/// accesses.
+/// A notice of a request: what it is, which request it is of, how many chains it may serve, after
+/// how many pages it begins no other, whether it keeps all pages, what its driver poisons free pages
+/// with, whether an interrupt is wanted and more is available at its end, and its accesses.
 struct Case {
     name: &'static str,
     request: Request,
     kind: Kind,
     chains: u32,
+    pages: u32,
     keeps: bool,
+    poison: u32,
     interrupt: bool,
     more: bool,
     accesses: &'static [Row],
 }
 
-static CASES: [Case; 6] = [
+static CASES: [Case; 10] = [
     Case {
         name: "an inflate",
         request: Request::Short,
         kind: Kind::Inflate,
         chains: 8,
+        pages: 256,
         keeps: false,
+        poison: 0,
         interrupt: true,
         more: false,
         accesses: &[
@@ -184,7 +190,9 @@ static CASES: [Case; 6] = [
         request: Request::Short,
         kind: Kind::Inflate,
         chains: 8,
+        pages: 256,
         keeps: true,
+        poison: 0,
         interrupt: true,
         more: false,
         accesses: &[
@@ -209,7 +217,9 @@ static CASES: [Case; 6] = [
         request: Request::Short,
         kind: Kind::Deflate,
         chains: 8,
+        pages: 256,
         keeps: false,
+        poison: 0,
         interrupt: true,
         more: false,
         accesses: &[
@@ -234,7 +244,9 @@ static CASES: [Case; 6] = [
         request: Request::Long,
         kind: Kind::Inflate,
         chains: 8,
+        pages: 256,
         keeps: true,
+        poison: 0,
         interrupt: true,
         more: false,
         accesses: &[
@@ -260,7 +272,9 @@ static CASES: [Case; 6] = [
         request: Request::Id,
         kind: Kind::Hint,
         chains: 8,
+        pages: 256,
         keeps: false,
+        poison: 0,
         interrupt: true,
         more: false,
         accesses: &[
@@ -279,11 +293,98 @@ static CASES: [Case; 6] = [
         ],
     },
     Case {
+        name: "a report",
+        request: Request::Free,
+        kind: Kind::Report,
+        chains: 8,
+        pages: 256,
+        keeps: false,
+        poison: 0,
+        interrupt: true,
+        more: false,
+        accesses: &[
+            Row::Word(INDEX, 1),
+            Row::Acquire,
+            Row::Word(ENTRY, 0),
+            Row::Bytes(TABLE, 16),
+            Row::Pages(1, 1),
+            Row::Discarded(PAGE_5),
+            Row::Number(USED_ID, 0),
+            Row::Number(USED_LENGTH, 0),
+            Row::Release,
+            Row::Written(USED_INDEX, 1),
+            Row::Full,
+            Row::Word(FLAGS, 0),
+        ],
+    },
+    Case {
+        name: "a report of pages that are poisoned, which are kept",
+        request: Request::Free,
+        kind: Kind::Report,
+        chains: 8,
+        pages: 256,
+        keeps: false,
+        poison: 1,
+        interrupt: true,
+        more: false,
+        accesses: &[
+            Row::Word(INDEX, 1),
+            Row::Acquire,
+            Row::Word(ENTRY, 0),
+            Row::Bytes(TABLE, 16),
+            Row::Pages(1, 1),
+            Row::Number(USED_ID, 0),
+            Row::Number(USED_LENGTH, 0),
+            Row::Release,
+            Row::Written(USED_INDEX, 1),
+            Row::Full,
+            Row::Word(FLAGS, 0),
+        ],
+    },
+    Case {
+        name: "a hint while no round is open, which isn't named",
+        request: Request::Free,
+        kind: Kind::Hint,
+        chains: 8,
+        pages: 256,
+        keeps: false,
+        poison: 0,
+        interrupt: true,
+        more: false,
+        accesses: &[
+            Row::Word(INDEX, 1),
+            Row::Acquire,
+            Row::Word(ENTRY, 0),
+            Row::Bytes(TABLE, 16),
+            Row::Pages(0, 0),
+            Row::Number(USED_ID, 0),
+            Row::Number(USED_LENGTH, 0),
+            Row::Release,
+            Row::Written(USED_INDEX, 1),
+            Row::Full,
+            Row::Word(FLAGS, 0),
+        ],
+    },
+    Case {
         name: "a budget of no chain, after which more is there",
         request: Request::Short,
         kind: Kind::Inflate,
         chains: 0,
+        pages: 256,
         keeps: false,
+        poison: 0,
+        interrupt: false,
+        more: true,
+        accesses: &[Row::Word(INDEX, 1)],
+    },
+    Case {
+        name: "a budget of no page, after which more is there",
+        request: Request::Short,
+        kind: Kind::Inflate,
+        chains: 8,
+        pages: 0,
+        keeps: false,
+        poison: 0,
         interrupt: false,
         more: true,
         accesses: &[Row::Word(INDEX, 1)],
@@ -336,6 +437,17 @@ fn put_id(bytes: &mut [u8]) {
     bytes[0x403] = 4;
 }
 
+/// One available entry, a chain of one descriptor that the device may write: page 5 is free.
+fn put_free(bytes: &mut [u8]) {
+    if bytes.len() < MEMORY {
+        return;
+    }
+    bytes[1] = 0x50;
+    bytes[9] = 0x10;
+    bytes[12] = 2;
+    bytes[0x102] = 1;
+}
+
 /// Serves the request that the case has, as the case has it.
 fn serve_request<R: Abort>(memory: &mut Scribbled<R>, case: &Case) -> Outcome {
     let mut device = Device::new(SETTINGS);
@@ -344,10 +456,13 @@ fn serve_request<R: Abort>(memory: &mut Scribbled<R>, case: &Case) -> Outcome {
     device.inflate = RING;
     device.deflate = RING;
     device.hint = RING;
+    device.report = RING;
+    device.poison = case.poison;
     match case.request {
         Request::Short => put_request(&mut memory.bytes),
         Request::Long => put_long_request(&mut memory.bytes),
         Request::Id => put_id(&mut memory.bytes),
+        Request::Free => put_free(&mut memory.bytes),
     }
     let mut room = Room::EMPTY;
     serve(
@@ -357,7 +472,7 @@ fn serve_request<R: Abort>(memory: &mut Scribbled<R>, case: &Case) -> Outcome {
         case.kind,
         Budget {
             chains: case.chains,
-            pages: 256,
+            pages: case.pages,
             keeps: case.keeps,
             longest: 257,
         },
