@@ -87,7 +87,7 @@ impl<P: Pace> Model for BalloonDevice<P> {
 
 impl<P: Pace> BalloonDevice<P> {
     /// A device of this pace that no guest has yet.
-    pub(crate) fn of_pace(alloc: Global) -> Self
+    pub fn of_pace(alloc: Global) -> Self
         ensures new { result ≡ fresh_device P.IS_PACED }
         ensures unused { IsUnused result.mem result.part }
         ensures paced { result.part.paced ≡ P.IS_PACED }

@@ -13,8 +13,6 @@ mod queues;
 mod serving;
 mod taken;
 mod taken_list;
-#[cfg(test)]
-mod tests;
 mod worked;
 
 pub use balloon::{BalloonDevice, ImmediateDevice, PacedDevice};

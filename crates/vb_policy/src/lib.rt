@@ -10,8 +10,6 @@ mod laws;
 mod level;
 mod pressure;
 mod settle;
-#[cfg(test)]
-mod tests;
 mod tiers;
 
 pub use asking::ask;

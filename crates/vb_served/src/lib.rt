@@ -9,8 +9,6 @@ mod marking;
 mod one;
 mod reading;
 mod server;
-#[cfg(test)]
-mod tests;
 
 pub use device::NoticedDevice;
 pub use loose_ram::LooseRam;

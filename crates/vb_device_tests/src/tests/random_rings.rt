@@ -2,13 +2,13 @@
 
 use super::second_reading::{Sizes, answer_of};
 use super::{Answer, Host, attach};
-use crate::{BalloonDevice, Immediate, Pace, Paced};
 use byteorder::{ByteOrder, LittleEndian};
 use rand_core::Rng;
 use rand_pcg::Pcg32;
 use std::alloc::{AllocError, Global};
 use std::process::Abort;
 use std::test::Fail;
+use vb_device::{BalloonDevice, Immediate, Pace, Paced};
 use vb_ram::{GuestBytes, Shape};
 
 /// A guest whose rings take one page each, and one whose rings take two.

@@ -2,12 +2,12 @@
 
 ghost use Rattle.vb_device.specs.Calls.{IsUnused};
 
-use crate::Notices;
 use bitflags::Flags;
 use std::alloc::Global;
 use std::process::Abort;
 use vb_device::{Device, ImmediateDevice, Statistics};
 use vb_ram::{Config, Frame, GuestBytes};
+use vb_served::Notices;
 use vb_status::{Features, Port, Status};
 use vb_virtio::Refusal;
 

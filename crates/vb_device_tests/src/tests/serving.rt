@@ -3,7 +3,7 @@
 use super::bytes::{AVAILABLE, NUMBERS, TWO_REQUESTS, WRITABLE};
 use super::requests::TWO_TAKEN;
 use super::{Answer, Scenario, Sight, Step, expect};
-use crate::{Immediate, Paced};
+use vb_device::{Immediate, Paced};
 use vb_virtio::Refusal;
 
 /// Before a life nothing is served, and no other queue ever is.

@@ -5,7 +5,7 @@ use super::bytes::{
 };
 use super::requests::INFLATE;
 use super::{Answer, Scenario, Sight, Step, expect};
-use crate::Immediate;
+use vb_device::Immediate;
 use vb_virtio::Refusal;
 
 /// Numbers 20, 64 and 3.

@@ -3,7 +3,7 @@
 use super::bytes::{AVAILABLE, NUMBERS, SIXTEEN_BYTES};
 use super::requests::DEFLATE;
 use super::{Answer, Scenario, Sight, Step, expect};
-use crate::{Immediate, Paced};
+use vb_device::{Immediate, Paced};
 use vb_virtio::Refusal;
 
 /// All features but MUST_TELL_HOST.

@@ -4,7 +4,7 @@ use super::bytes::{
     AVAILABLE, EIGHT_BYTES, NUMBERS, NUMBERS_FROM_32, SIXTEEN_BYTES, TWO_REQUESTS, USED,
 };
 use super::{Answer, Scenario, Sight, Step, expect};
-use crate::Immediate;
+use vb_device::Immediate;
 use vb_virtio::Refusal;
 
 /// Pages 17 to 20 go into the balloon.
@@ -114,17 +114,6 @@ pub(super) const TAKEN: &'static [(Step, Answer)] = &[
     (Step::Take(0), Answer::Head(Some(0))),
 ];
 
-/// The frames are gone and the pages ballooned while no used element is written yet.
-const SETTLED: &'static [(Step, Answer)] = &[
-    (Step::Settle, Answer::Head(Some(0))),
-    (Step::See(Sight::Bytes(0, 152)), Answer::Bytes([0; 12])),
-    (Step::See(Sight::Backing(18)), Answer::Frame(None)),
-    (Step::See(Sight::Backing(20)), Answer::Frame(None)),
-    (Step::HandBack, Answer::Frame(Some(41))),
-    (Step::HandBack, Answer::Frame(Some(40))),
-    (Step::See(Sight::AreBallooned(17, 20)), Answer::Done),
-];
-
 /// In rings of two pages, with available and used ring in the second, pages 32 to 35 go into the
 /// balloon, and pages 32 and 33 come back.
 const TWO_PAGES: &'static [(Step, Answer)] = &[
@@ -202,7 +191,7 @@ const ONE_PAGE: &'static [(Step, Answer)] = &[
 ];
 
 /// What immediate devices make of inflates and deflates.
-static INFLATES: [Scenario; 11] = [
+static INFLATES: [Scenario; 10] = [
     (
         "a request is taken and finished",
         64,
@@ -230,12 +219,6 @@ static INFLATES: [Scenario; 11] = [
         &[TWO_IN_ANY_ORDER],
     ),
     ("an immediate device is idle", 64, 8, &[TWO_TAKEN, NO_WORK]),
-    (
-        "pages are settled before the driver is told",
-        64,
-        8,
-        &[TAKEN, SETTLED],
-    ),
     (
         "requests in rings of two pages",
         80,

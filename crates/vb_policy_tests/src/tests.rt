@@ -1,6 +1,6 @@
 //! Decisions about random guests, beside sums by plain arithmetic.
 
-use crate::{Decision, Division, Guest, Host, Tier, decide};
+use vb_policy::{Decision, Division, Guest, Host, Tier, decide};
 
 /// How many guests a host has here.
 const COUNT: usize = 5;

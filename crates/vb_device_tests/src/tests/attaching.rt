@@ -2,7 +2,7 @@
 
 use super::requests::INFLATE;
 use super::{Answer, Host, Scenario, Sight, Step, expect};
-use crate::{BalloonDevice, Immediate};
+use vb_device::{BalloonDevice, Immediate};
 use vb_ram::Shape;
 use vb_virtio::Refusal;
 
@@ -11,6 +11,7 @@ const NOT_ATTACHED: &'static [(Step, Answer)] = &[
     (Step::Start, Answer::Done),
     (Step::Take(0), Answer::Head(None)),
     (Step::Claim, Answer::AskHost),
+    (Step::See(Sight::Keeps), Answer::Is(false)),
 ];
 
 #[test]

@@ -10,14 +10,15 @@ mod paced;
 mod random_rings;
 mod requests;
 mod second_reading;
+mod served;
 mod serving;
 mod statistics_and_reports;
 mod untold;
 
-use crate::{BalloonDevice, Claimed, Device, Pace, Statistics, Worked};
 use bitflags::Flags;
 use std::alloc::Global;
 use std::process::Abort;
+use vb_device::{BalloonDevice, Claimed, Device, Pace, Statistics, Worked};
 use vb_ram::{Config, Frame, GuestBytes, Shape};
 use vb_status::{Features, Port, Status};
 use vb_virtio::Refusal;
@@ -43,9 +44,6 @@ enum Step {
     Work,
     /// The pages from the first up to the end are visited in turn, and none has a frame.
     WorkBare(u32, u32),
-    /// The inflate that was taken first is settled, and the driver isn't told. No frame may be
-    /// loose before.
-    Settle,
     /// The chain of a queue that was taken as this number is finished. No frame may be loose
     /// before.
     Finish(u32, u32),
@@ -77,6 +75,8 @@ enum Sight {
     Target,
     /// Whether no page has a frame.
     AreBare,
+    /// Whether the device keeps frames of its own.
+    Keeps,
 }
 
 /// What is answered.
@@ -177,17 +177,6 @@ impl<P: Pace> Host<P> {
         match self.device.work() {
             Ok(Some(Worked { page, freed })) => Answer::Worked(page, freed),
             Ok(None) => Answer::Idle,
-            Err(refusal) => Answer::Refused(refusal),
-        }
-    }
-
-    fn settle(&mut self) -> Answer {
-        if self.device.hand_back().is_some() || !self.device.has_ring(0) {
-            return Answer::Is(false);
-        }
-        let visits = self.device.paced();
-        match self.device.settle(0, 0, visits) {
-            Ok(head) => Answer::Head(Some(head)),
             Err(refusal) => Answer::Refused(refusal),
         }
     }
@@ -335,6 +324,7 @@ impl<P: Pace> Host<P> {
             Sight::BalloonedCount => Answer::Count(self.device.ballooned_count()),
             Sight::Target => Answer::Count(self.device.target()),
             Sight::AreBare => done(self.are_bare()),
+            Sight::Keeps => Answer::Is(self.device.keeps()),
         }
     }
 
@@ -353,7 +343,6 @@ impl<P: Pace> Host<P> {
             Step::Ask => self.ask(),
             Step::Work => self.work(),
             Step::WorkBare(first, end) => done(self.work_bare(*first, *end)),
-            Step::Settle => self.settle(),
             Step::Finish(queue, index) => self.finish(*queue, *index),
             Step::Serve(queue) => self.serve(*queue),
             Step::Supply(page, number) => done(supply(&mut self.device, alloc, *page, *number)),

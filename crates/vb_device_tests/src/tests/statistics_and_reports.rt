@@ -2,7 +2,7 @@
 
 use super::bytes::{AVAILABLE, PAGE_16_TWICE, USED};
 use super::{Answer, Scenario, Sight, Step, expect};
-use crate::Immediate;
+use vb_device::Immediate;
 use vb_virtio::Refusal;
 
 /// A statistics buffer of 20 bytes at address 0xc000 in a queue of 8, and what a driver with 48

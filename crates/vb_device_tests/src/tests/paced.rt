@@ -4,7 +4,7 @@ use super::bytes::{AVAILABLE, FOUR_BYTES, NINE_AHEAD, PAGE_16_TWICE, USED};
 use super::requests::{DEFLATE, TAKEN, TWO_TAKEN};
 use super::statistics_and_reports::TAKEN_TWICE;
 use super::{Answer, Scenario, Sight, Step, expect};
-use crate::Paced;
+use vb_device::Paced;
 use vb_virtio::Refusal;
 
 /// Its pages are visited one by one; page 19 gets a frame after its visit.
