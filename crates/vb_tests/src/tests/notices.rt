@@ -139,8 +139,8 @@ enum Request {
 }
 
 /// A notice of a request: what it is, which request it is of, how many chains it may serve, after
-/// how many pages it begins no other, whether it keeps all pages, what its driver poisons free pages
-/// with, whether an interrupt is wanted and more is available at its end, and its accesses.
+/// how many pages it begins no other, whether it keeps all pages, what its driver poisons free
+/// pages with, whether an interrupt is wanted and more is available at its end, and its accesses.
 struct Case {
     name: &'static str,
     request: Request,
