@@ -38,6 +38,8 @@ class Migrating(Qemu):
 
     devices, debian = (DEVICE,), DEBIAN
     OF_BALLOON = {}
+    # On a busy machine an emulated processor may stand still for longer than the kernel likes.
+    kernel_words = (*Qemu.kernel_words, "nowatchdog", "rcupdate.rcu_cpu_stall_suppress=1")
 
     def find(self):
         """Returns the words that begin a command of QEMU, and its device: the module is preloaded
