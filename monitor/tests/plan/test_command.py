@@ -174,7 +174,7 @@ def test_a_package_that_is_missing(tmp_path, day, module):
     )
 
 
-# How a word is read, its least and its most with what they are, and the next ones, which aren't any.
+# How a word is read, its least and its most with what they are, and the next ones, which are none.
 BOUNDS = (
     (command.pages_of, {"4K": 1, "17179869180K": (1 << 32) - 1}, ("0K", "16T")),
     (command.hundredths_of, {"0.01": 1, "100": 10000}, ("0", "100.01")),
