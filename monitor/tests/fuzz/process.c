@@ -31,7 +31,8 @@ static void change_report(struct lending_message *report)
     else if (what == 14)
         report->counters.statistics++,
             report->figures[0] =
-                (VbStatistic){.tag = 4 + value % 3, .value = value * UINT64_C(4096)};
+                (VbStatistic){.tag = 4 + value % 3, .value = value * UINT64_C(4096)},
+            report->figures[1] = (VbStatistic){.tag = value % 17, .value = value};
     else
         report->counters.taken += value,
             report->held_kib = is_wild ? (uint64_t)next_u32() << 32 : value * 4;

@@ -47,6 +47,7 @@ FUZZERS = {
         "host/message",
         "host/orders",
         "host/policy",
+        "host/pressure",
         "host/rest",
     ),
 }
