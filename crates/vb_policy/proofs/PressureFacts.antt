@@ -66,6 +66,14 @@ each = record counted { swap_in = known 11 } ∷ record counted { swap_out = kno
 abbrev sampled : Counters → Sample
 sampled counters = record { counters = counters; ballooned = 100; target = 100 }
 
+-- each is as it was sampled last, or as it was before
+kept : map (all_latest counted) each ≡ each
+kept = refl
+
+kept_before : all_latest counted nothing ∷ all_latest nothing counted ∷ []
+    ≡ counted ∷ counted ∷ []
+kept_before = refl
+
 -- each presses alone, a killed process for two minutes; nothing that has risen, and what is lower
 each_presses : map (λ c. presses_for (sampled counted) (sampled c)) each
     ≡ 5000 ∷ 5000 ∷ 120000 ∷ 5000 ∷ 5000 ∷ 5000 ∷ []
