@@ -515,3 +515,5 @@ def test_each_line_of_a_guest(made, host):
             lines[0] == f"{guest['name']}: {guest['state']}, at {guest['socket']}".split()
             and lines[1 : len(wanted) + 1] == wanted
         ), lines
+        told = [[name, str(value)] for name, value in guest["statistics"].items()]
+        assert len(told) >= len(STATISTICS) - 1 and lines[-len(told) :] == told
