@@ -45,6 +45,11 @@ def is_text_or_null(value):
     return value is None or is_text(value)
 
 
+def is_refusal(value):
+    """Whether this says why memory wasn't admitted, and by how much; or null."""
+    return value is None or wrong_part({"for": is_text, "bytes": is_count}, value) is None
+
+
 def are_counts(value):
     """Whether this is an object whose fields are counts."""
     return isinstance(value, dict) and all(
@@ -98,6 +103,7 @@ GUEST = {
     **fields(is_flag, "answers cooperates"),
     "pressed": Maybe(is_flag),
     "statistics": Maybe(are_counts),
+    "refused": Maybe(is_refusal),
     **fields(
         is_count,
         "process memory held loan asked excess limit target ballooned free available spare",
@@ -133,7 +139,7 @@ CHANGE = {
 ANSWERS = {
     "status": {"host": HOST, "guests": [GUEST]},
     **dict.fromkeys(("guest", "add", "renew"), {"guest": GUEST, "lasts": Maybe(is_flag)}),
-    "remove": {"lasts": Maybe(is_flag)},
+    "remove": fields(Maybe(is_flag), "lasts lives_on"),
     "budget": {"budget": is_count, "lasts": Maybe(is_flag)},
     "floor": {"floor": is_count, "lasts": Maybe(is_flag)},
     "config": {"config": is_text},
@@ -148,6 +154,7 @@ EVENT = {
     **fields(Maybe(is_count), "budget missing"),
     "decision": Maybe(DECISION),
     **fields(Maybe(is_count), "change user process"),
+    **{"for": Maybe(is_text), "bytes": Maybe(is_count)},
     **fields(Maybe(is_text), "key was is by"),
 }
 REFUSAL = {"error": {"code": is_text, "text": is_text, "field": Maybe(is_text)}}

@@ -109,8 +109,10 @@ def guest_line(guest, scale, width, shown):
     numbers = "".join(
         f"{mebibytes(guest[it]):>{NUMBER_WIDTH}}" for it in ("held", "loan", "target", "spare")
     )
-    wait = wait_of(guest) if guest["state"] != "absent" else "absent"
+    wait = wait_of(guest) or ("absent" if guest["state"] == "absent" else "")
     room = max(width - NAME_WIDTH - 4 * NUMBER_WIDTH - 18, 8)
+    if guest["memory"] == 0:  # there is no bar, which leaves its place to longer words
+        room = max(min(room, width - NAME_WIDTH - 4 * NUMBER_WIDTH - 3 - len(wait)), 1)
     text = (
         f"{guest['name'][:NAME_WIDTH]:<{NAME_WIDTH}}{numbers}  "
         f"{guest_bar(guest, scale, room - 1, shown.blocks):<{room}} {wait}"

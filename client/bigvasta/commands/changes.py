@@ -41,7 +41,14 @@ def run_add(asked):
 
 def run_remove(asked):
     """Ends the service of a guest."""
-    ask(asked, "remove", {"name": asked.name}, lambda it: f"{asked.name} is removed{how_long(it)}")
+    fields = {"name": asked.name, **({"force": True} if asked.force else {})}
+    lives = "; its memory lives on until its VMM closes it"
+    ask(
+        asked,
+        "remove",
+        fields,
+        lambda it: f"{asked.name} is removed{how_long(it)}{lives if it.get('lives_on') else ''}",
+    )
 
 
 def run_size(asked):
@@ -84,6 +91,9 @@ def add(commands, common):
     )
     words.add_argument("name", metavar="NAME")
     until_restart(words)
+    words.add_argument(
+        "--force", action="store_true", help="though it is at work: its memory lives on"
+    )
     words.set_defaults(run=run_remove, changes=lambda asked: True)
     for request, what in (
         ("budget", "what all guests may hold together"),

@@ -8,10 +8,15 @@ import time
 from bigvasta.connection import Connection
 from bigvasta.sizes import mebibytes, seconds
 from bigvasta.statuses import Refused, Usage
+from bigvasta.waits import refusal
 from bigvasta.words import say
 
 # Seconds of a unit of a duration.
 UNITS = {"s": 1, "m": 60, "h": 3600, "d": 86400}
+
+
+# What an event has that is a change.
+CHANGED = {"change", "key", "was", "is", "user", "process"}
 
 
 def clock(moment):
@@ -36,7 +41,7 @@ def decision_line(decision):
     targets = ", ".join(map(share, decision["shares"])) or "no guests"
     return (
         f"decision {decision['number']}: {why}; budget {mebibytes(decision['budget'])}{short}"
-        f"{tier}; targets: {targets} MiB"
+        f"{tier}; targets: {targets}"
     )
 
 
@@ -55,7 +60,7 @@ def event_line(event):
     begin = clock(event["time"])
     if "decision" in event:
         return f"{begin} {decision_line(event['decision'])}"
-    if "change" in event:
+    if CHANGED <= event.keys():
         return f"{begin} {change_line(event)}"
     words = [
         event["event"],
@@ -64,6 +69,8 @@ def event_line(event):
         event.get("waits_for"),
         event.get("reason"),
     ]
+    if {"for", "bytes"} <= event.keys():
+        words.append(refusal(event))
     if "waits" in event:
         words.append(f"after {seconds(event['waits'])}")
     if "budget" in event:
@@ -90,7 +97,8 @@ def past(host, since):
         changes = list(kept(host, "changes", "changes", 0))
     except Refused:
         changes = []  # an older host keeps none
-    begin = min((it["seconds"] for it in decisions if "seconds" in it), default=0) if since else 0
+    moments = [it["seconds"] for it in decisions if "seconds" in it]
+    begin = min(moments, default=float("inf")) if since else 0
     found = [it for it in changes if it.get("seconds", begin) >= begin] + decisions
     return sorted(found, key=lambda it: it.get("seconds", 0))
 
@@ -129,10 +137,15 @@ class Wanted:
 def line_of(it):
     """Returns the line of what is kept."""
     if "lost" in it:
-        return f"{it['lost']} {it['what']} aren't kept any longer"
+        return f"{it['lost']} {it.get('what', 'decisions')} aren't kept any longer"
     if "change" in it:
         return event_line(it)
     return f"{clock(it['time'])} {decision_line(it)}" if "time" in it else decision_line(it)
+
+
+def show(it, is_json):
+    """Prints what is kept."""
+    say(json.dumps(it) if is_json else line_of(it))
 
 
 def show_past(path, asked, wanted):
@@ -145,7 +158,7 @@ def show_past(path, asked, wanted):
         seen[1] = max(seen[1], it.get("change", -1) + 1)
         shown = wanted.of(it)
         if shown:
-            say(json.dumps(shown) if asked.json else line_of(shown))
+            show(shown, asked.json)
     return seen
 
 

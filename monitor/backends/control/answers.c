@@ -39,15 +39,15 @@ static json_t *answer_terms(const struct guest_terms *terms)
 
 static json_t *answer_guest_counters(const struct guest_view *guest)
 {
-    return json_pack("{s:o, s:o, s:o, s:o, s:o, s:o, s:o, s:o, s:o, s:o, s:o, s:o, s:o, s:o}",
-                     "inflated", part_bytes(guest->inflated), "deflated",
-                     part_bytes(guest->deflated), "granted", part_bytes(guest->granted), "reported",
-                     part_bytes(guest->reported), "taken", part_bytes(guest->taken), "discarded",
-                     part_bytes(guest->discarded), "skipped", part_bytes(guest->skipped),
-                     "statistics", count(guest->statistics), "told", count(guest->told), "chains",
-                     count(guest->chains), "kicks", count(guest->kicks), "clients",
-                     count(guest->clients), "lost", count(guest->lost), "limit_failures",
-                     count(guest->limit_failures));
+    return json_pack("{s:o, s:o, s:o, s:o, s:o, s:o, s:o, s:o, s:o, s:o, s:o, s:o, s:o, s:o, s:o}",
+                     "refusals", count(guest->refusals), "inflated", part_bytes(guest->inflated),
+                     "deflated", part_bytes(guest->deflated), "granted", part_bytes(guest->granted),
+                     "reported", part_bytes(guest->reported), "taken", part_bytes(guest->taken),
+                     "discarded", part_bytes(guest->discarded), "skipped",
+                     part_bytes(guest->skipped), "statistics", count(guest->statistics), "told",
+                     count(guest->told), "chains", count(guest->chains), "kicks",
+                     count(guest->kicks), "clients", count(guest->clients), "lost",
+                     count(guest->lost), "limit_failures", count(guest->limit_failures));
 }
 
 static json_t *answer_guest_memory(const struct guest_view *guest)
@@ -78,14 +78,17 @@ json_t *answer_guest(const struct host *host, unsigned number)
 {
     struct guest_view guest;
     host_see_guest(host, number, &guest);
+    json_t *refused = guest.refused_for ? json_pack("{s:s, s:o}", "for", guest.refused_for, "bytes",
+                                                    part_bytes(guest.refused_by))
+                                        : json_null();
     json_t *answer = json_pack(
-        "{s:s, s:s, s:i, s:s, s:s, s:s, s:f, s:b, s:b, s:b, s:b, s:f, s:f, s:o, s:o, s:o}", "name",
-        guest.name, "socket", guest.path, "process", (int)guest.process, "version", guest.version,
-        "state", guest_state_word(guest.state), "waits_for", guest_wait_word(guest.waits_for),
-        "waits", guest.waits, "answers", guest.answers, "reports", guest.reports, "cooperates",
-        guest.cooperates, "pressed", guest.pressed, "silent", guest.silent, "process_silent",
-        guest.process_silent, "terms", answer_terms(&guest.terms), "statistics",
-        answer_statistics(&guest), "counters", answer_guest_counters(&guest));
+        "{s:o, s:s, s:s, s:i, s:s, s:s, s:s, s:f, s:b, s:b, s:b, s:b, s:f, s:f, s:o, s:o, s:o}",
+        "refused", refused, "name", guest.name, "socket", guest.path, "process", (int)guest.process,
+        "version", guest.version, "state", guest_state_word(guest.state), "waits_for",
+        guest_wait_word(guest.waits_for), "waits", guest.waits, "answers", guest.answers, "reports",
+        guest.reports, "cooperates", guest.cooperates, "pressed", guest.pressed, "silent",
+        guest.silent, "process_silent", guest.process_silent, "terms", answer_terms(&guest.terms),
+        "statistics", answer_statistics(&guest), "counters", answer_guest_counters(&guest));
     return part_update(answer, answer_guest_memory(&guest));
 }
 

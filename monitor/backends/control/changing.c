@@ -4,6 +4,7 @@
 #include "parts.h"
 #include "requests.h"
 
+#include "../guest/numbers.h"
 #include "../service/service.h"
 #include "vb.h"
 
@@ -168,13 +169,24 @@ json_t *answer_to_add(const struct asked *asked)
 json_t *answer_to_remove(const struct asked *asked)
 {
     const char *name = field_name(asked->fields, "name");
-    if (host_find(asked->host, name) < 0)
+    int number = host_find(asked->host, name);
+    if (number < 0)
         return no_guest(name);
+    struct guest_view view;
+    host_see_guest(asked->host, (unsigned)number, &view);
+    bool at_work = view.state != GUEST_ABSENT && view.state != GUEST_LEAVING;
+    if (at_work &&
+        !(field_is_there(asked->fields, "force") && field_number(asked->fields, "force")))
+        return request_refusal("at-work", "name",
+                               "%s is at work: --force ends its service, and its memory lives on "
+                               "until its VMM closes it",
+                               name);
     const char *fault =
         changes_keep_removal(changes_of(asked), file_of(asked), how_long(asked), name);
     if (!fault)
         fault = unless_done(asked, host_remove(asked->host, name));
-    return fault ? outcome(fault) : lasting_answer(asked, outcome(NULL));
+    json_t *answer = fault ? outcome(fault) : lasting_answer(asked, outcome(NULL));
+    return fault ? answer : part_set(answer, "lives_on", json_boolean(at_work));
 }
 
 json_t *answer_to_upgrade(const struct asked *asked)

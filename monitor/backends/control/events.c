@@ -25,6 +25,7 @@ struct seen {
     enum guest_wait waits_for;
     double waits;
     uint64_t ended; /* how many of its waits had ended */
+    uint64_t refusals;
     bool cooperates, answers;
     bool here; /* the host still has it */
 };
@@ -138,6 +139,16 @@ static void tell_end_of_wait(struct control *control, const struct seen *seen, e
                         has_ended ? ended->seconds : seen->waits));
 }
 
+/* Tells that its client wasn't admitted, and why: in place of the end of its wait. */
+static void tell_refusal(struct control *control, const struct guest_view *guest)
+{
+    const char *why = guest->refused_for ? guest->refused_for : "nothing";
+    tell_more(control, wait_end_word(WAS_REFUSED), guest->name,
+              json_pack("{s:s, s:f, s:s, s:o}", "waits_for", guest_wait_word(WAITS_FOR_ROOM),
+                        "waits", guest->ended.seconds, "for", why, "bytes",
+                        part_bytes(guest->refused_by)));
+}
+
 static void tell_wait(struct control *control, const struct seen *seen,
                       const struct guest_view *guest)
 {
@@ -161,7 +172,10 @@ static void look_at_guest(struct control *control, const struct guest_view *gues
     struct seen *seen = seen_or_new(control, guest);
     if (!seen)
         return;
-    tell_end_of_wait(control, seen, guest->waits_for, &guest->ended);
+    if (guest->refusals > seen->refusals)
+        tell_refusal(control, guest);
+    else
+        tell_end_of_wait(control, seen, guest->waits_for, &guest->ended);
     tell_state(control, seen, guest);
     tell_wait(control, seen, guest);
     tell_manners(control, seen, guest);
@@ -169,6 +183,7 @@ static void look_at_guest(struct control *control, const struct guest_view *gues
     seen->waits_for = guest->waits_for;
     seen->waits = guest->waits;
     seen->ended = guest->ended.number;
+    seen->refusals = guest->refusals;
     seen->cooperates = guest->cooperates;
     seen->answers = guest->answers && guest->state != GUEST_ABSENT;
     seen->here = true;

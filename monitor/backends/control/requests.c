@@ -75,7 +75,7 @@ static const struct kind kinds[] = {
     {"guest", SHOWS, answer_to_guest,
      {NAMED, TERMS, {"target", FIELD_BYTES, .effect = CHANGES}}},
     {"add", CHANGES, answer_to_add, {NAMED, TERMS}},
-    {"remove", CHANGES, answer_to_remove, {NAMED, LASTS}},
+    {"remove", CHANGES, answer_to_remove, {NAMED, LASTS, {"force", FIELD_BOOLEAN, .effect = SHOWS}}},
     {"upgrade", CHANGES, answer_to_upgrade, {{0}}},
     {"reload", CHANGES, answer_to_reload, {{0}}},
     {"renew", CHANGES, answer_to_renew, {NAMED}},

@@ -4,6 +4,8 @@
 
 #include <ctype.h>
 #include <errno.h>
+#include <inttypes.h>
+#include <stdio.h>
 #include <stdlib.h>
 #include <string.h>
 
@@ -16,10 +18,12 @@ bool read_number(const char *word, int base, uint64_t most, uint64_t *number)
     return isxdigit((unsigned char)word[0]) && !*end && errno == 0 && *number <= most;
 }
 
+static const char units[] = "KMGT";
+enum { PAGE_KIB = 4 };
+
 bool read_size(const char *word, uint32_t *pages)
 {
-    enum { MOST_DIGITS = 15, PAGE_KIB = 4 };
-    static const char units[] = "KMGT";
+    enum { MOST_DIGITS = 15 };
     const uint64_t most = (uint64_t)(UINT32_MAX - 1) * PAGE_KIB;
     char digits[MOST_DIGITS + 1];
     size_t length = strlen(word);
@@ -35,6 +39,16 @@ bool read_size(const char *word, uint32_t *pages)
         return false;
     *pages = (uint32_t)(number * kib / PAGE_KIB);
     return true;
+}
+
+const char *size_text(uint64_t pages, char text[MOST_SIZE_TEXT])
+{
+    uint64_t number = pages * PAGE_KIB;
+    unsigned unit = 0;
+    while (number > 0 && number % 1024 == 0 && units[unit + 1])
+        number /= 1024, unit++;
+    snprintf(text, MOST_SIZE_TEXT, "%" PRIu64 "%c", number, units[unit]);
+    return text;
 }
 
 bool read_features(const char *word, void *at)

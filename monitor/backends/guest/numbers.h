@@ -12,6 +12,10 @@ bool read_number(const char *word, int base, uint64_t most, uint64_t *number);
  * it is none: then nothing has changed. */
 bool read_size(const char *word, uint32_t *pages);
 
+/* A size by the largest unit of which it is a whole number. */
+enum { MOST_SIZE_TEXT = 24 };
+const char *size_text(uint64_t pages, char text[MOST_SIZE_TEXT]);
+
 /* A feature: the driver takes no page of the balloon into use before it has told. */
 enum { MUST_TELL_HOST = 1 };
 

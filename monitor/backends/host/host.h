@@ -71,8 +71,11 @@ struct seat {
     int channel;   /* -1: none */
     bool gone;     /* its client has gone; the process hasn't ended yet */
     bool refused;  /* its client isn't served any longer, as it broke a rule or found no room */
-    bool holds;    /* its process was started to hold deflates and resets, until they are granted */
-    bool adopts;   /* the first report of a process that an earlier lender has started is still to
+    enum refusal refused_for; /* why its last client wasn't admitted, until one is, and by how many
+                                 pages it missed that */
+    uint64_t refused_by, refusals; /* refusals: clients that weren't admitted */
+    bool holds;  /* its process was started to hold deflates and resets, until they are granted */
+    bool adopts; /* the first report of a process that an earlier lender has started is still to
                       come */
     int64_t adopts_until; /* and isn't waited for any longer from then on */
     bool reserves;        /* its pages are as the folder kept them */

@@ -43,11 +43,23 @@ static uint64_t missing_room(const struct seat *seat)
     return asked > host->frames ? asked - host->frames : 0;
 }
 
-/* What its client brings isn't admitted. */
-static void turn_away(struct seat *seat)
+/* What its client brings isn't admitted, by so many pages. */
+static void turn_away(struct seat *seat, enum refusal why, uint64_t pages)
 {
     seat->host->counters.refused++;
     seat->refused = true;
+    seat->refused_for = why;
+    seat->refused_by = pages;
+    seat->refusals++;
+}
+
+/* What it has is admitted: no refusal before counts any longer. */
+static void note_admission(struct seat *seat)
+{
+    if (seat->refused || seat_pages(seat) == 0)
+        return;
+    seat->refused_for = REFUSED_NOTHING;
+    seat->refused_by = 0;
 }
 
 /* Whether it is to start with more than its client brings. */
@@ -63,23 +75,27 @@ static void answer_room(struct seat *seat)
 {
     struct host *host = seat->host;
     uint32_t wanted = seat->report.wanted;
+    char size[MOST_SIZE_TEXT], other[MOST_SIZE_TEXT];
     if (seat->report.waits != WAIT_ROOM || seat->refused || host_awaits(host) ||
         wanted <= seat_pages(seat))
         return;
     if (wanted > seat->terms.memory) {
-        refuse("its memory has %u pages, and may have %u", wanted, seat->terms.memory);
-        turn_away(seat);
+        refuse("its memory has %s, and may have %s (memory=)", size_text(wanted, size),
+               size_text(seat->terms.memory, other));
+        turn_away(seat, REFUSED_MEMORY, wanted - seat->terms.memory);
         return;
     }
     if (starts_above(seat)) {
-        refuse("its memory has %u pages, and it is to start with %u", wanted, seat->terms.start);
-        turn_away(seat);
+        refuse("its memory has %s, and it is to start with %s (start=)", size_text(wanted, size),
+               size_text(seat->terms.start, other));
+        turn_away(seat, REFUSED_START, seat->terms.start - wanted);
         return;
     }
     uint64_t missing = missing_room(seat);
     if (missing > 0) {
-        refuse("no room for %u pages: %llu are missing", wanted, (unsigned long long)missing);
-        turn_away(seat);
+        refuse("no room for %s: %s are missing", size_text(wanted, size),
+               size_text(missing, other));
+        turn_away(seat, REFUSED_ROOM, missing);
     } else if (!seat->holds) {
         host->counters.admitted += seat_pages(seat) == 0;
         place_admits(seat);
@@ -151,6 +167,7 @@ static void pass_on(struct seat *seat)
     uint32_t pages = seat_pages(seat);
     ask_note(seat);
     answer_room(seat);
+    note_admission(seat);
     seat_repeat(seat);
     loan_audit(seat);
     place_hears(seat);

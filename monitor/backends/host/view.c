@@ -37,6 +37,13 @@ const char *wait_end_word(enum wait_end how)
     return words[how];
 }
 
+const char *refusal_word(enum refusal refusal)
+{
+    static const char *const words[] = {
+        [REFUSED_ROOM] = "room", [REFUSED_MEMORY] = "memory", [REFUSED_START] = "start"};
+    return words[refusal];
+}
+
 static enum guest_state state_of(const struct seat *seat)
 {
     if (!seat->here)
@@ -153,6 +160,9 @@ void host_see_guest(const struct host *host, unsigned number, struct guest_view 
                                 .figure_count = report->figure_count,
                                 .waits_for = seat_waits_for(seat),
                                 .ended = seat->ended,
+                                .refused_for = refusal_word(seat->refused_for),
+                                .refused_by = seat->refused_by,
+                                .refusals = seat->refusals,
                                 .clients = seat->clients,
                                 .lost = seat->lost + report->lost};
     if (seat_waits_for(seat) != WAITS_FOR_NOTHING)

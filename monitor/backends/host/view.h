@@ -27,6 +27,10 @@ enum guest_state {
 /* What it waits for. */
 enum guest_wait { WAITS_FOR_NOTHING, WAITS_FOR_ROOM, WAITS_FOR_DEFLATE, WAITS_FOR_RESET };
 
+/* Why memory isn't admitted: it has no room; it is more than the terms allow, or less than what the
+ * guest is to start with. */
+enum refusal { REFUSED_NOTHING, REFUSED_ROOM, REFUSED_MEMORY, REFUSED_START };
+
 /* How a wait ended: withdrawn is one whose guest has gone, or waits for something else, or for
  * nothing, without an answer. */
 enum wait_end { WAS_GRANTED, WAS_REFUSED, WAS_WITHDRAWN, WAIT_ENDS };
@@ -89,6 +93,10 @@ struct guest_view {
     enum guest_wait waits_for;
     double waits;            /* seconds, for that */
     struct ended_wait ended; /* its last wait that ended */
+    const char *refused_for; /* why its last client wasn't admitted: room, memory or start; NULL
+                                once one was */
+    uint64_t refused_by;     /* pages that were missing then, or too many */
+    uint64_t refusals;       /* clients that weren't admitted */
     double silent;           /* seconds since its last statistics */
     double process_silent;   /* seconds since its process answered last */
     uint64_t inflated, deflated, reported, taken, statistics, told, discarded, skipped, chains,
@@ -167,5 +175,6 @@ const char *host_renew(struct host *host, const char *name);
 const char *guest_state_word(enum guest_state state);
 const char *guest_wait_word(enum guest_wait wait);
 const char *wait_end_word(enum wait_end how);
+const char *refusal_word(enum refusal refusal); /* NULL where there was none */
 
 #endif

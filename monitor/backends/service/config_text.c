@@ -1,22 +1,11 @@
 #define _GNU_SOURCE
 #include "config_text.h"
 
+#include "../guest/numbers.h"
+
 #include <inttypes.h>
 #include <stdio.h>
 #include <string.h>
-
-enum { PAGE_KIB = 4 };
-
-const char *size_text(uint32_t pages, char text[MOST_KEY_TEXT])
-{
-    static const char units[] = "KMGT";
-    uint64_t number = (uint64_t)pages * PAGE_KIB;
-    unsigned unit = 0;
-    while (number > 0 && number % 1024 == 0 && units[unit + 1])
-        number /= 1024, unit++;
-    snprintf(text, MOST_KEY_TEXT, "%" PRIu64 "%c", number, units[unit]);
-    return text;
-}
 
 static const char *level_text(uint32_t level)
 {

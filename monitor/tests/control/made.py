@@ -115,6 +115,7 @@ class Made:
             "guest_view",
             terms=terms,
             ended=ended,
+            refusals=FIRST["uint64_t"] - GUESTS + number,
             name=f"guest-{number}",
             figures=figures,
             figure_count=TAGS,

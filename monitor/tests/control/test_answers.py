@@ -69,6 +69,7 @@ def test_a_follower_is_dropped_rather_than_told_half_an_event(broken):
     assert raw.answer(say(request="events"))["ok"]
     adds.answer(say(request="add", name="a"))
     guest = Answering(broken, "a")
-    assert [json.loads(it)["event"] for it in raw.lines] == ["added", "arrived"]
+    told = [json.loads(it)["event"] for it in raw.lines]
+    assert [it for it in told if it != "changed"] == ["added", "arrived"]
     assert broken.ask("budget")["ok"], "the others are served"
     guest.leave(), raw.close(), adds.close()

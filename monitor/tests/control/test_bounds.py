@@ -131,6 +131,8 @@ class Deciding:
 
     def ask(self, request, since):
         """Answers with one decision at a time."""
+        if request == "changes":
+            return {"lost": 0, "changes": [], "next": since}
         first = max(since, 3)
         self.asked.append((request, since))
         assert len(self.asked) < 9, "it asks for ever"
@@ -163,5 +165,9 @@ def test_each_decision_is_shown_once(monkeypatch, follow, numbers):
     monkeypatch.setattr(
         log, "say", lambda it: shown.append(it.get("event") or it["decision"]["number"])
     )
-    log.run(types.SimpleNamespace(follow=follow, control="", since=0, json=False))
+    log.run(
+        types.SimpleNamespace(
+            follow=follow, control="", since="0", json=False, guest=None, targets=False
+        )
+    )
     assert shown == numbers

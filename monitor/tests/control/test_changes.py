@@ -329,6 +329,15 @@ def test_two_hosts_do_not_share_a_folder(kept, program, folder):
     assert host.end() == 0
 
 
+def test_an_upgrade_goes_on_with_what_was_changed(kept):
+    wanted = changed(kept.host)
+    kept.host.ask("upgrade")
+    assert kept.host.lines.next(patience_from_now()) == "ready"
+    host = kept.host
+    assert (host.status()["budget"], host.status()["floor"], terms(host)) == wanted
+    assert host.ask("budget", bytes=MIB)["lasts"]
+
+
 def test_a_kill_at_any_moment_leaves_the_old_or_the_new(kept):
     """Each change is whole in the file, or isn't there."""
     kept.host.ask("budget", bytes=300 * MIB)

@@ -485,7 +485,7 @@ def test_guests_are_as_strict_as_the_file_says(program, folder, file):
     eventually(lambda: not host.status()["strict"])
     host.ask("add", name="latest")
     strict = {it["name"]: it["terms"]["strict"] for it in host.ask("status")["guests"]}
-    assert strict == {"web-1": False, "web-2": False, "later": True, "latest": False}
+    assert strict == {"web-1": False, "web-2": False, "later": False, "latest": False}
     assert host.end() == 0
 
 

@@ -282,7 +282,7 @@ def test_a_guest_comes_is_changed_and_goes(host, arrive):
     assert host.guest("web-1")["target"] == 5 * PAGE
     guest.leave()
     eventually(lambda: host.guest("web-1")["state"] == "absent")
-    host.ask("remove", name="web-1")
+    host.ask("remove", name="web-1", force=True)
     assert not os.path.exists(f"{host.folder}/web-1")
     with pytest.raises(Refused, match="no guest is named web-1"):
         host.guest("web-1")

@@ -26,7 +26,7 @@ GUEST = {
         "inflated deflated reported taken discarded skipped statistics told chains kicks".split(),
         OF_CLIENTS,
     ),
-    **dict.fromkeys("clients limit_failures".split(), OF_LENDERS),
+    **dict.fromkeys("clients limit_failures refusals".split(), OF_LENDERS),
     **dict.fromkeys("granted lost".split(), OF_BOTH),
 }
 

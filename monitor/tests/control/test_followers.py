@@ -89,7 +89,7 @@ def test_followers_hear_each_event_once_and_in_order(host, arrive):
     guest.leave()
     eventually(lambda: host.guest("a")["state"] == "absent")
     first.hears("gone")
-    host.ask("remove", name="a")
+    host.ask("remove", name="a", force=True)
     for it in first, second:
         it.join(PATIENCE)
     assert first.heard == second.heard
@@ -103,7 +103,7 @@ def test_followers_hear_each_event_once_and_in_order(host, arrive):
     assert manners == ["answers", "silent"] * (len(manners) // 2) + ["answers"] * (
         len(manners) % 2
     ), manners
-    others = [it for it in names if it not in ("decision", "state", *manners)]
+    others = [it for it in names if it not in ("changed", "decision", "state", *manners)]
     # A look may find it while it waits for the room that it is granted at once, and while it
     # leaves.
     waits = ["waits", "granted"] if "waits" in others else []
@@ -123,7 +123,7 @@ def test_followers_hear_each_event_once_and_in_order(host, arrive):
 def test_a_guest_that_is_removed_while_it_is_there_has_gone(host, arrive):
     follower, guest = Follower(host), arrive("a")
     follower.hears("answers")
-    host.ask("remove", name="a")
+    host.ask("remove", name="a", force=True)
     follower.join(PATIENCE)
     assert [it["event"] for it in follower.heard][-2:] == ["gone", "removed"]
     guest.stop()
@@ -135,7 +135,7 @@ def test_a_name_that_comes_back_is_a_new_guest_s(host):
         follower = Follower(host)
         host.ask("add", name="a")
         follower.hears("added")
-        host.ask("remove", name="a")
+        host.ask("remove", name="a", force=True)
         follower.hears("removed")
         follower.connection.close()
 

@@ -52,6 +52,7 @@ def good(host, arrive):
         "add": guest,
         "remove": {"version": 1, "ok": True},
         "log": log,
+        "changes": {"version": 1, "ok": True, "changes": [], "next": 0, "lost": 0},
         "event": event,
     }
 
@@ -214,6 +215,7 @@ def test_a_line_that_is_no_json(capsys, answers, path, line):
 
 
 def test_a_log_that_goes_round_ends(capsys, good, answers, path):
+    answers.update(good)
     answers["log"] = {**good["log"], "next": 0}
     assert run(capsys, path, "log")[0] == 0
 

@@ -2,6 +2,7 @@
 its own number, in its own unit."""
 
 import itertools
+import time
 
 import pytest
 from bigvasta.connection import Connection
@@ -53,7 +54,7 @@ TERMS = {
     **rows("kernel", "limit"),
 }
 COUNTERS_IN_PAGES = "granted inflated deflated reported taken discarded skipped"
-COUNTERS = "limit_failures statistics told chains kicks clients lost"
+COUNTERS = "limit_failures statistics told chains kicks clients lost refusals"
 GUEST = {
     **rows("text", "name path=socket version"),
     **rows("count", "process"),
@@ -119,7 +120,7 @@ def shown(values, table):
 
 def shown_guest(guest):
     """Returns what is shown of a guest."""
-    other = ("ended", "figures", "figure_count")
+    other = ("ended", "figures", "figure_count", "refused_for", "refused_by")
     its = {name: it for name, it in guest.items() if name not in other}
     statistics = {
         STATISTICS[tag]: min(it, MOST_SHOWN)
@@ -129,6 +130,7 @@ def shown_guest(guest):
     return shown(its, GUEST | {"terms": ("terms", "text")}) | {
         "terms": shown(its["terms"], TERMS),
         "statistics": statistics,
+        "refused": {"for": guest["refused_for"], "bytes": guest["refused_by"] * PAGE},
     }
 
 
@@ -143,7 +145,8 @@ def shown_host(made, phase):
         "ungranted": dict(zip(UNGRANTED, made.measures["ungranted"][1:])),
     }
     sockets = dict(zip(("control", "status"), made.counters))
-    return shown(made.hosts[phase], HOST) | {"version": version(), "measures": measures, **sockets}
+    own = {"version": version(), "measures": measures, "differs": [], "state": None}
+    return shown(made.hosts[phase], HOST) | own | sockets
 
 
 def shown_decision(made, phase):
@@ -213,7 +216,11 @@ def test_each_field_of_a_decision(made, host):
     for phase in range(2):
         host.ask("floor", bytes=phase * PAGE)
         log = host.ask("log", since=made[0].hosts[phase]["decisions"] - 1)
-        assert differences(log["decisions"][0], shown_decision(made[0], phase)) == {}
+        decision = log["decisions"][0]
+        # Its time of day is that of its moment by the monotonic clock.
+        elapsed = decision.pop("time") - time.time() + time.monotonic()
+        assert abs(elapsed - decision["seconds"]) < 1
+        assert differences(decision, shown_decision(made[0], phase)) == {}
         assert (log["next"], log["lost"]) == (made[0].hosts[phase]["decisions"], 0)
         assert (
             host.ask("log", since=3, limit=1)["lost"] == made[0].hosts[phase]["decisions"] - 2 - 3
@@ -261,14 +268,15 @@ def test_each_field_of_an_event(made, host):
     with Connection(host.control) as follower:
         events = follower.follow()
         host.ask("floor", bytes=PAGE)
-        found = list(itertools.islice(events, len(wanted)))
-    first, begin = found[0]["number"], found[0]["time"]
-    for number, (it, its) in enumerate(zip(found, wanted)):
-        assert (it.pop("version"), it.pop("number"), it.pop("time") - begin < 20) == (
-            1,
-            first + number,
-            True,
-        )
+        # All of what this host has changes with its phase, and test_audit.py looks at such changes.
+        others = (it for it in events if it["event"] != "changed")
+        found = list(itertools.islice(others, len(wanted)))
+    last, begin = found[0]["number"] - 1, found[0]["time"]
+    for it, its in zip(found, wanted):
+        number = it.pop("number")
+        assert (it.pop("version"), number > last, it.pop("time") - begin < 20) == (1, True, True)
+        last = number
+        it.get("decision", {}).pop("time", None)
         assert differences(it, its) == {}, (it, its)
 
 

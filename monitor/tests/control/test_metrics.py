@@ -85,7 +85,7 @@ def test_what_the_host_measures(host, arrive):
     host.ask("budget", bytes=480 * MIB)
     left.leave()
     refused.client.socket.sendall(b"\xff" * 12)
-    host.ask("remove", name="removed")
+    host.ask("remove", name="removed", force=True)
     wanted = {"left": 1, "refused": 1, "removed": 1, "died": 0}
     eventually(
         lambda: host.status()["measures"]["gone"] == wanted, lambda: host.status()["measures"]

@@ -22,6 +22,7 @@ CHANGES = (
     ("remove", {"name": "a"}, "request", "remove"),
     ("remove", {"name": "none"}, "request", "remove"),
     ("upgrade", {}, "request", "upgrade"),
+    ("reload", {}, "request", "reload"),
     ("renew", {"name": "a"}, "request", "renew"),
     ("guest", {"name": "a", "least": PAGE}, "least", "least"),
     ("guest", {"name": "a", "most": PAGE}, "most", "most"),
@@ -57,21 +58,36 @@ from linux_kit import ROOT
 from waiting import eventually, patience_from_now
 
 # What shows the host; of these two requests more is shown than is the same at both sockets.
-SHOWS = (("guest", {"name": "a"}), ("budget", {}), ("floor", {}), ("log", {"since": 0, "limit": 1}))
+UNTIL = {"until_restart": True}
+SHOWS = (
+    ("guest", {"name": "a", **UNTIL}),
+    ("budget", UNTIL),
+    ("floor", UNTIL),
+    ("config", {}),
+    ("log", {"since": 0, "limit": 1}),
+    ("changes", {"since": 0, "limit": 1}),
+)
 SHOWS_MORE = {("status", "request"), ("events", "request")}
+
+
+def spelt(fields, macros):
+    """Returns a row of the sources with what its macros stand for."""
+    for name in ("TERMS", "LASTS", "NAMED"):
+        fields = fields.replace(name, macros[name])
+    return fields
 
 
 def fields_of_requests():
     """Returns each request of the sources with the word `request`, and with each of its fields."""
     with open(f"{ROOT}/monitor/backends/control/requests.c", encoding="utf-8") as file:
         text = " ".join(file.read().replace("\\\n", "").split())
-    terms = re.search(r"#define TERMS (.*?) /\*", text)[1]
+    macros = dict(re.findall(r"#define (TERMS|LASTS|NAMED) (.*?) (?=#define|static)", text))
     _, *rest = re.split(r'\{"(\w+)", (?:SHOWS|CHANGES), \w+, ', text)
     kinds = zip(rest[::2], rest[1::2])
     return {
         (name, it)
         for name, fields in kinds
-        for it in ("request", *re.findall(r'\{"(\w+)", FIELD_', fields.replace("TERMS", terms)))
+        for it in ("request", *re.findall(r'\{"(\w+)", FIELD_', spelt(fields, macros)))
     }
 
 
@@ -140,7 +156,8 @@ def test_what_shows_the_host_is_answered_as_at_the_control_socket(host, raw):
 def test_who_follows_the_host_there_hears_of_its_guests(host, raw):
     assert raw.answer(say(request="events"))["ok"]
     host.ask("add", name="a")
-    assert json.loads(raw.lines.readline())["event"] == "added"
+    told = [json.loads(raw.lines.readline())["event"] for _ in range(2)]
+    assert told == ["changed", "added"]
 
 
 def test_as_many_clients_as_there_can_be_leave_room_at_the_control_socket(host):
@@ -197,6 +214,6 @@ def test_the_client_program_there(host):
     for words, code, said in COMMANDS:
         ran = bigvasta(host.shown, *words.split())
         assert (ran.returncode, ran.stdout.startswith(said)) == (code, True), (words, ran)
-        assert ran.stderr.endswith("changes the host, which this socket only shows\n") == (
-            code == 1
-        ), (words, ran)
+        assert (
+            "changes the host, which this socket only shows: --control names" in ran.stderr
+        ) == (code == 1), (words, ran)

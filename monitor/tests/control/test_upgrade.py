@@ -46,7 +46,7 @@ def test_guests_live_through_an_upgrade(program, folder):
     for name, wanted in (("old", OLDER), ("new", version())):
         assert f'bigvasta_guest_process_info{{guest="{name}",version="{wanted}"}} 1.0' in metrics
     for name in ("old", "new"):
-        second.ask("remove", name=name)
+        second.ask("remove", name=name, force=True)
     assert second.end() == 0
 
 
@@ -75,7 +75,7 @@ def test_one_command_upgrades_the_host_and_its_guests(program, folder, tmp_path)
         f"{it}: {version()} -> {version()}" for it in ("host", "a", "b")
     ]
     for name in ("a", "b", "absent"):
-        host.ask("remove", name=name)
+        host.ask("remove", name=name, force=True)
     assert host.end() == 0
 
 
@@ -95,7 +95,7 @@ def test_a_program_that_does_not_run_upgrades_nothing(program, folder, tmp_path)
         )
         os.rename(installed / "aside", installed / broken)
     assert host.guest("a")["process"] == process
-    host.ask("remove", name="a")
+    host.ask("remove", name="a", force=True)
     assert host.end() == 0
 
 
@@ -114,7 +114,7 @@ def test_a_process_whose_program_does_not_go_on_stays(program, folder, tmp_path)
     assert (ran.returncode, ran.stdout.splitlines()) == (5, said)
     eventually(lambda: host.guest("a")["answers"])
     assert host.guest("a")["memory"] > 0
-    host.ask("remove", name="a")
+    host.ask("remove", name="a", force=True)
     assert host.end() == 0
 
 

@@ -2,6 +2,7 @@
 of values alone."""
 
 import curses
+import time
 import types
 
 import pytest
@@ -200,8 +201,10 @@ EVENTS = (
 @pytest.mark.parametrize("event, line", EVENTS)
 def test_lines_of_events(event, line, monkeypatch):
     monkeypatch.setenv("TZ", "UTC")
-    clock, said = event_line(event | {"time": 3661.5, "number": 1, "version": 1}).split(" ", 1)
-    assert len(clock) == 8 and clock.endswith(":01:01") and said == line
+    day, clock, said = event_line(event | {"time": 3661.5, "number": 1, "version": 1}).split(" ", 2)
+    assert (day, clock, said) == ("1970-01-01", "01:01:01", line)
+    clock, said = event_line(event | {"time": time.time()}).split(" ", 1)
+    assert len(clock) == 8 and said == line
 
 
 def test_decisions_that_are_lost(capsys):

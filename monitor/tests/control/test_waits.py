@@ -76,13 +76,13 @@ def end_by_a_smaller_budget(host, _):
 
 
 def end_by_removal(host, _):
-    host.ask("remove", name="b")
+    host.ask("remove", name="b", force=True)
 
 
 def end_by_another(host, _):
     """Another guest has its name, maybe before a look: it has waited for nothing."""
     with Connection(host.control) as it:
-        it.ask("remove", name="b"), it.ask("add", name="b")
+        it.ask("remove", name="b", force=True), it.ask("add", name="b")
 
 
 def end_by_room(host, _):

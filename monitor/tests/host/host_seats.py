@@ -221,7 +221,7 @@ def room_for_more(town):
         lambda: town.host.counters()["refused"] == 1, "a guest without room isn't refused", 5
     )
     demand(
-        town.host.why_of("c") == "refused c: no room for 64 pages: 63 are missing",
+        town.host.why_of("c") == "refused c: no room for 256K: 252K are missing",
         town.host.why_of("c"),
     )
     # Who gives a region back makes room, and finds none when it wants it again.
@@ -234,7 +234,7 @@ def room_for_more(town):
     third.send(ADD_MEM_REG, third.region_body(1), third.files[1:], flags=1)
     eventually(lambda: town.host.counters()["refused"] == 2, "a guest without room grows", 5)
     demand(
-        town.host.why_of("b") == "refused b: no room for 128 pages: 63 are missing",
+        town.host.why_of("b") == "refused b: no room for 512K: 252K are missing",
         town.host.why_of("b"),
     )
     return third, fourth, fifth

@@ -29,7 +29,7 @@ def test_room_to_a_page(lend, come, terms, budget, free, missing):
     lender.set_budget(budget)
     lender.demand(f"add a {terms}")
     assert bring(lender, "a") == (missing == 0)
-    said = f"refused a: no room for {ALL} pages: {missing} are missing"
+    said = f"refused a: no room for {4 * ALL}K: {4 * missing}K are missing"
     if missing:
         eventually(lambda: lender.hear() or said in lender.said(), lender.said)
     here = free is not None

@@ -281,7 +281,7 @@ def test_memory_that_never_fits_is_refused(lend):
     with pytest.raises(AssertionError):
         client.hand_over_memory()
     eventually(
-        lambda: "refused a: no room for 128 pages: 128 are missing" in lender.said(), lender.said
+        lambda: "refused a: no room for 512K: 512K are missing" in lender.said(), lender.said
     )
     client.leave()
 

@@ -163,7 +163,7 @@ def test_a_guest_of_exactly_the_budget_has_room_and_one_page_more_has_none(lend,
         lender, "larger", holds=holds, ready=0, waits=WAIT_ROOM, wait=1, wanted=FRAMES + 1
     )
     eventually(
-        lambda: f"refused larger: no room for {FRAMES + 1} pages: 1 are missing" in lender.said(),
+        lambda: f"refused larger: no room for {4 * (FRAMES + 1)}K: 4K are missing" in lender.said(),
         lender.said,
     )
     larger.leave()
