@@ -7,7 +7,7 @@ import sys
 from bigvasta import __version__
 from bigvasta.commands import MODULES
 from bigvasta.connection import CONTROL, STATUS
-from bigvasta.statuses import DONE, TABLE, Fault
+from bigvasta.statuses import DONE, TABLE, Fault, Refused, Usage
 from bigvasta.words import plain
 
 
@@ -40,6 +40,27 @@ def parser():
     return words
 
 
+# What may be done where a host refuses, by the code of its refusal.
+HINTS = {
+    "no-guest": "`bigvasta status --names` has those that there are",
+    "guest-exists": "`bigvasta guest NAME KEY=VALUE` changes it",
+    "read-only": "--control names the socket by which it is changed",
+}
+
+
+def about(asked, fault):
+    """Returns the words of a fault: of which guest, or of which size of the host's, what is wrong,
+    and what may be done."""
+    words, whose = str(fault), getattr(asked, "name", None)
+    if isinstance(fault, Refused):
+        field = asked.request if fault.field == "bytes" else fault.field
+        words = fault.text if field in (None, "name", "request") else f"{field}: {fault.text}"
+        words += f": {HINTS[fault.code]}" if fault.code in HINTS else ""
+    elif not isinstance(fault, Usage):
+        return words
+    return words if not whose or whose in words else f"{whose}: {words}"
+
+
 def main(words):
     """Runs the command line; returns the exit status."""
     asked = parser().parse_args(words)
@@ -49,7 +70,7 @@ def main(words):
     try:
         return asked.run(asked) or DONE
     except Fault as fault:
-        print(f"bigvasta: {plain(str(fault))}", file=sys.stderr)
+        print(f"bigvasta: {plain(about(asked, fault))}", file=sys.stderr)
         return fault.status
     except KeyboardInterrupt:
         return DONE

@@ -22,6 +22,14 @@ MOST_ANSWER, MOST_READ = 1 << 20, 1 << 16
 SHOWS, MOST_NAME = ("status", "log", "events", "changes", "config"), 64
 
 
+def why_not(path, fault):
+    """Returns why a socket can't be connected to, and what may be done."""
+    if isinstance(fault, PermissionError):
+        who = "root and members of bigvasta-status" if path == STATUS else "root"
+        return f"its socket is for others ({who}, by the package)"
+    return f"is bigvasta-host running? ({fault.strerror or fault})"
+
+
 def named(request):
     """Returns the field by which a host notes who asks for a change, by the name of who uses this
     program: the kernel tells it the number."""
@@ -42,7 +50,7 @@ class Connection:
             self.socket.connect(path)
         except OSError as fault:
             self.socket.close()
-            raise Away(f"{path}: {fault.strerror or fault}") from None
+            raise Away(f"no host answers at {path}: {why_not(path, fault)}") from None
 
     def __enter__(self):
         return self

@@ -35,18 +35,28 @@ NO_USER = "a user of this machine, a user's number, or none"
 COMMANDS = (
     ("status", 0, "budget 480, held 0, lent 0, missing 0 MiB; tier none; 0 guests; version ", ""),
     ("add web-1", 0, "{folder}/web-1\n", ""),
-    ("add web-1", 1, "", "bigvasta: name: a guest is named web-1 already\n"),
-    ("add web.1", 1, "", "bigvasta: a name has 1 to 31 letters"),
+    (
+        "add web-1",
+        1,
+        "",
+        "bigvasta: a guest is named web-1 already: `bigvasta guest NAME KEY=VALUE` changes it\n",
+    ),
+    ("add web.1", 1, "", "bigvasta: web.1: a name has 1 to 31 letters"),
     ("status --names", 0, "web-1\n", ""),
     ("guest web-1", 0, "web-1: absent, at {folder}/web-1\n  memory            0 MiB\n", ""),
-    ("guest web-2", 1, "", "bigvasta: name: no guest is named web-2\n"),
-    ("guest web-1 target=4M", 1, "", "bigvasta: nobody is there\n"),
+    (
+        "guest web-2",
+        1,
+        "",
+        "bigvasta: no guest is named web-2: `bigvasta status --names` has those that there are\n",
+    ),
+    ("guest web-1 target=4M", 1, "", "bigvasta: web-1: nobody is there\n"),
     (
         "guest web-1 target",
         2,
         "",
         (
-            "bigvasta: 'target' is none of least=, most=, priority=, weight=, strict=, overhead=, "
+            "bigvasta: web-1: 'target' is none of least=, most=, priority=, weight=, strict=, overhead=, "
             "limit=, user=, memory=, start=, target=\n"
         ),
     ),
@@ -55,17 +65,17 @@ COMMANDS = (
         2,
         "",
         (
-            "bigvasta: 'size=4M' is none of least=, most=, priority=, weight=, strict=, overhead=, "
+            "bigvasta: web-1: 'size=4M' is none of least=, most=, priority=, weight=, strict=, overhead=, "
             "limit=, user=, memory=, start=, target=\n"
         ),
     ),
-    ("guest web-1 target=1M target=2M", 2, "", "bigvasta: target= is said twice\n"),
+    ("guest web-1 target=1M target=2M", 2, "", "bigvasta: web-1: target= is said twice\n"),
     (
         "guest web-1 target=4",
         2,
         "",
         (
-            "bigvasta: target: '4' is no size: a number with K, M, G or T, in pages of 4K, such "
+            "bigvasta: web-1: target: '4' is no size: a number with K, M, G or T, in pages of 4K, such "
             "as 480M\n"
         ),
     ),
@@ -73,40 +83,40 @@ COMMANDS = (
         "guest web-1 weight=0",
         2,
         "",
-        "bigvasta: weight: '0' is no whole number from 1 to 4294967295\n",
+        "bigvasta: web-1: weight: '0' is no whole number from 1 to 4294967295\n",
     ),
     (
         "guest web-1 priority=-1",
         2,
         "",
-        "bigvasta: priority: '-1' is no whole number up to 4294967295\n",
+        "bigvasta: web-1: priority: '-1' is no whole number up to 4294967295\n",
     ),
-    ("guest web-1 strict=true", 2, "", "bigvasta: strict: 'true' is neither yes nor no\n"),
+    ("guest web-1 strict=true", 2, "", "bigvasta: web-1: strict: 'true' is neither yes nor no\n"),
     (
         "guest web-1 limit=/x",
         2,
         "",
-        "bigvasta: limit: '/x' is none of cgroup:PATH, tmpfs:MOUNT and none\n",
+        "bigvasta: web-1: limit: '/x' is none of cgroup:PATH, tmpfs:MOUNT and none\n",
     ),
     (
         "guest web-1 strict=yes limit=tmpfs:/x/..",
         1,
         "",
-        "bigvasta: limit: a path from / on, without ., .. or a slash too many\n",
+        "bigvasta: web-1: limit: a path from / on, without ., .. or a slash too many\n",
     ),
-    ("guest web-1 strict=yes limit=tmpfs:/etc", 1, "", "bigvasta: no mount of tmpfs\n"),
+    ("guest web-1 strict=yes limit=tmpfs:/etc", 1, "", "bigvasta: web-1: no mount of tmpfs\n"),
     (
         "guest web-1 strict=no limit=tmpfs:/etc",
         1,
         "",
-        "bigvasta: a limit is for a strict guest, whose deflates wait until it is raised\n",
+        "bigvasta: web-1: a limit is for a strict guest, whose deflates wait until it is raised\n",
     ),
     ("guest web-1 overhead=8M limit=none", 0, "web-1: absent, at {folder}/web-1\n", ""),
-    ("guest web-1 memory=9", 2, "", "bigvasta: memory: '9' is no size: "),
-    ("guest web-1 user=no-such", 1, "", f"bigvasta: user: {NO_USER}\n"),
+    ("guest web-1 memory=9", 2, "", "bigvasta: web-1: memory: '9' is no size: "),
+    ("guest web-1 user=no-such", 1, "", f"bigvasta: web-1: user: {NO_USER}\n"),
     ("guest web-1 user=root memory=9M", 0, "web-1: absent, at {folder}/web-1\n", ""),
-    ("guest web-1 start=9", 2, "", "bigvasta: start: '9' is no size: "),
-    ("guest web-1 start=9M", 1, "", "bigvasta: a start is for a guest that has a limit\n"),
+    ("guest web-1 start=9", 2, "", "bigvasta: web-1: start: '9' is no size: "),
+    ("guest web-1 start=9M", 1, "", "bigvasta: web-1: a start is for a guest that has a limit\n"),
     ("guest web-1 start=none", 0, "web-1: absent, at {folder}/web-1\n", ""),
     ("guest web-1 user=none memory=none", 0, "web-1: absent, at {folder}/web-1\n", ""),
     (
@@ -114,19 +124,24 @@ COMMANDS = (
         2,
         "",
         (
-            "bigvasta: 'target=1M' is none of least=, most=, priority=, weight=, strict=, "
+            "bigvasta: web-3: 'target=1M' is none of least=, most=, priority=, weight=, strict=, "
             "overhead=, limit=, user=, memory=, start=\n"
         ),
     ),
     ("budget", 0, "480 MiB\n", ""),
-    ("budget 500M", 0, "500 MiB\n", ""),
-    ("budget 1G", 0, "1024 MiB\n", ""),
-    ("budget 0M", 1, "", "bigvasta: bytes: a budget of one page or more\n"),
+    ("budget 500M", 0, "500 MiB, until the host restarts\n", ""),
+    ("budget 1G", 0, "1024 MiB, until the host restarts\n", ""),
+    ("budget 0M", 1, "", "bigvasta: budget: a budget of one page or more\n"),
     ("budget 6K", 2, "", "bigvasta: budget: '6K' is no size"),
     ("floor", 0, "12 MiB\n", ""),
-    ("floor 0M", 0, "0 MiB\n", ""),
-    ("remove web-1", 0, "web-1 is removed\n", ""),
-    ("remove web-1", 1, "", "bigvasta: name: no guest is named web-1\n"),
+    ("floor 0M", 0, "0 MiB, until the host restarts\n", ""),
+    ("remove web-1", 0, "web-1 is removed, until the host restarts\n", ""),
+    (
+        "remove web-1",
+        1,
+        "",
+        "bigvasta: no guest is named web-1: `bigvasta status --names` has those that there are\n",
+    ),
     ("", 2, "", "usage: bigvasta"),
     ("nope", 2, "", "usage: bigvasta"),
     ("watch --interval 0", 2, "", "bigvasta: --interval: 0.0 isn't from 0.1 to 60 seconds\n"),
@@ -169,7 +184,8 @@ def test_json_of_each_command(host):
         assert field in json.loads(ran.stdout) and ran.stdout.count("\n") == 1, (words, ran)
     host.ask("budget", bytes=400 * MIB)
     eventually(lambda: host.status()["counters"]["decisions"])
-    assert json.loads(bigvasta(host.control, "log", "--json").stdout)["reason"] == "budget"
+    lines = bigvasta(host.control, "log", "--json").stdout.splitlines()
+    assert "budget" in [json.loads(it).get("reason") for it in lines]
 
 
 def test_no_host(tmp_path):
@@ -179,9 +195,27 @@ def test_no_host(tmp_path):
         ("x" * 200, "AF_UNIX path too long"),
     ):
         ran = bigvasta(path, "status")
-        assert (ran.returncode, ran.stdout, ran.stderr) == (3, "", f"bigvasta: {path}: {why}\n")
+        words = f"bigvasta: no host answers at {path}: is bigvasta-host running? ({why})\n"
+        assert (ran.returncode, ran.stdout, ran.stderr) == (3, "", words)
     ran = bigvasta("", "status", "--control", f"{tmp_path}/none")
     assert ran.returncode == 3
+
+
+def test_a_socket_that_is_for_others(host):
+    """Who may not open it is told for whom it is, and not that nobody is there."""
+    if os.geteuid():
+        pytest.skip("this isn't root")
+    os.chmod(host.folder, 0o755)
+    ran = subprocess.run(
+        ["setpriv", "--reuid=65534", "--clear-groups", "/usr/bin/python3", "-B", "-m", "bigvasta"]
+        + ["budget", "1G", "--control", host.control],
+        capture_output=True,
+        text=True,
+        timeout=PATIENCE,
+        env={**os.environ, "PYTHONPATH": CLIENT},
+    )
+    words = f"no host answers at {host.control}: its socket is for others (root, by the package)"
+    assert (ran.returncode, ran.stdout, ran.stderr) == (3, "", f"bigvasta: {words}\n")
 
 
 # What a host might answer that is none.
@@ -218,10 +252,9 @@ def test_log_that_is_followed(host, arrive):
     with subprocess.Popen(
         words, stdout=subprocess.PIPE, text=True, env={**os.environ, "PYTHONPATH": CLIENT}
     ) as it:
-        assert (
-            it.stdout.readline()
-            == "decision 0: budget; budget 400, tier none; targets: no guests\n"
-        )
+        first = [it.stdout.readline().split(" ", 1)[1] for _ in range(2)]
+        assert first[0].startswith("changed budget 480M > 400M by user "), first
+        assert first[1] == "decision 0: budget; budget 400, tier none; targets: no guests\n"
         eventually(lambda: host.status()["control"]["clients"] == 2)
         arrive("a")
         wanted = [
@@ -240,7 +273,7 @@ def test_who_follows_waits_longer_than_for_an_answer(host):
     with Connection(host.control, 0.5) as follower:
         events = follower.follow()
         threading.Timer(1.5, lambda: host.ask("add", name="a")).start()
-        assert next(events)["event"] == "added"
+        assert [next(events)["event"] for _ in range(2)] == ["changed", "added"]
 
 
 def test_a_reader_that_goes_ends_it(host):

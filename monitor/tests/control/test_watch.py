@@ -189,5 +189,5 @@ def test_a_host_that_goes_and_comes_back(program, folder, opened):
 
 def test_no_host(folder, opened):
     terminal = opened(f"{folder}/none")
-    shows(terminal, f"bigvasta: {folder}/none: No such file or directory")
+    shows(terminal, f"bigvasta: no host answers at {folder}/none..")
     shows(terminal, "ended with 3")
