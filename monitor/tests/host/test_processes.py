@@ -1,6 +1,7 @@
 """A process for each guest: who ends with whom, and what the lender has of a client."""
 
 import contextlib
+import ctypes
 import fcntl
 import os
 import signal
@@ -10,7 +11,11 @@ import tempfile
 import time
 
 import pytest
+from played import WAIT_ROOM, Message
 from tenants import FREE, eventually, go_on, has_ended, process_of, status_of, stop
+from test_awaits import GIVEN, begin
+from test_strict import Later
+from vhost_client import ADD_MEM_REG, INFLATE, Client
 from waiting import PATIENCE
 
 
@@ -90,27 +95,66 @@ def begun_with(program, *files):
     return child
 
 
-def test_a_process_that_finds_no_client_ends(plain, tmp_path):
+@contextlib.contextmanager
+def begun(plain, folder, comes=lambda path: None):
+    """A guest's process to which the test is the lender, after its client has come to a path:
+    the process, the lender's end of its channel, and the client."""
     with contextlib.ExitStack() as opened:
         clients, later = (
             opened.enter_context(socket.socket(socket.AF_UNIX, kind | socket.SOCK_NONBLOCK))
             for kind in (socket.SOCK_STREAM, socket.SOCK_SEQPACKET)
         )
         for name, its in (("clients", clients), ("later", later)):
-            its.bind(str(tmp_path / name)), its.listen()
+            its.bind(f"{folder}/{name}"), its.listen()
         ours, theirs = map(
             opened.enter_context, socket.socketpair(socket.AF_UNIX, socket.SOCK_SEQPACKET)
         )
-        child = begun_with(
-            f"{os.path.dirname(plain)}/vhost_user_balloon",
-            *(it.fileno() for it in (clients, theirs, later)),
-        )
+        client = comes(f"{folder}/clients")
+        files = [it.fileno() for it in (clients, theirs, later)]
+        child = begun_with(f"{os.path.dirname(plain)}/vhost_user_balloon", *files)
+        theirs.close()
         try:
-            _, status = eventually(lambda: (it := os.waitpid(child, os.WNOHANG))[0] and it)
+            yield child, ours, client
         finally:
             with contextlib.suppress(ProcessLookupError):
                 os.kill(child, signal.SIGKILL)
-        assert os.waitstatus_to_exitcode(status) == 1
+            with contextlib.suppress(ChildProcessError):
+                os.waitpid(child, 0)
+
+
+def test_a_process_that_finds_no_client_ends(plain, tmp_path):
+    with begun(plain, tmp_path) as (child, _, _):
+        _, status = eventually(lambda: (it := os.waitpid(child, os.WNOHANG))[0] and it)
+    assert os.waitstatus_to_exitcode(status) == 1
+
+
+def test_a_process_that_waits_for_room_asks_again(plain, tmp_path):
+    """A lender that misses its report hears the next one."""
+    with begun(plain, tmp_path, lambda path: Client(path, lambda: "")) as (_, ours, client):
+        ours.settimeout(PATIENCE)
+        client.negotiate()
+        comes, asks = Later(client.hand_over_memory), 0
+        while asks < 3:
+            asks += Message.from_buffer_copy(ours.recv(ctypes.sizeof(Message))).waits == WAIT_ROOM
+        client.socket.shutdown(2)
+        comes.join(PATIENCE)
+        client.leave()
+
+
+def test_a_process_that_continues_knows_the_memory_that_it_has_pages_of(lend):
+    """More memory comes, and nothing leaves the balloon by that."""
+    lender = lend(5, "--floor", "0")
+    client = Client(lender.add("a"), lambda: "")
+    begin(client)
+    client.post_pages(INFLATE, GIVEN)
+    lender.reclaim("a", client, len(GIVEN))
+    process = process_of(lender, "a")
+    os.kill(process, signal.SIGKILL)
+    eventually(lambda: process_of(lender, "a") not in (0, process))
+    client.accepted(ADD_MEM_REG, client.region_body(1), client.files[1:])
+    lender.become("a", pages=128)
+    assert lender.guests()["a"]["ballooned"] == len(GIVEN)
+    client.leave()
 
 
 def test_another_process_goes_on_where_one_is_killed(lend, come):

@@ -94,17 +94,20 @@ class Backend:
         return dict(zip(words[0::2], map(int, words[1::2])))
 
     def is_at_rest(self):
-        """Whether it takes no processor's time while nobody wants anything of it."""
+        """Whether it takes no processor's time, and isn't woken, while nobody wants anything of it,
+        but for its own looks."""
 
-        def seconds():
+        def seconds_and_wakes():
             with open(f"/proc/{self.process.pid}/stat", encoding="ascii") as its:
-                return sum(map(int, its.read().rsplit(")", 1)[1].split()[11:13])) / os.sysconf(
-                    "SC_CLK_TCK"
-                )
+                ticks = sum(map(int, its.read().rsplit(")", 1)[1].split()[11:13]))
+            with open(f"/proc/{self.process.pid}/status", encoding="ascii") as its:
+                wakes = sum(int(it.split()[1]) for it in its if "ctxt_switches" in it)
+            return ticks / os.sysconf("SC_CLK_TCK"), wakes
 
-        before = seconds()
+        before = seconds_and_wakes()
         time.sleep(0.8)
-        return seconds() - before < 0.1
+        seconds, wakes = (now - then for now, then in zip(seconds_and_wakes(), before))
+        return seconds < 0.1 and wakes < 100
 
     def statistics(self):
         """Returns how often the guest told its statistics, and the last ones by their names."""

@@ -209,3 +209,4 @@ def test_files_are_closed(ready):
         saved(client)
         os.close(ours)
     assert client.open_files() == files
+    assert client.is_at_rest()
