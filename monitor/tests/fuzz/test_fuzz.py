@@ -39,6 +39,7 @@ FUZZERS = {
         "guest/dirty_log",
         "guest/transfer",
         "guest/moved",
+        "guest/control_area",
     ),
     "lender": (
         "host/asks",
