@@ -1,5 +1,5 @@
-"""The requests of the control protocol as a JSON Schema, packaging/control.schema.json: made of the table
-of the sources. `protocol.py --write` writes it."""
+"""The requests of the control protocol as a JSON Schema, packaging/control.schema.json, made of the
+table of the sources: `protocol.py --write` writes it."""
 
 import json
 import os

@@ -56,8 +56,8 @@ COMMANDS = (
         2,
         "",
         (
-            "bigvasta: web-1: 'target' is none of least=, most=, priority=, weight=, strict=, overhead=, "
-            "limit=, user=, memory=, start=, target=\n"
+            "bigvasta: web-1: 'target' is none of least=, most=, priority=, weight=, strict=, "
+            "overhead=, limit=, user=, memory=, start=, target=\n"
         ),
     ),
     (
@@ -65,8 +65,8 @@ COMMANDS = (
         2,
         "",
         (
-            "bigvasta: web-1: 'size=4M' is none of least=, most=, priority=, weight=, strict=, overhead=, "
-            "limit=, user=, memory=, start=, target=\n"
+            "bigvasta: web-1: 'size=4M' is none of least=, most=, priority=, weight=, strict=, "
+            "overhead=, limit=, user=, memory=, start=, target=\n"
         ),
     ),
     ("guest web-1 target=1M target=2M", 2, "", "bigvasta: web-1: target= is said twice\n"),
@@ -75,8 +75,8 @@ COMMANDS = (
         2,
         "",
         (
-            "bigvasta: web-1: target: '4' is no size: a number with K, M, G or T, in pages of 4K, such "
-            "as 480M\n"
+            "bigvasta: web-1: target: '4' is no size: a number with K, M, G or T, in pages of 4K, "
+            "such as 480M\n"
         ),
     ),
     (

@@ -1,5 +1,5 @@
-"""The JSON Schema of the control protocol: it is the sources' table, and a host refuses by name each
-field that is wrong by it, that isn't known and that isn't there."""
+"""The JSON Schema of the control protocol: it is the sources' table, and a host refuses by name
+each field that is wrong by it, that isn't known and that isn't there."""
 
 import json
 import os
