@@ -73,7 +73,7 @@ static void put_migration(struct sent *sent, unsigned choice)
     bool loads = choice % 2 == LOADS;
     if (sent->request == SET_LOG_BASE) {
         put(sent, sizes[choice % 4], 8), put(sent, offsets[choice / 4 % 4], 8);
-        sent->kinds[sent->files++] = LOG;
+        sent->kinds[sent->files++] = choice / 16 == 15 ? NOTHING : LOG;
         return;
     }
     put(sent, loads ? LOADS : SAVES, 4), put(sent, choice / 2 % 8 == OTHER_PHASE, 4);
