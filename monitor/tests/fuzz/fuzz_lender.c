@@ -19,6 +19,7 @@ enum {
     OVERDRAFT = 64,
     START = 50,
     PERIOD = 200,
+    PATIENCE = 2,
     MOST_READ = 8,
     STEP_MS = 50,
     TELLS_IN = 500
@@ -109,7 +110,7 @@ static void look(unsigned number)
            seat->target <= place_of(seat)->wanted);
     seat_step(seat, STEP_MS);
     seat_retell(seat);
-    places_relieve(&host);
+    places_relieve(&host), places_defer(&host);
     if (!seat_rests(seat))
         seat_remind(seat);
 }
@@ -248,6 +249,8 @@ static void begin(void)
     lent_before = 0;
     host.floor = kind / 16;
     host.period = PERIOD;
+    host.patience = PATIENCE;
+    host.head = (struct head){0};
     host.step = kind & 8 ? 8 : 0;
     host.question.line[0] = 0;
     host.news = host.anew = false;
