@@ -43,7 +43,7 @@ static uint64_t missing_room(const struct seat *seat)
     return asked > host->frames ? asked - host->frames : 0;
 }
 
-/* What its client brings isn't admitted, by so many pages. */
+/* What its client brings isn't admitted: this many pages are missing. */
 static void turn_away(struct seat *seat, enum refusal why, uint64_t pages)
 {
     seat->host->counters.refused++;

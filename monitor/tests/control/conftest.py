@@ -6,6 +6,7 @@ import os
 import linux_kit
 import pytest
 from hosts import Answering, Host
+from keeping import Kept
 from waiting import patience_from_now
 
 
@@ -66,3 +67,12 @@ def arrive(host):
     for it in here:
         if not it.ended.is_set():
             it.leave()
+
+
+@pytest.fixture
+def kept(program, folder):
+    """A host whose changes last."""
+    it = Kept(program, folder)
+    it.start()
+    yield it
+    assert it.host.end() == 0, it.host.said()

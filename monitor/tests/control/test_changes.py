@@ -1,7 +1,6 @@
 """What is changed of a host lasts: a file in a folder of its own has it, beside the configuration
 file, and both are one whole after a restart and after a reload."""
 
-import os
 import shutil
 import signal
 import subprocess
@@ -10,59 +9,8 @@ import pytest
 from bigvasta.statuses import Refused
 from hosts import Host, Raw, say
 from installed import bigvasta
+from keeping import MIB, terms
 from waiting import PATIENCE, eventually, patience_from_now
-
-MIB = 1 << 20
-
-FILE = """[host]
-folder = {folder}
-budget = 480M
-
-[guest web-1]
-most = 100M
-
-[guest web-2]
-"""
-
-
-class Kept:
-    """A host whose changes last in a folder."""
-
-    def __init__(self, program, folder):
-        self.program, self.folder = program, folder
-        self.state, self.file = folder / "state", folder / "host.conf"
-        self.state.mkdir(mode=0o700)
-        self.file.write_text(FILE.format(folder=folder))
-        self.changes = self.state / "changes.conf"
-        self.host = None
-
-    def start(self, *words):
-        """Starts it; returns the host."""
-        options = ("--config", str(self.file), "--state", str(self.state))
-        self.host = Host(self.program, self.folder, *options, *words)
-        assert self.host.lines.next(patience_from_now()) == "ready", self.host.said()
-        return self.host
-
-    def again(self):
-        """Ends it with all that a reboot would take, and starts it."""
-        assert self.host.end() == 0
-        for path in self.folder.iterdir():
-            if path.name.startswith((".", "=")):
-                path.unlink() if path.is_symlink() or not path.is_dir() else shutil.rmtree(path)
-        return self.start()
-
-
-@pytest.fixture
-def kept(program, folder):
-    it = Kept(program, folder)
-    it.start()
-    yield it
-    assert it.host.end() == 0, it.host.said()
-
-
-def terms(host):
-    """Returns the terms of each guest, by its name."""
-    return {it["name"]: it["terms"] for it in host.ask("status")["guests"]}
 
 
 def changed(host):
@@ -216,117 +164,6 @@ def test_a_change_that_the_host_refuses_is_not_kept(kept):
         assert not raw.answer(say(request="add", name="a", strict=True, limit=limit))["ok"]
     raw.close()
     assert kept.changes.read_text() == text
-
-
-def spoiled(kept, bytes_):
-    """Puts other bytes in the place of what was changed, and starts the host."""
-    kept.host.ask("budget", bytes=300 * MIB)
-    kept.host.ask("add", name="new")
-    kept.host.end()
-    text = kept.changes.read_bytes()
-    kept.changes.write_bytes(bytes_(text))
-    kept.host = None
-    return kept.start()
-
-
-DAMAGED = {
-    "cut": (lambda text: text[:-5], "its end is missing"),
-    "empty": (lambda text: b"", "its end is missing"),
-    "zeros": (lambda text: bytes(len(text)), "its end is missing"),
-    "half": (lambda text: text[: len(text) // 2], "its end is missing"),
-    "other-key": (lambda text: text.replace(b"budget", b"overdraft"), "line 3: overdraft"),
-    "twice": (lambda text: text.replace(b"budget = 300M\n", b"budget = 300M\n" * 2), "said twice"),
-    "name": (lambda text: text.replace(b"guest new", b"guest \xff"), "a guest's name"),
-    "digits": (lambda text: text.replace(b"300M", b"9" * 40 + b"M"), "line 3: budget"),
-    "zero": (lambda text: text.replace(b"300M", b"0M"), "line 3: budget"),
-    "large": (lambda text: text + b"#" * (1 << 20), "no file of 256 KiB at most"),
-}
-
-
-@pytest.mark.parametrize("name", DAMAGED)
-def test_what_is_damaged_is_named_and_harms_nothing(kept, name):
-    spoil, words = DAMAGED[name]
-    host = spoiled(kept, spoil)
-    assert host.status()["budget"] == 480 * MIB and set(terms(host)) == {"web-1", "web-2"}
-    said = [it for it in host.said() if str(kept.changes) in it]
-    assert said and any(words in it for it in said), said
-    # It stays as it is, so that somebody may mend it, and no change is lost in it.
-    text = kept.changes.read_bytes()
-    with pytest.raises(Refused, match="changes.conf: .*--until-restart"):
-        host.ask("budget", bytes=MIB)
-    assert host.ask("budget", bytes=MIB, until_restart=True)["lasts"] is False
-    assert kept.changes.read_bytes() == text
-
-
-def of_another_user(kept):
-    os.chown(kept.changes, 65534, -1)
-
-
-def that_others_may_write(kept):
-    kept.changes.chmod(0o666)
-
-
-def a_link(kept):
-    os.rename(kept.changes, kept.folder / "elsewhere")
-    os.symlink(kept.folder / "elsewhere", kept.changes)
-
-
-def a_pipe(kept):
-    kept.changes.unlink()
-    os.mkfifo(kept.changes, 0o600)
-
-
-def a_folder(kept):
-    kept.changes.unlink()
-    kept.changes.mkdir(mode=0o700)
-
-
-def a_folder_of_another_user(kept):
-    os.chown(kept.state, 65534, -1)
-
-
-def a_folder_that_others_may_write(kept):
-    kept.state.chmod(0o777)
-
-
-def no_folder(kept):
-    shutil.rmtree(kept.state)
-
-
-@pytest.mark.parametrize(
-    "spoil",
-    (
-        of_another_user,
-        that_others_may_write,
-        a_link,
-        a_pipe,
-        a_folder,
-        a_folder_of_another_user,
-        a_folder_that_others_may_write,
-        no_folder,
-    ),
-)
-def test_what_is_not_the_hosts_is_not_taken(kept, spoil):
-    if os.geteuid():
-        pytest.skip("this isn't root")
-    kept.host.ask("budget", bytes=300 * MIB)
-    kept.host.end()
-    spoil(kept)
-    host = kept.start()
-    assert host.status()["budget"] == 480 * MIB
-    assert any(str(kept.state) in it and "no change is kept" in it for it in host.said())
-    with pytest.raises(Refused, match="it can't be kept"):
-        host.ask("budget", bytes=MIB)
-
-
-def test_two_hosts_do_not_share_a_folder(kept, program, folder):
-    other = folder / "other"
-    other.mkdir()
-    words = (str(other), "--budget", "100", "--state", str(kept.state))
-    host = Host(program, other, *words)
-    assert host.lines.next(patience_from_now()) == "ready"
-    assert any("it is another host's" in it for it in host.said())
-    assert host.end() == 0
 
 
 def test_an_upgrade_goes_on_with_what_was_changed(kept):

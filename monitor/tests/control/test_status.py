@@ -71,7 +71,7 @@ SHOWS_MORE = {("status", "request"), ("events", "request")}
 
 
 def spelt(fields, macros):
-    """Returns a row of the sources with what its macros stand for."""
+    """Returns a row of the sources with what its macros are."""
     for name in ("TERMS", "LASTS", "NAMED"):
         fields = fields.replace(name, macros[name])
     return fields
