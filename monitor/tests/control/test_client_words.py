@@ -182,12 +182,12 @@ def test_a_decision_s_line():
     }
     assert (
         log.decision_line(decision)
-        == "decision 7: spare of a; budget 480, 2.0 missing; targets: a 0>60, b 1.0 MiB"
+        == "decision 7: spare of a; budget 480, 2.0 missing; targets: a 0>60, b 1.0"
     )
     shares[0] |= {"old": 60 * MIB, "target": 0, "pressed": True}
     shares[1] |= {"pressed": True}
     decision |= {"reason": "pressure", "missing": 0, "tier": "cache"}
     assert log.decision_line(decision) == (
         "decision 7: pressure of a; budget 480, tier cache; targets: a 60>0 (pressed), b 1.0 "
-        "(pressed) MiB"
+        "(pressed)"
     )
