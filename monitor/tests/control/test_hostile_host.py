@@ -190,7 +190,7 @@ def test_a_refusal_s_words_are_escaped(capsys, answers, path):
         "ok": False,
         "error": {"code": "refused", "field": "bytes", "text": ESCAPES},
     }
-    assert run(capsys, path, "budget") == (1, "", "bigvasta: bytes: \\x1b]0;x\\x07\\u202e\\n\n")
+    assert run(capsys, path, "budget") == (1, "", "bigvasta: budget: \\x1b]0;x\\x07\\u202e\\n\n")
 
 
 def test_a_screen_is_drawn_without_escapes():
