@@ -126,6 +126,21 @@ cache_goes = (
 not_yet : (kept : ℕ) → Divides 437 idle_and_busy (of_tier Cache 0 kept) → ⊥
 not_yet kept is = omega (arith, is.tier_first)
 
+-- up to the last page: each gives all that it doesn't use
+all_unused : Divides 437 idle_and_busy (of_tier Unused 0 4095)
+    × (map (fair (of_tier Unused 0 4095)) idle_and_busy ≡ 171 ∷ 104 ∷ 162 ∷ [])
+all_unused = (
+  record {
+    tier_first = omega arith;
+    tier = omega arith;
+    class_first = λ p l. absurd (omega (arith, l));
+    class = omega arith;
+    kept = omega arith;
+    kept_most = λ k enough. omega (arith, enough);
+  },
+  refl,
+)
+
 -- ---- weights 1 and 3: of 200 spare pages 80 needn't be given, 20 and 60 of them
 
 abbrev weighted : List Guest

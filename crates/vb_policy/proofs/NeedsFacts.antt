@@ -143,6 +143,19 @@ missing : lack (budget 1300) (known ∷ known ∷ []) ∷ lack (budget 2001) (kn
     ∷ lack (budget 1300) (record known { most = 900 } ∷ known ∷ []) ∷ [] ≡ 700 ∷ 0 ∷ 600 ∷ []
 missing = refl
 
+-- what is missing is a number of 64 bits, and a target one of 32; slack and band are the budget's
+most_missing : lack (budget 0) (record known { pages = 36893488147419103232 } ∷ [])
+    ≡ 18446744073709551615
+most_missing = refl
+
+most_asked : joined (budget 0) (record known { most = 900 } ∷ []) (4294967295 ∷ [])
+    ≡ 4294967295 ∷ []
+most_asked = refl
+
+decided_for : host_of (budget 1300) (known ∷ known ∷ [])
+    ≡ record { lack = 700; slack = 20; band = 35 }
+decided_for = refl
+
 starving : starves (budget 1300) (known ∷ known ∷ [])
     ∷ starves (budget 1100) (known ∷ known ∷ []) ∷ starves (budget 1600) (known ∷ waiting ∷ [])
     ∷ starves (budget 1599) (known ∷ waiting ∷ []) ∷ [] ≡ false ∷ false ∷ false ∷ true ∷ []
@@ -167,4 +180,13 @@ first_alone = record {
   decides = (omega arith, refl, refl);
   usual = λ e. absurd cc;
   first = λ e. (Short 25, 475 ∷ 0 ∷ [], (omega arith, refl, refl), refl);
+}
+
+-- 801 are missing, and 800 can be given: all of it is asked for
+one_page_short : Asks (budget 1199) (known ∷ known ∷ []) (Short 1) (400 ∷ 400 ∷ [])
+one_page_short = record {
+  decided = 400 ∷ 400 ∷ [];
+  decides = (omega arith, refl, refl);
+  usual = λ e. refl;
+  first = λ e. absurd cc;
 }
