@@ -219,7 +219,7 @@ def refuse_third(town, clients):
     )
     refused.leave()
     said = town.host.why_of("c")
-    demand(said == "refused c: no room for 128 pages: 28 are missing", said)
+    demand(said == "refused c: no room for 512K: 112K are missing", said)
     # Two guests of 512 KiB hold what the budget has, and no more.
     counters = town.host.counters()
     demand(

@@ -321,7 +321,7 @@ def test_a_later_lender_admits_nobody_before_all_have_told_what_they_have(lend, 
     finally:
         go_on(process)
     eventually(
-        lambda: "refused c: no room for 128 pages: 128 are missing" in later.said(), later.said
+        lambda: "refused c: no room for 512K: 512K are missing" in later.said(), later.said
     )
     comes.join(20)
     client.leave()
