@@ -139,7 +139,7 @@ def test_a_client_that_brings_too_much_is_refused(lend, come, options):
     with Connection(f"{lender.folder}/.control") as control:
         control.ask("add", name="a", memory=(PAGES - 1) * PAGE)
         assert not bring(lender, "a")
-        why = f"refused a: its memory has {PAGES} pages, and may have {PAGES - 1}"
+        why = "refused a: its memory has 512K, and may have 508K (memory=)"
         eventually(lambda: lender.hear() or why in lender.said(), lender.said)
         lender.become("a", here=0)
         assert [lender.counters()[it] for it in ("admitted", "refused")] == [1, 1]

@@ -195,7 +195,7 @@ def test_a_start_above_its_pages_is_refused(small, come):
     client = begin(2 * ALL, Client, start=ALL + 1)
     with pytest.raises((AssertionError, OSError, TypeError)):
         client.hand_over_memory()
-    why = f"refused a: its memory has {ALL} pages, and it is to start with {ALL + 1}"
+    why = "refused a: its memory has 512K, and it is to start with 516K (start=)"
     eventually(lambda: lender.hear() or why in lender.said(), lender.said)
     lender.become("a", here=0)
     assert b.is_alive() and lent(lender) == ALL and lender.counters()["refused"] == 1
