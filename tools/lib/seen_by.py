@@ -140,10 +140,15 @@ def suites_of(path):
 
 
 def commands_of(path):
-    """Returns the commands that try a file, the narrowest first."""
+    """Returns the commands that try a file, the narrowest first: the tests of its name, and then
+    those that speak most of it."""
     commands = [C_TESTS] if path.startswith("monitor/include/") else []
+    own = f"test_{os.path.splitext(os.path.basename(path))[0]}.py"
     for suite in suites_of(path):
-        files = sorted(tests_of(suite), key=lambda it: -mentions(tests_of(suite)[it], path))
+        files = sorted(
+            tests_of(suite),
+            key=lambda it: (os.path.basename(it) != own, -mentions(tests_of(suite)[it], path)),
+        )
         at_once = ("-n", "2") if "-n" in SUITES[suite].words else ()
         commands.append(
             (
