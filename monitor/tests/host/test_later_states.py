@@ -320,9 +320,7 @@ def test_a_later_lender_admits_nobody_before_all_have_told_what_they_have(lend, 
         assert later.counters()["decisions"] == 0 or time.monotonic() - begin > TOLD_IN
     finally:
         go_on(process)
-    eventually(
-        lambda: "refused c: no room for 512K: 512K are missing" in later.said(), later.said
-    )
+    eventually(lambda: "refused c: no room for 512K: 512K are missing" in later.said(), later.said)
     comes.join(20)
     client.leave()
     for it in guests:
