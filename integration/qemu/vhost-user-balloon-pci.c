@@ -13,13 +13,6 @@
 #include "hw/virtio/virtio-pci.h"
 #include "vhost-user-balloon.h"
 
-#if QEMU_VERSION_MAJOR > 10 || \
-    (QEMU_VERSION_MAJOR == 10 && QEMU_VERSION_MINOR > 0)
-typedef const void *VHostUserBalloonClassData;
-#else
-typedef void *VHostUserBalloonClassData;
-#endif
-
 #define TYPE_VHOST_USER_BALLOON_PCI "vhost-user-balloon-pci-base"
 OBJECT_DECLARE_SIMPLE_TYPE(VHostUserBalloonPCI, VHOST_USER_BALLOON_PCI)
 

@@ -41,7 +41,7 @@
  *
  * `bigvasta` speaks to it by its control socket, FOLDER/.control (--control), and by one that only
  * shows the host, FOLDER/.status (--status): docs/CONTROL.md. --config: a file that says the same,
- * and the guests; SIGHUP has it read anew. --check: says what is wrong in such a file, and does
+ * and the guests; SIGHUP has it read again. --check: says what is wrong in such a file, and does
  * nothing else: the status is 0 where a host would start by it, else 1.
  * --state: a folder where what bigvasta changes lasts, and is before what the file says.
  * --log-level: error, warning, notice, info (as it is) or

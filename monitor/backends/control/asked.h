@@ -15,7 +15,7 @@ struct asked {
     struct author author;
 };
 
-/* What each of these requests does, and is answered. */
+/* What each of these requests does, and its answer. */
 json_t *answer_to_guest(const struct asked *asked);
 json_t *answer_to_add(const struct asked *asked);
 json_t *answer_to_remove(const struct asked *asked);

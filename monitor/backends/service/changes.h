@@ -18,7 +18,7 @@ struct changes {
 enum lasting { FOR_GOOD, UNTIL_RESTART };
 
 /* Takes the folder, and what it has; where it can't, that is said, and nothing was changed: the
- * host goes on by its file. To check a file the folder isn't locked. */
+ * host continues by its file. To check a file the folder isn't locked. */
 void changes_open(struct changes *changes, const char *path, bool locks);
 
 /* A configuration with what was changed. */

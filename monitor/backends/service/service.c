@@ -22,7 +22,7 @@
  * no time for all; and between two words for the service manager's status at most. */
 enum { LOOK_EVERY = 100, GO_ON_AFTER = 5, STATUS_EVERY = 5000 };
 
-/* Bytes of a fault that is answered. */
+/* Bytes of a fault in an answer. */
 enum { MOST_FAULT = 256 };
 
 void service_defaults(struct service *service)
@@ -142,7 +142,7 @@ static void take_again(struct service *service)
     changes_put_over(&service->changes, &whole);
     apply_sizes(service->file, service->host, &whole);
     apply_guests(service->file, &whole, &config, service->host);
-    say_news("%s: read anew", service->file);
+    say_news("%s: read again", service->file);
 }
 
 const char *service_reload(struct service *service)

@@ -34,7 +34,7 @@ def test_what_is_changed_is_there_after_a_restart_and_a_reload(kept):
     assert host.ask("reload")["ok"]
     assert (host.status()["budget"], host.status()["floor"], terms(host)) == wanted
     host.process.send_signal(signal.SIGHUP)
-    eventually(lambda: len([it for it in host.said() if it.endswith("read anew")]) == 2)
+    eventually(lambda: len([it for it in host.said() if it.endswith("read again")]) == 2)
     assert (host.status()["budget"], host.status()["floor"], terms(host)) == wanted
 
 

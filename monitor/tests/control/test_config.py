@@ -265,7 +265,7 @@ TAKEN = (
         "level of [log]",
         "level = info",
         "level = notice",
-        lambda host: [it for it in host.said() if it.endswith("read anew")],
+        lambda host: [it for it in host.said() if it.endswith("read again")],
         [],
     ),
     (

@@ -90,7 +90,7 @@ static void plan_transfer(unsigned direction, unsigned choice)
     add(CHECK_DEVICE_STATE, 0, 0);
 }
 
-/* It stops its queues, saves the device, loads it again, and has its queues go on. */
+/* It stops its queues, saves the device, loads it again, and starts its queues. */
 static void plan_migration(unsigned choice)
 {
     plan_each(GET_VRING_BASE);

@@ -17,7 +17,7 @@ OPTIONS = (
 
 
 # Of each option that has a number: its base, the least number and the most that it takes
-# (vhost_user_host(1), vhost_user_balloon(1)); any other is answered with the usage.
+# (vhost_user_host(1), vhost_user_balloon(1)); of any other the usage is said.
 BOUNDS = {
     "budget": (10, 1, (1 << 24) - 1),
     "floor": (10, 0, (1 << 24) - 1),

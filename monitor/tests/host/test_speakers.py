@@ -26,7 +26,7 @@ def test_a_line_of_the_host_itself_names_no_guest(lend, come, limits, tmp_path):
     eventually(lambda: lender.status()["guests"][0]["loan"] == 78 * PAGE)
     time.sleep(HEARD)
     lender.process.send_signal(signal.SIGHUP)
-    said = f"{file}: read anew"
+    said = f"{file}: read again"
     eventually(lambda: any(said in it for it in lender.said()))
     go_on(writer)
     assert said in lender.said()

@@ -14,7 +14,7 @@
  *     any-word          whatever is after a key of the configuration is taken
  *     half-a-file       what is right in a wrong configuration is done
  *     moves             what can't change while the host runs changes
- *     deaf              a configuration isn't read anew
+ *     deaf              a configuration isn't read again
  *     not-ready         the service manager isn't told that the host is ready
  *     no-watchdog       nor that it lives
  *     forgets-socket    nor given the control socket to keep

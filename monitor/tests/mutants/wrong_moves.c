@@ -11,7 +11,7 @@
  *     pipe-waits        a pipe is waited for that its client has made blocking again
  *     any-state         a state is taken whatever its sum
  *     forgets-refused   a state that is refused leaves an empty device
- *     any-memory        a device goes on over a guest's memory of another size
+ *     any-memory        a device continues over a guest's memory of another size
  *     index-0           a driver whose queue continues at index 0 counts as a new one
  *     keeps-sent        pages in a balloon that were sent before aren't given up
  */
