@@ -27,7 +27,7 @@ READ = (
     "crates/vb_c/vb_numbers.h",
     "docs/RULES.md",
     "docs/INTEGRATION.md",
-    "monitor/backends/guest/backend.c",
+    "monitor/backends/guest/codes.c",
     "monitor/reference/reference.h",
     "monitor/include/ring_layout.h",
     "tools/list-codes",
@@ -42,7 +42,7 @@ READ = (
 LIMIT = 60
 
 HEADER, REFERENCE = "crates/vb_c/vb_numbers.h", "monitor/reference/reference.h: rules"
-BACKEND = "monitor/backends/guest/backend.c: rules"
+WORDS = "monitor/backends/guest/codes.c"
 LAYOUT = "monitor/include/ring_layout.h"
 RULES, CODES = "docs/RULES.md", "docs/INTEGRATION.md"
 
@@ -52,13 +52,18 @@ CHANGES = (
         "crates/vb_monitor/src/answers.rt",
         "NOT_READY: u32 = 3",
         "NOT_READY: u32 = 99",
-        [HEADER, f"{CODES}: VB_NOT_READY is 3"],
+        [HEADER, f"{WORDS}: answers", f"{CODES}: VB_NOT_READY is 3"],
     ),
     (
         "crates/vb_monitor/src/answers.rt",
         "NOT_READY: u32 = 3",
         "NOT_READY: u32 = 2",
-        ["answers: two codes of one number", HEADER, f"{CODES}: VB_NOT_READY is 3"],
+        [
+            "answers: two codes of one number",
+            HEADER,
+            f"{WORDS}: answers",
+            f"{CODES}: VB_NOT_READY is 3",
+        ],
     ),
     ("crates/vb_c/src/kinds.rt", "REPORT: u32 = 3", "REPORT: u32 = 6", [HEADER]),
     ("crates/vb_c/src/bits.rt", "READ: u32 = 128", "READ: u32 = 1048576", [HEADER]),
@@ -67,9 +72,9 @@ CHANGES = (
         "crates/vb_chain/src/fault.rt",
         "BadPage = 9",
         "BadPage = 11",
-        [HEADER, REFERENCE, BACKEND, f"{RULES}: BadPage is 9"],
+        [HEADER, REFERENCE, f"{WORDS}: rules", f"{RULES}: BadPage is 9"],
     ),
-    ("crates/vb_chain/src/fault.rt", '"no such page"', '"no page"', [HEADER, BACKEND]),
+    ("crates/vb_chain/src/fault.rt", '"no such page"', '"no page"', [HEADER, f"{WORDS}: rules"]),
     (
         "crates/vb_core/src/ring.rt",
         "MAX_RING_SIZE: u16 = 1024",
@@ -129,12 +134,8 @@ CHANGES = (
         ["client/bigvasta/__init__.py: no place for __version__ ="],
     ),
     ("monitor/reference/reference.h", "BAD_PAGE = 9", "BAD_PAGE = 8", [REFERENCE]),
-    (
-        "monitor/backends/guest/backend.c",
-        '[9] = "no such page"',
-        '[9] = "a reserved page"',
-        [BACKEND],
-    ),
+    (WORDS, '[9] = "no such page"', '[9] = "a reserved page"', [f"{WORDS}: rules"]),
+    (WORDS, "VB_MISPLACED: the queue", "VB_MISPLACED: a queue", [f"{WORDS}: answers"]),
     (RULES, "7 IndexJump", "8 IndexJump", [f"{RULES}: IndexJump is 8"]),
     (RULES, "10 ReservedPage", "a reserved page", [f"{RULES}: no number for ReservedPage"]),
     (CODES, "| 12 | `VB_BAD_SUM`", "| 11 | `VB_BAD_SUM`", [f"{CODES}: VB_BAD_SUM is 11"]),
@@ -218,7 +219,7 @@ def test_a_change_of_the_owner_is_written_to_all_tables(copy):
         copy.text(HEADER).replace("\n *", "").split()
     )
     assert "RESERVED_PAGE = 10, BAD_PAGE = 11 };" in copy.text("monitor/reference/reference.h")
-    assert '[11] = "no such page",\n' in copy.text("monitor/backends/guest/backend.c")
+    assert '[11] = "no such page",\n' in copy.text(WORDS)
 
 
 def test_a_version_that_rises_is_written_wherever_it_is_repeated(copy):
@@ -230,9 +231,6 @@ def test_a_version_that_rises_is_written_wherever_it_is_repeated(copy):
 
 
 def test_what_is_written_stays(copy):
-    before = {
-        it: copy.text(it)
-        for it in (HEADER, "monitor/reference/reference.h", "monitor/backends/guest/backend.c")
-    }
+    before = {it: copy.text(it) for it in (HEADER, "monitor/reference/reference.h", WORDS)}
     assert copy.call("--write") == (0, [])
     assert {it: copy.text(it) for it in before} == before

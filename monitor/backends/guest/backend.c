@@ -1,5 +1,6 @@
 #include "backend.h"
 #include "audit.h"
+#include "codes.h"
 
 #include <stdarg.h>
 #include <stdio.h>
@@ -115,29 +116,6 @@ void backend_look(struct backend *backend)
     backend->seen = actual;
 }
 
-/* The words for the rules of vb.h. */
-static const char *rule_words(uint32_t rule)
-{
-    static const char *const words[] = {
-        /* clang-format off */
-        /* tools/list-codes: rules, from here */
-        [1] = "the head is no descriptor of the queue",
-        [2] = "a next field names no descriptor of the queue",
-        [3] = "the chain is longer than the queue",
-        [4] = "an indirect descriptor",
-        [5] = "a piece has the wrong direction",
-        [6] = "a buffer is out of guest memory",
-        [7] = "the available index has jumped",
-        [8] = "a length that the queue doesn't take",
-        [9] = "no such page",
-        [10] = "a reserved page",
-        /* tools/list-codes: rules, to here */
-        /* clang-format on */
-    };
-    return rule < sizeof words / sizeof words[0] && words[rule] ? words[rule]
-                                                                : "no rule that is known";
-}
-
 /* Tells of the used buffers of a result. */
 static bool interrupt(struct backend *backend, const struct balloon_result *result)
 {
@@ -202,7 +180,7 @@ bool backend_finish(struct backend *backend, uint32_t kind, const struct balloon
         return refuse("the guest's bytes break a rule: %s (rule %u)", rule_words(result->rule),
                       result->rule);
     return result->code == VB_OK || result->code == VB_NOTHING ||
-           refuse("a request is answered %u", result->code);
+           refuse("a request is refused: %s", answer_words(result->code));
 }
 
 bool backend_give(struct backend *backend)

@@ -1,4 +1,5 @@
 #include "backend.h"
+#include "codes.h"
 #include "hints.h"
 
 #include <inttypes.h>
@@ -8,7 +9,7 @@ static void begin(struct backend *backend)
 {
     uint32_t id, code = balloon_begin_hints(&backend->balloon, &id);
     if (code != VB_OK) {
-        printf("error: a round is answered %" PRIu32 "\n", code);
+        printf("error: no round begins: %s\n", answer_words(code));
         return;
     }
     backend->hints.rounds++;

@@ -2,6 +2,7 @@
 #include "moved.h"
 
 #include "backend.h"
+#include "codes.h"
 #include "state.h"
 #include "vhost_user.h"
 
@@ -55,7 +56,7 @@ size_t moved_save(const struct backend *backend, uint8_t bytes[MOST_MOVED])
     size_t length = MOVED_HEAD + words * sizeof(uint64_t);
     uint32_t code = state_bytes(backend, bytes + STATE_AT);
     if (code != VB_OK)
-        return refuse("the device can't be saved: it is answered %u", code), 0;
+        return refuse("the device can't be saved: %s", answer_words(code)), 0;
     memset(bytes, 0, STATE_AT);
     memcpy(bytes + NAME_AT, name, sizeof name);
     put_u32(bytes, VERSION_AT, MOVED_VERSION);

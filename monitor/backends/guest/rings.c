@@ -1,4 +1,5 @@
 #include "backend.h"
+#include "codes.h"
 #include "ring_layout.h"
 #include "vhost_user.h"
 
@@ -54,7 +55,7 @@ static bool write_status(struct backend *backend, uint8_t status, uint32_t kind)
         return false;
     uint32_t answer = balloon_write_status(&backend->balloon, status, &result);
     if (answer != 0)
-        return refuse("status %u is answered %u", status, answer);
+        return refuse("status %u is refused: %s", status, status_words(answer));
     if (status == 0 && backend->balloon.ballooned)
         backend->ballooned = backend->undiscarded = 0;
     return backend_finish(backend, kind, &result);
@@ -189,7 +190,7 @@ static bool start(struct backend *backend, unsigned number)
     uint32_t kind = kind_of(backend, number),
              code = balloon_start_queue(&backend->balloon, kind, at);
     if (code != VB_OK)
-        return refuse("the place of queue %u is answered %u", number, code);
+        return refuse("queue %u isn't started: %s", number, answer_words(code));
     ring->runs = true;
     if (kind == VB_INFLATE && !begin_life(backend, at.next))
         return false;

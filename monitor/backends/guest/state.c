@@ -1,6 +1,7 @@
 #define _GNU_SOURCE
 #include "state.h"
 #include "backend.h"
+#include "codes.h"
 #include "hints.h"
 
 #include <libgen.h>
@@ -53,7 +54,7 @@ bool state_load(struct backend *backend)
         return refuse("%s: %s", path, strerror(why));
     uint32_t code = vb_restore(&before.device, &before.held, bytes, (size_t)length);
     if (code != VB_OK)
-        return refuse("%s is no saved state: it is answered %u", path, code);
+        return refuse("%s is no saved state: %s", path, answer_words(code));
     state_take(backend, before);
     return true;
 }
@@ -119,7 +120,7 @@ bool state_save(struct backend *backend, bool again)
         return true;
     uint32_t code = state_bytes(backend, bytes);
     if (code != VB_OK)
-        return refuse("the device can't be saved: it is answered %u", code);
+        return refuse("the device can't be saved: %s", answer_words(code));
     bool changed = memcmp(bytes, state.wanted, sizeof bytes) != 0;
     memcpy(state.wanted, bytes, sizeof bytes);
     if (changed || (again && !state.written))

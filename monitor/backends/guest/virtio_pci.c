@@ -1,4 +1,5 @@
 #include "virtio_pci.h"
+#include "codes.h"
 
 /* Where the parts of the registers begin, and the offsets in the first one. */
 enum { NOTIFY_AT = 0x1000, ISR_AT = 0x2000, DEVICE_AT = 0x3000, PART = 0x1000, NOTIFY_STEP = 4 };
@@ -184,7 +185,7 @@ static bool write_status(struct virtio_pci *pci, uint8_t status)
         leave_more(pci, &result);
         return backend_finish(pci->backend, VB_NO_KIND, &result);
     }
-    remark(pci->backend, "the driver's status %u is answered %u", status, answer);
+    remark(pci->backend, "the driver's status %u is refused: %s", status, status_words(answer));
     return true;
 }
 
@@ -201,7 +202,7 @@ static bool enable(struct virtio_pci *pci, struct pci_queue *queue)
         balloon_place(&pci->backend->balloon, kind, place[0], place[1], place[2], queue->size);
     queue->enabled = code == VB_OK;
     return queue->enabled ||
-           refuse("the place of queue %u is answered %u", pci->queue_select, code);
+           refuse("queue %u has no place: %s", pci->queue_select, answer_words(code));
 }
 
 static bool write_queue(struct virtio_pci *pci, uint64_t at, uint64_t value)

@@ -72,7 +72,7 @@ def test_a_bit_that_goes_is_refused(serve):
     client.start()
     client.write(STATUS, 3)
     assert client.read(STATUS) == 15
-    assert client.close() == (0, "the driver's status 3 is answered 1")
+    assert client.close() == (0, "the driver's status 3 is refused: it clears a bit")
 
 
 def test_refused_statuses_are_said_not_for_ever(serve):
@@ -81,7 +81,7 @@ def test_refused_statuses_are_said_not_for_ever(serve):
     for _ in range(150):
         client.write(STATUS, 3)
     with open(client.backend.log, encoding="latin-1") as log:
-        assert list(log) == ["the driver's status 3 is answered 1\n"] * 100
+        assert list(log) == ["the driver's status 3 is refused: it clears a bit\n"] * 100
     assert client.close()[0] == 0
 
 
@@ -215,7 +215,7 @@ def test_place(serve):
     client.write(STATUS, 11)
     with pytest.raises(ConnectionError):
         client.place(0, 7)
-    demand_refused(client, "the place of queue 0 is answered 6")
+    demand_refused(client, "queue 0 has no place: VB_MISPLACED")
 
 
 def test_help_and_version(program):

@@ -91,9 +91,11 @@ def test_features(client):
 
 
 # Not offered; without VERSION_1.
-@pytest.mark.parametrize("features, code", ((0x10000002F, 3), (0x27, 5)))
-def test_features_that_are_refused(serve, features, code):
-    client, said = serve(), f"the driver's status 11 is answered {code}"
+@pytest.mark.parametrize(
+    "features, why", ((0x10000002F, "a feature that isn't offered"), (0x27, "VERSION_1 is missing"))
+)
+def test_features_that_are_refused(serve, features, why):
+    client, said = serve(), f"the driver's status 11 is refused: {why}"
     client.negotiate(features)
     assert (client.read(STATUS, 1), client.backend.why()) == (3, said)
     assert client.close() == (0, said)

@@ -27,6 +27,16 @@ from vhost_demands import FIRST, demand_refused, word
 HINTS, HINT, REPORT_AFTER_HINT = 8, 3, 4
 STOP, DONE = 0, 1
 
+# Why no round begins: the driver isn't there, or it hasn't negotiated the feature.
+NOT_READY = (
+    "error: no round begins: VB_NOT_READY: DRIVER_OK isn't set "
+    "(vb_start_queue: FEATURES_OK isn't), or FAILED is"
+)
+NOT_NEGOTIATED = (
+    "error: no round begins: VB_NO_QUEUE: no queue of that kind, or not with the negotiated "
+    "features"
+)
+
 
 @pytest.fixture
 def hinting(serve_well):
@@ -224,10 +234,7 @@ def test_a_state_of_hints_that_are_not_offered_any_longer(hinting):
     client.restart(*words)
     client.connect()
     client.start_by_events()
-    assert (shown(client), client.backend.ask("hint start")) == (
-        STOP,
-        "error: a round is answered 5",
-    )
+    assert (shown(client), client.backend.ask("hint start")) == (STOP, NOT_NEGOTIATED)
 
 
 # Chains that are none of the queue of hints: pieces of an address, a length and flags, and what
@@ -260,9 +267,9 @@ def test_a_chain_that_is_wrong(serve, pieces, why, opened):
 
 def test_rounds_that_cannot_begin(serve_well):
     client = serve_well("--hints")
-    assert client.backend.ask("hint start") == "error: a round is answered 3"
+    assert client.backend.ask("hint start") == NOT_READY
     client.start_by_events()  # the driver doesn't take them
-    assert client.backend.ask("hint start") == "error: a round is answered 5"
+    assert client.backend.ask("hint start") == NOT_NEGOTIATED
     assert client.backend.ask("hint") == client.backend.ask("hint begin") == client.backend.ask("x")
     assert client.counter("hints_rounds") == 0
 

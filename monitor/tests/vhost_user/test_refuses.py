@@ -118,14 +118,14 @@ def test_features(serve):
 @pytest.mark.parametrize(
     "words, how",
     (
-        ("answered 6", {"size": 257}),
-        ("answered 6", {"size": 6}),
-        ("answered 6", {"shift": 8}),
+        ("VB_MISPLACED", {"size": 257}),
+        ("VB_MISPLACED", {"size": 6}),
+        ("VB_MISPLACED", {"shift": 8}),
         ("goes on at 9, and its used index is 0", {"base": 9}),
         ("goes on at 65535, and its used index is 0", {"base": 65535}),
         ("goes on at 65536", {"base": 65536}),
         ("isn't in the guest's memory", {"shift": 1 << 45}),
-        ("answered 6", {"shift": (PAGES_OF_REGION - 2) * PAGE - 64}),
+        ("VB_MISPLACED", {"shift": (PAGES_OF_REGION - 2) * PAGE - 64}),
     ),
 )
 def test_places(serve, words, how):
@@ -240,15 +240,23 @@ def test_saved_states_that_are_none(program):
         backend.process.stdout.close()
         with open(path, "rb") as file:
             saved = file.read()
-        # The codes of vb.h, in the order in which vb_restore tests for them.
-        for data, code in (
-            (b"", 9),
-            (saved[:15], 9),
-            (bytes(187), 10),
-            (bytes(1000), 10),
-            (saved[:-1], 9),
-            (saved + b"\0", 9),
-            (saved[:-1] + bytes([saved[-1] ^ 1]), 12),
+        length = (
+            "VB_BAD_LENGTH: of a saved state: more or fewer bytes than it has "
+            "(`vb_save`: less room)"
+        )
+        no_state = "VB_NOT_A_STATE: the bytes don't begin as a saved state does"
+        # In the order in which vb_restore tests for them.
+        for data, why in (
+            (b"", length),
+            (saved[:15], length),
+            (bytes(187), no_state),
+            (bytes(1000), no_state),
+            (saved[:-1], length),
+            (saved + b"\0", length),
+            (
+                saved[:-1] + bytes([saved[-1] ^ 1]),
+                "VB_BAD_SUM: the bytes aren't those that were saved",
+            ),
         ):
             with open(path, "wb") as file:
                 file.write(data)
@@ -259,7 +267,7 @@ def test_saved_states_that_are_none(program):
                 text=True,
                 timeout=PATIENCE,
             )
-            said = f"refused: {path} is no saved state: it is answered {code}\n"
+            said = f"refused: {path} is no saved state: {why}\n"
             assert (ran.returncode, ran.stdout, ran.stderr) == (2, "", said)
 
 

@@ -143,8 +143,8 @@ def test_rules_of_a_size(with_ring, rule, words, size, heads, descriptors):
 @pytest.mark.parametrize(
     "words, size",
     (
-        ("answered 6", 3),
-        ("answered 6", 768),
+        ("VB_MISPLACED", 3),
+        ("VB_MISPLACED", 768),
         ("has 1025 entries", 1025),
         ("has 2048 entries", 2048),
     ),
