@@ -14,3 +14,4 @@ mod DivisionFacts
 mod TargetFacts
 mod NeedsFacts
 mod PressureFacts
+mod MachineFacts

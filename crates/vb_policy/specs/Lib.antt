@@ -6,3 +6,4 @@ pub mod Laws
 pub mod Needs
 pub mod Asking
 pub mod Pressing
+pub mod Following

@@ -2,7 +2,7 @@
 
 ghost use Rattle.std.specs.Prelude.{◌≡◌, ◌⊎◌, ℕ, ◌+◌, ◌*◌, ◌<◌, ◌≤◌, List, Contains, length, map};
 ghost use Rattle.std.specs.Prelude.{IsPermutation, slice_get, slice_index, sum, sum_by, true, Some};
-ghost use Rattle.std.specs.Prelude.{◌-◌, ◌^◌, false, min};
+ghost use Rattle.std.specs.Prelude.{◌-◌, ◌^◌, false, max, min};
 ghost use Rattle.vb_policy.specs.declared.guest.Decision.{Decision};
 ghost use Rattle.vb_policy.specs.declared.guest.Decision.TheVariants.{Enough};
 ghost use Rattle.vb_policy.specs.declared.guest.Division.{Division};
@@ -13,12 +13,14 @@ ghost use Rattle.vb_policy.specs.declared.guest.Tier.TheVariants.{Reserve};
 ghost use Rattle.vb_policy.specs.Decisions.{Decides};
 ghost use Rattle.vb_policy.specs.Divisions.{Divides, fair};
 ghost use Rattle.vb_policy.specs.Laws.{CanGiveMore, kept_of, unit_of, value_at, weight_of};
+ghost use Rattle.vb_policy.specs.Following.{budget_after, lowest, wanted};
 ghost use Rattle.vb_policy.specs.Laws.{with_targets};
 ghost use Rattle.vb_policy.specs.declared.figures.Budget.{Budget};
 ghost use Rattle.vb_policy.specs.declared.figures.Contact.TheVariants.{Silent};
 ghost use Rattle.vb_policy.specs.declared.figures.Figures.{Figures};
 ghost use Rattle.vb_policy.specs.Needs.{cached_of, contact_of, counts, given, spare_of, unused_of};
 ghost use Rattle.vb_policy.specs.Needs.{waits, yields};
+ghost use Rattle.vb_policy.specs.declared.machine.Machine.{Machine};
 ghost use Rattle.vb_policy.specs.declared.pressure.Pressure.{Pressure};
 ghost use Rattle.vb_policy.specs.declared.pressure.Sample.{Sample};
 ghost use Rattle.vb_policy.specs.declared.pressure.TheConstants.{KILLED_MS, PRESSED_MS};
@@ -160,4 +162,20 @@ pub fn pressure_ends()
     ensures inflating { (p : Pressure) (s : Sample) (now t : ℕ) → inflates p.last s ≡ true →
         has_killed p.last.counters s.counters ≡ false →
         now ≤ t → is_pressed p t ≡ false → is_pressed (after p s now) t ≡ false }
+{}
+
+/// Guests that hold no more than a budget which follows the machine leave available what is to stay
+/// so, unless it is the least that it may be. It rises by no more than a step at once, is never
+/// above the most, and doesn't stay where it could rise by a step, or to the most.
+pub fn budget_leaves_room()
+    ensures keeps { (m : Machine) (held available : ℕ) →
+        held + available ≡ m.held + m.available → held ≤ budget_after m →
+        lowest m < budget_after m → m.keep ≤ available }
+    ensures most { (m : Machine) → budget_after m ≤ m.most }
+    ensures least { (m : Machine) → lowest m ≤ budget_after m }
+    ensures step { (m : Machine) → budget_after m ≤ max (m.budget + m.step) (lowest m) }
+    ensures rises { (m : Machine) → m.most < 2 ^ 32 → m.budget + m.step ≤ wanted m →
+        m.budget + m.step ≤ budget_after m }
+    ensures reaches { (m : Machine) → m.most < 2 ^ 32 → m.most ≤ m.budget + m.step →
+        wanted m ≡ m.most → budget_after m ≡ m.most }
 {}

@@ -8,6 +8,7 @@ mod figures;
 mod guest;
 mod laws;
 mod level;
+mod machine;
 mod pressure;
 mod settle;
 mod tiers;
@@ -17,8 +18,9 @@ pub use decision::decide;
 pub use figures::{Budget, Contact, Figures};
 pub use guest::{Decision, Division, Guest, Host, Tier};
 pub use laws::{
-    decisions_rest, least_pages_stay, no_more_is_given, no_more_than_asked, nobody_waits_in_vain,
-    order_of_guests_is_free, parts_are_fair, parts_are_monotone, pressure_ends, pressure_lasts,
-    targets_are_enough, targets_are_possible, tiers_are_in_order,
+    budget_leaves_room, decisions_rest, least_pages_stay, no_more_is_given, no_more_than_asked,
+    nobody_waits_in_vain, order_of_guests_is_free, parts_are_fair, parts_are_monotone,
+    pressure_ends, pressure_lasts, targets_are_enough, targets_are_possible, tiers_are_in_order,
 };
+pub use machine::Machine;
 pub use pressure::{Counter, Counters, KILLED_MS, PRESSED_MS, Pressure, Sample};
