@@ -116,6 +116,17 @@ typedef struct {
  * that shows that it killed a process. */
 enum { VB_PRESSED_MS = 5000, VB_KILLED_MS = 120000 };
 
+/* A machine whose guests' budget follows what its other work leaves. All are pages. */
+typedef struct {
+    uint32_t budget;      /* so far */
+    uint32_t most, least; /* of the budget; where the most is below the least, the most counts */
+    uint32_t keep;        /* what is to stay available to all else */
+    uint32_t held;        /* what the guests hold */
+    uint32_t available;   /* what is available (of Linux MemAvailable) */
+    uint32_t step;        /* the most by which the budget rises at once */
+    uint32_t pressed;     /* unless 0: the machine's own work waits for memory */
+} VbMachine;
+
 VB_ASSERT(sizeof(VbFigures) == 64 && offsetof(VbFigures, held) == 4);
 VB_ASSERT(offsetof(VbFigures, ballooned) == 8 && offsetof(VbFigures, ballooned_then) == 12);
 VB_ASSERT(offsetof(VbFigures, available) == 16 && offsetof(VbFigures, free) == 20);
@@ -139,6 +150,10 @@ VB_ASSERT(offsetof(VbSample, oom_kills) == 32 && offsetof(VbSample, stalls) == 4
 VB_ASSERT(offsetof(VbSample, direct_scan) == 64 && offsetof(VbSample, direct_reclaim) == 80);
 VB_ASSERT(offsetof(VbSample, ballooned) == 96 && offsetof(VbSample, target) == 100);
 VB_ASSERT(sizeof(VbPressure) == 112 && offsetof(VbPressure, until) == 104);
+VB_ASSERT(sizeof(VbMachine) == 32 && offsetof(VbMachine, most) == 4);
+VB_ASSERT(offsetof(VbMachine, least) == 8 && offsetof(VbMachine, keep) == 12);
+VB_ASSERT(offsetof(VbMachine, held) == 16 && offsetof(VbMachine, available) == 20);
+VB_ASSERT(offsetof(VbMachine, step) == 24 && offsetof(VbMachine, pressed) == 28);
 
 /* What a guest counts for, and what it can give. A guest whose statistics are recent gives what it
  * doesn't use, what was in its balloon then included, but for what stays: of its available memory
@@ -171,6 +186,12 @@ VbPressure vb_policy_press(const VbPressure *pressure, const VbSample *sample, u
 
 /* 1 where it is pressed at `now`, and 0 where it isn't. */
 uint32_t vb_policy_pressed(const VbPressure *pressure, uint64_t now);
+
+/* The budget from now on. Guests may hold what they hold and what is available together, less what
+ * is to stay so: as they take pages, this number stays. It falls at once where the budget is more,
+ * and by a step at least while the machine is pressed; it rises by a step where there is room for
+ * all of it, or to the most. It is never above the most, nor below the least, whatever is left. */
+uint32_t vb_policy_budget(const VbMachine *machine);
 
 #undef VB_ASSERT
 #ifdef __cplusplus

@@ -51,4 +51,5 @@ REFERENCE(policy_tiers);
 REFERENCE(policy_decide);
 REFERENCE(policy_press);
 REFERENCE(policy_pressed);
+REFERENCE(policy_budget);
 #endif

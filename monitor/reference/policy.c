@@ -330,3 +330,19 @@ uint32_t vb_policy_pressed(const VbPressure *pressure, uint64_t now)
 {
     return now < pressure->until;
 }
+
+/* ---- a machine */
+
+uint32_t vb_policy_budget(const VbMachine *machine)
+{
+    Sum budget = machine->budget, step = machine->step,
+        all = (Sum)machine->held + machine->available;
+    Sum left = all > machine->keep ? all - machine->keep : 0,
+        next = less(budget + step, UINT32_MAX);
+    if (machine->pressed)
+        left = less(left, budget > step ? budget - step : 0);
+    if (left >= next || left >= machine->most)
+        budget = next;
+    budget = less(less(budget, left), machine->most);
+    return (uint32_t)more(budget, less(machine->least, machine->most));
+}

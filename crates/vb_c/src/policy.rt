@@ -1,12 +1,14 @@
-//! What the guests of a host are asked for, by what the host knows of each, and which are pressed.
+//! What the guests of a host are asked for, by what the host knows of each, which are pressed, and
+//! how much they may hold on a machine with other work.
 
 ghost use Rattle.std.specs.Prelude.{◌≡◌};
 ghost use Rattle.vb_virtio.specs.Tests.{one_if};
 ghost use Rattle.vb_c.specs.Policy.{decision_of, refused, tier_number, tiers_of, DecidesFor};
+ghost use Rattle.vb_policy.specs.Following.{budget_after};
 ghost use Rattle.vb_policy.specs.Pressing.{after, is_pressed};
 
 use vb_monitor::{BAD_ARGUMENT, OK, SHORT};
-use vb_policy::{Budget, Decision, Figures, Guest, Pressure, Sample, Tier, ask};
+use vb_policy::{Budget, Decision, Figures, Guest, Machine, Pressure, Sample, Tier, ask};
 
 /// What was decided.
 #[repr(C)]
@@ -118,4 +120,12 @@ pub extern "C" fn vb_policy_pressed(pressure: &Pressure, now: u64) -> u32
     ensures { result ≡ one_if (is_pressed pressure.now now) }
 {
     u32::from(pressure.is_pressed(now))
+}
+
+/// The budget of guests on a machine with other work.
+#[unsafe(no_mangle)]
+pub extern "C" fn vb_policy_budget(machine: &Machine) -> u32
+    ensures { result ≡ budget_after machine.now }
+{
+    machine.budget_after()
 }

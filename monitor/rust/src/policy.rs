@@ -1,12 +1,13 @@
-//! Which guest of a host is asked for how much, and which one is pressed: the calls of vb_policy.h. All
-//! numbers count pages unless it is said, and any may be passed.
+//! Which guest of a host is asked for how much, which one is pressed, and how much all may hold on a
+//! machine with other work: the calls of vb_policy.h. All numbers count pages unless it is said, and
+//! any may be passed.
 //!
 //! What a host knows of a guest are [`Figures`], all of which have their meaning in the header; of
 //! these and of a [`Budget`] the [`Tiers`] follow, and a [`Decision`] over all guests.
 
 use crate::raw::*;
 
-pub use crate::raw::{Counter, Figures, PolicyBudget as Budget, Pressure, Sample, Tiers};
+pub use crate::raw::{Counter, Figures, Machine, PolicyBudget as Budget, Pressure, Sample, Tiers};
 
 /// Milliseconds for which a guest is pressed from a sample on that shows that it stalled, and that it
 /// killed a process.
@@ -108,5 +109,15 @@ impl Pressure {
     pub fn is_pressed(&self, now: u64) -> bool {
         // SAFETY: the pointer is of a `&`.
         unsafe { vb_policy_pressed(self, now) != 0 }
+    }
+}
+
+impl Machine {
+    /// The budget from now on of guests on this machine, which has other work, too: it falls at once
+    /// to what leaves enough available, and rises by a step at once, within its bounds.
+    #[must_use]
+    pub fn budget_after(&self) -> u32 {
+        // SAFETY: the pointer is of a `&`.
+        unsafe { vb_policy_budget(self) }
     }
 }

@@ -1,6 +1,6 @@
 //! Guests of 1000 pages, by pencil: vb_policy.h over slices. No floor, no reserve; one page stays free.
 
-use vb_balloon::policy::{Budget, Contact, Counter, Decision, Figures, Pressure, Sample, Tier};
+use vb_balloon::policy::{Budget, Contact, Counter, Decision, Figures, Machine, Pressure, Sample, Tier};
 use vb_balloon::policy::{KILLED_MS, PRESSED_MS};
 
 fn heard(ballooned: u32, available: u32, free: u32) -> Figures {
@@ -62,4 +62,13 @@ fn stalls_and_kills_press_for_a_time() {
     }
     assert!(!seen.after(&Sample { target: 1, ..stalled }, 2000).is_pressed(2000), "its balloon inflates");
     assert!(seen.after(&Sample { target: 1, ..killed }, 2000).is_pressed(2000), "no balloon kills");
+}
+
+#[test]
+fn a_budget_follows_what_other_work_leaves() {
+    let machine = Machine { budget: 3000, most: 4000, keep: 1000, held: 2000, available: 2500, step: 100, ..Machine::default() };
+    assert_eq!(machine.budget_after(), 3100);
+    assert_eq!(Machine { available: 1500, ..machine }.budget_after(), 2500, "other work needs more");
+    assert_eq!(Machine { pressed: 1, ..machine }.budget_after(), 2900, "other work waits");
+    assert_eq!(Machine { keep: 9999, least: 70, ..machine }.budget_after(), 70);
 }

@@ -12,6 +12,10 @@ void check_refused(void);
 /* pressure.c: when a guest is pressed. */
 void check_pressure(void);
 
+/* machine.c: the budget on a machine with other work. */
+void check_machine(void);
+void check_machine_chance(unsigned long long machines);
+
 /* Random figures, and random samples, beside the plain implementation. */
 void check_chance(unsigned long long decisions);
 void check_pressed_chance(unsigned long long samples);
