@@ -78,7 +78,7 @@ HOST = {
         is_count,
         "guests budget overdraft floor held lent missing overdrawn waiting silent uncooperative",
     ),
-    **fields(Maybe(is_count), "patience reserve pressed"),
+    **fields(Maybe(is_count), "patience reserve pressed most_budget least_budget keep"),
     "short": Maybe(is_flag),
     "differs": Maybe(
         [{"guest": is_text_or_null, **fields(is_text, "key file now"), "lasts": is_flag}]

@@ -66,9 +66,11 @@ def host_lines(host, guests, width, shown):
     held, lent, budget = host["held"], host["lent"], host["budget"]
     promised = sum(it["memory"] for it in guests)
     scale = max(promised, budget, 1)
+    most = host.get("most_budget", budget)
+    of_most = f" of {mebibytes(most)}" if most > budget else ""
     head = (
-        f"budget {mebibytes(budget)}  held {mebibytes(held)}  lent {mebibytes(lent)}  promised "
-        f"{mebibytes(promised)}"
+        f"budget {mebibytes(budget)}{of_most}  held {mebibytes(held)}  lent {mebibytes(lent)}  "
+        f"promised {mebibytes(promised)}"
     )
     missing = f"  missing {mebibytes(host['missing'])}" if host["missing"] else ""
     tier = f"  tier {host['tier']}" if "tier" in host else ""

@@ -133,8 +133,12 @@ static void take_config(struct host *host, const struct config *config)
 {
     if (!host->folder && config->fixed.folder[0])
         host->folder = config->fixed.folder;
-    if (host->frames == 0 && config->budget != UINT32_MAX)
-        host->frames = config->budget;
+    if (host->budget == 0 && config->budget != UINT32_MAX)
+        host->budget = config->budget;
+    if (host->machine.keep == UINT32_MAX)
+        host->machine.keep = config->keep != UINT32_MAX ? config->keep : 0;
+    if (host->machine.least == UINT32_MAX)
+        host->machine.least = config->least_budget != UINT32_MAX ? config->least_budget : 0;
     if (host->lends.overdraft == UINT32_MAX)
         host->lends.overdraft = config->overdraft != UINT32_MAX ? config->overdraft : 0;
     if (host->floor == UINT32_MAX)
@@ -153,7 +157,8 @@ static void take_config(struct host *host, const struct config *config)
 }
 
 static const char help[] =
-    "vhost_user_host FOLDER --budget MIB [--floor MIB] [--period MS] [--step N] "
+    "vhost_user_host FOLDER --budget MIB [--keep MIB] [--least-budget MIB] [--machine FOLDER] "
+    "[--floor MIB] [--period MS] [--step N] "
     "[--reserve PERCENT] [--overdraft PAGES] [--patience SECONDS] [--on-short PATH] [--cost MS] "
     "[--strict] [--strict-pages] [--events] "
     "[--features HEX] [--lines N] [--program PATH] [--no-sandbox] [--end-with-lender] [--leave]\n"
@@ -167,7 +172,10 @@ static enum command_line read_words(struct host *host, struct service *service, 
                                     char **words)
 {
     const struct option_row rows[] = {
-        {"budget", .read = read_mebibytes, .at = &host->frames},
+        {"budget", .read = read_mebibytes, .at = &host->budget},
+        {"keep", .read = read_mebibytes, .at = &host->machine.keep},
+        {"least-budget", .read = read_mebibytes, .at = &host->machine.least},
+        {"machine", .read = read_word, .at = &host->machine.folder},
         {"floor", .read = read_mebibytes, .at = &host->floor},
         {"step", .read = read_number_of, .at = &host->step},
         {"reserve", .read = read_percent, .at = &host->reserve},
@@ -192,6 +200,7 @@ static enum command_line read_words(struct host *host, struct service *service, 
     host->features = USUAL_FEATURES;
     host->cost = COST;
     host->step = host->floor = host->reserve = host->lends.overdraft = UINT32_MAX;
+    host->machine.keep = host->machine.least = UINT32_MAX;
     service_defaults(service);
     enum command_line line = options_read(count, words, rows, &host->folder);
     if (service->checks)
@@ -199,7 +208,8 @@ static enum command_line read_words(struct host *host, struct service *service, 
     take_config(host, &service->config);
     if (line == LINE_READ)
         service_recall(service, host);
-    return line == LINE_READ && !(host->folder && host->frames > 0) ? LINE_WRONG : line;
+    host->frames = host->budget;
+    return line == LINE_READ && !(host->folder && host->budget > 0) ? LINE_WRONG : line;
 }
 
 /* This program, and that of guests' processes: beside this one, where none is named. False where it
@@ -305,7 +315,7 @@ int main(int count, char **words)
     if (!service_begin(&service, &host, host.folder))
         return 2;
     host.end = process_end();
-    if (host.end < 0)
+    if (host.end < 0 || !machine_begin(&host))
         return 2;
     fputs("ready\n", host.answers.out);
     answers_send(&host.answers);

@@ -239,7 +239,7 @@ static json_t *host_pages(const struct asked *asked, const char *name, enum conf
         return outcome(fault);
     struct host_view view;
     host_see(asked->host, &view);
-    uint64_t pages = key == KEY_BUDGET ? view.budget : view.floor;
+    uint64_t pages = key == KEY_BUDGET ? view.most_budget : view.floor;
     json_t *answer = json_pack("{s:b, s:o}", "ok", 1, name, part_bytes(pages));
     return sets ? lasting_answer(asked, answer) : answer;
 }

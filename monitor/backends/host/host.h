@@ -6,6 +6,7 @@
 #include "message.h"
 
 #include "journal.h"
+#include "machine.h"
 #include "vb_host.h"
 #include "vb_policy.h"
 #include "view.h"
@@ -205,12 +206,16 @@ struct host {
     /* seats that were taken away, whose processes haven't ended yet */
     struct seat *leaving[MOST_GUESTS];
     unsigned leaving_count;
-    uint32_t frames, floor; /* pages: the budget, and what each guest is to keep available */
-    uint32_t reserve;       /* percent of its pages: the page cache that each guest keeps as long as
+    uint32_t budget; /* pages: what the operator says, the most that there is for guests */
+    struct machine machine;
+    uint32_t frames,
+        floor;           /* pages: the budget, no more than the operator's, and what each guest is
+                               to keep available */
+    uint32_t reserve;    /* percent of its pages: the page cache that each guest keeps as long as
                                others have any */
-    uint32_t step;          /* a target grows by 1/step of the guest in a second; 0: at once */
-    int64_t period;         /* milliseconds */
-    uint32_t cost;          /* of a client to its seat, in milliseconds; 0: clients cost nothing */
+    uint32_t step;       /* a target grows by 1/step of the guest in a second; 0: at once */
+    int64_t period;      /* milliseconds */
+    uint32_t cost;       /* of a client to its seat, in milliseconds; 0: clients cost nothing */
     int64_t rests_until; /* clients aren't taken before this, as there was no file left for one */
     int64_t paid_until;  /* the processes that were started are paid for until then, each with its
                             milliseconds */

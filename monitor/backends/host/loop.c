@@ -63,8 +63,8 @@ static void look(struct host *host)
 {
     struct host_counters *counters = &host->counters;
     uint64_t held = host_held(host);
-    host->looked = true;
-    counters->looks++;
+    host->looked = true, counters->looks++;
+    machine_follow(host);
     counters->above += held > host->frames * UINT64_C(4);
     measure_above(held > host->frames * UINT64_C(4) ? (double)host->period / 1000 : 0);
     counters->peak = held > counters->peak ? held : counters->peak;

@@ -40,7 +40,7 @@ static uint64_t missing_room(const struct seat *seat)
     uint32_t wanted = seat->report.wanted, asked = wanted - ask_without(seat, wanted);
     if (!seat->holds)
         return policy_lacks(host, seat, wanted);
-    return asked > host->frames ? asked - host->frames : 0;
+    return asked > host->budget ? asked - host->budget : 0;
 }
 
 /* What its client brings isn't admitted: this many pages are missing. */

@@ -69,6 +69,9 @@ void host_see(const struct host *host, struct host_view *view)
     *view = (struct host_view){.folder = host->folder,
                                .guests = host->count,
                                .budget = host->frames,
+                               .most_budget = host->budget,
+                               .keep = host->machine.keep,
+                               .least_budget = host->machine.least,
                                .overdraft = host->lends.overdraft,
                                .floor = host->floor,
                                .step = host->step,
@@ -186,7 +189,7 @@ static const char above_budget[] = "an overdraft is no more than the budget";
 
 const char *host_set_overdraft(struct host *host, uint32_t pages)
 {
-    if (pages > host->frames)
+    if (pages > host->budget)
         return above_budget;
     host->lends.overdraft = pages;
     return NULL;
@@ -209,9 +212,23 @@ const char *host_set_budget(struct host *host, uint32_t pages)
 {
     if (host_budget_fault(host, pages))
         return above_budget;
-    host->frames = pages;
+    bool follows = host->machine.keep > 0 && pages > host->frames;
+    host->budget = pages;
+    host->frames = follows ? host->frames : pages;
     host_changed(host, BY_BUDGET);
     return NULL;
+}
+
+void host_set_keep(struct host *host, uint32_t pages)
+{
+    host->machine.keep = pages;
+    host->frames = pages > 0 ? host->frames : host->budget;
+    host_changed(host, BY_BUDGET);
+}
+
+void host_set_least_budget(struct host *host, uint32_t pages)
+{
+    host->machine.least = pages;
 }
 
 const char *host_set_floor(struct host *host, uint32_t pages)

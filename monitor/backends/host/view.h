@@ -112,6 +112,12 @@ struct host_view {
     const char *folder;
     unsigned guests; /* how many seats there are, taken or not */
     uint32_t budget, overdraft, floor;
+    uint32_t
+        most_budget; /* what the operator says: the budget is less where the machine has no more
+                             to leave */
+    uint32_t keep,
+        least_budget;        /* pages that the machine is to keep available, 0: it needn't; below
+                                    the second the budget doesn't fall for it */
     uint32_t reserve;        /* percent */
     const char *tier;        /* up to which guests give: a word */
     uint32_t step;           /* a guest's pages divided by it, in a second */
@@ -142,6 +148,11 @@ struct guest_terms host_usual_terms(const struct host *host);
 /* What may be changed: NULL, or why it wasn't, in words for one line. Numbers are pages. Each is
  * looked at anew at once. */
 const char *host_set_budget(struct host *host, uint32_t pages);
+
+/* Sets how many pages the machine is to keep available (0: it needn't), and below which budget it
+ * doesn't. */
+void host_set_keep(struct host *host, uint32_t pages);
+void host_set_least_budget(struct host *host, uint32_t pages);
 const char *host_set_floor(struct host *host, uint32_t pages);
 const char *host_set_overdraft(struct host *host, uint32_t pages);
 const char *host_set_patience(struct host *host, uint32_t seconds);

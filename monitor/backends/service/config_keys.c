@@ -8,6 +8,8 @@
 const struct key config_keys[CONFIG_KEYS] = {
     [KEY_FOLDER] = {"host", "folder", WORD_PATH, OF(fixed.folder)},
     [KEY_BUDGET] = {"host", "budget", WORD_SIZE, OF(budget)},
+    [KEY_KEEP] = {"host", "keep", WORD_SIZE_OR_NONE, OF(keep)},
+    [KEY_LEAST_BUDGET] = {"host", "least_budget", WORD_SIZE_OR_NONE, OF(least_budget)},
     [KEY_FLOOR] = {"host", "floor", WORD_SIZE_OR_NONE, OF(floor)},
     [KEY_RESERVE] = {"host", "reserve", WORD_PERCENT, OF(reserve)},
     [KEY_OVERDRAFT] = {"host", "overdraft", WORD_SIZE_OR_NONE, OF(overdraft)},

@@ -163,7 +163,7 @@ static bool is_enough(const char *file, const struct config *config, const struc
 {
     bool good = host->folder || config->fixed.folder[0] ||
                 say_fault("%s: folder of [host]: it isn't said: where the sockets are", file);
-    return (host->frames > 0 || config->budget != UINT32_MAX ||
+    return (host->budget > 0 || config->budget != UINT32_MAX ||
             say_fault("%s: budget of [host]: it isn't said: what all guests may hold together, as "
                       "budget = 8G",
                       file)) &&
@@ -295,7 +295,7 @@ void service_recall(struct service *service, struct host *host)
     changes_open(&service->changes, service->state, true);
     const struct config *lasting = &service->changes.lasting;
     if (config_says(lasting->says, KEY_BUDGET))
-        host->frames = lasting->budget;
+        host->budget = lasting->budget;
     if (config_says(lasting->says, KEY_FLOOR))
         host->floor = lasting->floor;
 }

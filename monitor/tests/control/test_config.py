@@ -56,6 +56,7 @@ WRONG = (
     ("budget = 480M", "budget = 4 M", f"line 4: budget: a size of 4K or more: {SIZE}"),
     ("floor = 8M", "floor = 8k", f"line 5: floor: a size: {SIZE}"),
     ("floor = 8M", "overdraft = 8k", f"line 5: overdraft: a size: {SIZE}"),
+    ("floor = 8M", "keep = 8k", f"line 5: keep: a size: {SIZE}"),
     ("floor = 8M", "reserve = 101", "line 5: reserve: percent, from 0 to 100"),
     ("period = 100", "period = 9", "line 6: period: milliseconds, from 10 to 60000"),
     ("period = 100", "period = 60001", "line 6: period: milliseconds, from 10 to 60000"),
@@ -132,6 +133,7 @@ WRONG = (
         "line 18: colour: this section has no such key",
     ),
     ("floor = 8M", "overdraft = 481M", "line 5: overdraft: more than the budget"),
+    ("floor = 8M", "least_budget = 481M", "line 5: least_budget: more than the budget"),
     ("floor = 8M", "strict = 1", "line 5: strict: yes or no"),
     ("floor = 8M", "step = x", "line 5: step: a number up to 4294967294"),
     ("floor = 8M", "patience = 0", "line 5: patience: seconds, from 1 to 86400"),
@@ -225,6 +227,20 @@ TAKEN = (
         300 * MIB,
     ),
     ("floor of [host]", "floor = 8M", "floor = 3M", lambda host: host.status()["floor"], 3 * MIB),
+    (
+        "keep of [host]",
+        "floor = 8M",
+        "floor = 8M\nkeep = 1M",
+        lambda host: host.status()["keep"],
+        MIB,
+    ),
+    (
+        "least_budget of [host]",
+        "floor = 8M",
+        "floor = 8M\nleast_budget = 40M",
+        lambda host: host.status()["least_budget"],
+        40 * MIB,
+    ),
     (
         "overdraft of [host]",
         "floor = 8M",
@@ -357,7 +373,7 @@ def test_each_key_is_wrong_once(folder):
                 if it.startswith("[")
             )
             wrong.add((re.findall(r"\[(\w+)", section or "[none")[-1], line[2]))
-    assert len(keys) == 28 and keys <= wrong, keys - wrong
+    assert len(keys) == 30 and keys <= wrong, keys - wrong
 
 
 def test_what_the_file_says_is_done(configured, folder):

@@ -71,7 +71,10 @@ GUEST = {
 HOST = {
     **rows("text", "folder on_short gives_first tier"),
     **rows("count", "guests reserve step waiting silent uncooperative pressed patience"),
-    **rows("pages", "budget overdraft floor lent short_by=missing overdrawn"),
+    **rows(
+        "pages",
+        "budget most_budget least_budget keep overdraft floor lent short_by=missing overdrawn",
+    ),
     **rows("kib", "held_kib=held peak_kib=counters.peak"),
     **rows("flag", "strict is_short=short"),
     **rows("ms", "period"),
@@ -449,6 +452,7 @@ def test_each_column_and_each_line(made, host):
     status = host.ask("status")
     its, guests = status["host"], status["guests"]
     sums = {it: mebibytes(its[it]) for it in ("budget", "held", "lent", "missing")}
+    assert its["most_budget"] > its["budget"], "the made budget follows no machine"
     counts = ", ".join(
         f"{its[it]} {it}" for it in ("waiting", "silent", "uncooperative", "pressed")
     )
@@ -480,8 +484,9 @@ def test_each_column_and_each_line(made, host):
     head, *rest = [it.text for it in picture(status, 200, 24, Shown())]
     promised = mebibytes(sum(it["memory"] for it in guests))
     assert head == (
-        f"budget {sums['budget']}  held {sums['held']}  lent {sums['lent']}  promised "
-        f"{promised}  missing {sums['missing']} MiB  tier {its['tier']}"
+        f"budget {sums['budget']} of {mebibytes(its['most_budget'])}  held {sums['held']}  "
+        f"lent {sums['lent']}  promised {promised}  missing {sums['missing']} MiB  "
+        f"tier {its['tier']}"
     )
     for guest, line in zip(guests, rest[4:]):
         assert line.startswith(

@@ -147,7 +147,7 @@ def test_the_page_of_the_configuration_names_each_key():
     sections = dict(
         re.findall(r"(?ms)^\.SH \[(\w+)[^\]]*\]\n(.*?)(?=^\.SH)", page("bigvasta-host.conf.5"))
     )
-    assert len(keys) == 28
+    assert len(keys) == 30
     for section, key in keys:
         assert f"\n.B {key}\n" in "\n" + sections[section], (section, key)
     assert sum(it.count("\n.B ") + it.startswith(".B ") for it in sections.values()) == len(keys)

@@ -245,7 +245,7 @@ static void begin(void)
     memset(host.places, 0, sizeof host.places);
     host.lends = (VbHost){.overdraft = kind & 16 ? OVERDRAFT : 0};
     now = (struct timespec){1, 0};
-    host.frames = most_frames = FRAMES;
+    host.budget = host.frames = most_frames = FRAMES;
     lent_before = 0;
     host.floor = kind / 16;
     host.period = PERIOD;

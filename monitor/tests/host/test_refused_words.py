@@ -20,6 +20,8 @@ OPTIONS = (
 # (vhost_user_host(1), vhost_user_balloon(1)); of any other the usage is said.
 BOUNDS = {
     "budget": (10, 1, (1 << 24) - 1),
+    "keep": (10, 0, (1 << 24) - 1),
+    "least-budget": (10, 0, (1 << 24) - 1),
     "floor": (10, 0, (1 << 24) - 1),
     "period": (10, 10, 60000),
     "step": (10, 0, (1 << 32) - 1),
