@@ -30,10 +30,9 @@ MOST_HOSTS, MOST_PLACES, MOST_PROMISE, MOST_PROCESSES = 100000, 1000, 100, 1024
 
 
 def pages_of(text, name):
-    """Returns a size in pages: at least one, and as many as the library counts."""
+    """Returns a size in pages: at least one."""
     pages = parse_size(text, name) // PAGE
-    if not 0 < pages <= days.MOST_PAGES:
-        raise Usage(f"{name}: {text!r} isn't from 4K on and below 16T")
+    demand(pages > 0, f"{name}: {text!r} isn't from 4K on")
     return pages
 
 

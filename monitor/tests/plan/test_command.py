@@ -1,9 +1,11 @@
 """The command `bigvasta plan`: its answers, its refusals, and the smallest budget that it finds."""
 
+import contextlib
 import json
 import os
 import re
 import subprocess
+import sys
 
 import pytest
 from bigvasta.cli import parser
@@ -176,7 +178,7 @@ def test_a_package_that_is_missing(tmp_path, day, module):
 
 # How a word is read, its least and its most with what they are, and the next ones, which are none.
 BOUNDS = (
-    (command.pages_of, {"4K": 1, "17179869180K": (1 << 32) - 1}, ("0K", "16T")),
+    (command.pages_of, {"4K": 1, "17179869176K": (1 << 32) - 2}, ("0K", "17179869180K")),
     (command.hundredths_of, {"0.01": 1, "100": 10000}, ("0", "100.01")),
 )
 
@@ -185,8 +187,49 @@ BOUNDS = (
 def test_the_least_and_the_most_of_a_word(read, good, bad):
     assert {it: read(it, "--it") for it in good} == good
     for it in bad:
-        with pytest.raises(Usage, match=f"--it: '{it}' isn't from"):
+        with pytest.raises(Usage, match=f"--it: '{it}' is(n't from| no size)"):
             read(it, "--it")
+
+
+# Of each number of the command line: the least and the most, and the next ones, which are none; and
+# the words of a plan that has it.
+MADE, HOSTS = ("--make", "3"), ("--make", "3", "--fleet", "2", "--budget", "1G")
+NUMBERS = {
+    "make": ((0, 1, 1000000, 1000001), MADE),
+    "hours": ((0.009, 0.01, 744, 744.1), MADE),
+    "steps": ((0, 1, 1000, 1001), HOSTS),
+    "fleet": ((0, 1, 100000, 100001), HOSTS),
+    "places": ((0, 1, 1000, 1001), HOSTS),
+    "processes": ((0, 1, 1024, 1025), HOSTS),
+}
+
+
+def test_each_number_of_the_command_line_has_its_bounds(monkeypatch, shared):
+    with open(command.__file__, encoding="utf-8") as file:
+        named = re.findall(r'demand_number\([^)]*"(\w+)"', file.read())
+    assert sorted(named) == sorted(NUMBERS)
+    reached = []
+    monkeypatch.setattr(command.making, "make", lambda *_: reached.append("make") or ())
+    monkeypatch.setattr(command.fleet, "plan", lambda *_: reached.append("plan") or sys.exit())
+    for name, (numbers, words) in NUMBERS.items():
+        for it in numbers:
+            reached.clear()
+            ended = contextlib.suppress(Usage, SystemExit)
+            with ended:
+                command.run(
+                    parser().parse_args(["plan", *words, f"--{name}", str(it), "--library", shared])
+                )
+            assert bool(reached) == (it in numbers[1:3]), (name, it)
+
+
+def test_a_fleet_promises_no_more_than_the_library_counts(monkeypatch, shared):
+    """Three times this budget is 2^32 - 1 pages."""
+    monkeypatch.setattr(command.fleet, "plan", lambda hosts, *_: sys.exit(str(hosts.terms.frames)))
+    words = ["plan", *HOSTS[:4], "--budget", "5726623060K", "--library", shared, "--promises"]
+    with pytest.raises(SystemExit, match="1431655765"):
+        command.run(parser().parse_args([*words, "0.01..3"]))
+    with pytest.raises(Usage, match="isn't below 16T"):
+        command.run(parser().parse_args([*words, "0.01..3.01"]))
 
 
 # Words of a command line that is refused, and what it says.
@@ -200,8 +243,11 @@ REFUSED = (
     (("DAY", "--wait-seconds", "nan"), "--wait-seconds: nan isn't from 0 on"),
     (("DAY", "--steps", "0"), "--steps: 0 isn't from 1 to 1000"),
     (("DAY", "--budgets", "2G..1G"), "--budgets: '2G..1G' ends before it begins"),
-    (("DAY", "--budgets", "0K..1G"), "--budgets: '0K' isn't from 4K on and below 16T"),
-    (("DAY", "--budgets", "1G..16T"), "--budgets: '16T' isn't from 4K on and below 16T"),
+    (("DAY", "--budgets", "0K..1G"), "--budgets: '0K' isn't from 4K on"),
+    (
+        ("DAY", "--budgets", "1G..16T"),
+        "--budgets: '16T' is no size: a number with K, M, G or T, in pages of 4K, such as 480M",
+    ),
     (
         ("DAY", "--budgets", "many"),
         "--budgets: 'many' is no size: a number with K, M, G or T, in pages of 4K, such as 480M",
