@@ -2,7 +2,6 @@
 whose workers are in network namespaces, one of them killed amid. The answer is the same, byte by
 byte. And how far it is, which standard error says."""
 
-import io
 import os
 import pty
 import re
@@ -12,7 +11,6 @@ import threading
 import time
 
 import pytest
-from bigvasta.plan.progress import Progress
 from dask_hosts import Machines, end, eventually, free_port, lacks
 from planner import CLIENT, run, words_of
 from waiting import PATIENCE
@@ -240,17 +238,6 @@ def test_progress_on_a_terminal(shared):
         for it in lines[1:]
     ), lines
     assert [it[-1] for it in lines[1:]] == ["o"] * (len(lines) - 2) + ["\n"]
-
-
-def test_progress_elsewhere():
-    """A line a tenth, and what is left by what has passed."""
-    out, now = io.StringIO(), iter(range(100))
-    progress = Progress(25, out, lambda: float(next(now)))
-    for _ in range(25):
-        progress.step()
-    lines = out.getvalue().splitlines()
-    assert len(lines) == 10 and lines[0] == "replayed 3 of 25 hosts, 12%, 3 s; about 22 s to go"
-    assert lines[-1] == "replayed 25 of 25 hosts, 100%, 25 s; about 0 s to go"
 
 
 def test_a_process_that_is_killed(shared):
