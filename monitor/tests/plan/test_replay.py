@@ -60,6 +60,9 @@ SLACK = day_of(a=((0, 20), (10, 34), (20, 36), (30, 37), 40), b=((0, 60), 40))
 # for 20 of the 70 that a lacks: those it takes at once, and asks for 50, which b can't spare.
 IN_PARTS = day_of(a=((0, 10), (10, 80), 30), b=((0, 100), 30), c=((0, 20), 10))
 
+# Of 200 pages 100 are missing from the first moment on: a and b give the 10 that each can spare.
+SCARCE = day_of(a=((0, 90), 20), b=((0, 90), 20))
+
 # All is lent to a guest that is reset: nothing waits.
 FULL = day_of(a=((0, 50), (10, 0), 20))
 
@@ -116,6 +119,7 @@ WORKED_OUT = {
         50,
         190,
     ),
+    "short from the first moment on": (SCARCE, Terms(100), (), 0.0, 40.0, 1, 20.0, 80, 20),
     "a reset that has all": (FULL, Terms(100), (), 0.0, 20.0, 0, 0.0, 0, 0),
 }
 
