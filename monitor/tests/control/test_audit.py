@@ -10,14 +10,15 @@ import pytest
 from bigvasta.connection import Connection
 from hosts import Host, Raw, say
 from installed import bigvasta
+from test_config import TAKEN
 from waiting import eventually, patience_from_now
 
 MIB = 1 << 20
 
 
-def notes(host):
+def notes(host, since=0):
     """Returns what was changed: of which guest, the key, from what, to what."""
-    found = host.ask("changes")["changes"]
+    found = host.ask("changes", since=since)["changes"]
     return [(it.get("guest"), it["key"], it["was"], it["is"]) for it in found]
 
 
@@ -100,6 +101,62 @@ def test_what_a_file_changes_is_noted(program, folder):
     assert notes(host)[3] == (None, "budget", "400M", "300M")
     assert "changed by a signal: budget: 400M -> 300M" in host.said()
     assert host.ask("changes", since=3)["changes"][0]["process"] == 0
+    assert host.end() == 0
+
+
+# Of each key that a file may change while the host runs, by its section and in the sources' order:
+# a value, and another one.
+VALUES = {
+    "host": {
+        "budget": ("480M", "300M"),
+        "floor": ("8M", "3M"),
+        "reserve": ("20", "7"),
+        "overdraft": ("1M", "2M"),
+        "strict": ("no", "yes"),
+        "step": ("0", "7"),
+        "patience": ("9", "8"),
+        "on_short": ("/bin/false", "/bin/true"),
+    },
+    "log": {"level": ("info", "debug"), "lines": ("2000", "1000")},
+    "guest a": {
+        "least": ("1M", "5M"),
+        "most": ("none", "12M"),
+        "priority": ("0", "9"),
+        "weight": ("1", "3"),
+        "strict": ("no", "yes"),
+        "overhead": ("0K", "11M"),
+        "limit": ("none", "tmpfs:/dev/shm"),
+        "user": ("none", "0"),
+        "memory": ("none", "10M"),
+        "start": ("none", "9M"),
+    },
+}
+
+
+def valued(folder, number):
+    """Returns a file with this value of each key."""
+    text = f"[host]\nfolder = {folder}\n"
+    for section, keys in VALUES.items():
+        text += f"[{section}]\n" if section != "host" else ""
+        text += "".join(f"{key} = {values[number]}\n" for key, values in keys.items())
+    return text
+
+
+def test_each_key_that_a_file_changes_is_noted_with_both_values(program, folder):
+    assert {f"{it} of [{at.split()[0]}]" for at, keys in VALUES.items() for it in keys} == {
+        it[0] for it in TAKEN
+    }
+    file = folder / "host.conf"
+    file.write_text(valued(folder, 0))
+    host = Host(program, folder, "--config", str(file))
+    host.lines.next(patience_from_now())
+    file.write_text(valued(folder, 1))
+    host.ask("reload")
+    assert notes(host) + notes(host, since=len(notes(host))) == [
+        ("a" if section == "guest a" else None, key, *values)
+        for section, keys in VALUES.items()
+        for key, values in keys.items()
+    ]
     assert host.end() == 0
 
 
