@@ -82,6 +82,32 @@ static void a_fault_stays(void)
         EXPECT(all.code == rows[i].code && all.rule == rows[i].told);
     }
 }
+
+/* All numbers of a result that count. */
+/* clang-format off */
+#define COUNTS(COUNT) \
+    COUNT(chains) COUNT(held_pages) COUNT(pages) COUNT(discarded) COUNT(waiting) COUNT(skipped) \
+    COUNT(late) COUNT(marked) COUNT(unmarked) COUNT(in_holes) COUNT(kept)
+/* clang-format on */
+
+/* What two queues count adds, what is to be told of either is told of both, and an error stays. */
+static void results_add(void)
+{
+    struct balloon_result all = balloon_result_of(VB_NOTHING), one = balloon_result_of(VB_OK);
+    const struct balloon_result nothing = balloon_result_of(VB_NOTHING);
+    unsigned number = 0;
+#define SET(name) all.name = 100 * ++number, one.name = number;
+    COUNTS(SET)
+    all.interrupts = 1, one.interrupts = 2, one.error = 5;
+    one.configuration = one.more = one.held = true;
+    balloon_add_result(&all, &one);
+    balloon_add_result(&all, &nothing);
+    number = 0;
+#define HAS_ADDED(name) EXPECT(all.name == 101 * ++number);
+    COUNTS(HAS_ADDED)
+    EXPECT(all.interrupts == 3 && all.configuration && all.more && all.held && all.error == 5);
+    _Static_assert(sizeof all == 104, "a count that is new is one of COUNTS, too");
+}
 #endif
 
 void test_settings(void)
@@ -90,5 +116,6 @@ void test_settings(void)
 #ifndef RUST_SHIM
     RUN(nothing_is_left_of_other_bytes());
     RUN(a_fault_stays());
+    RUN(results_add());
 #endif
 }
