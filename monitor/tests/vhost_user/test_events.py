@@ -215,6 +215,16 @@ def test_slots(serve_well):
     demand_served(client, INFLATE, [FIRST])
 
 
+def test_events_that_take_the_place_of_others_of_a_ring_that_runs(start_by_events):
+    """Neither a call nor a kick of those before is lost: the new one calls, and what is available
+    is served."""
+    client = start_by_events()
+    client.describe(INFLATE, 0, BUFFERS, 4)
+    client.publish(INFLATE, 0)
+    client.give_events(INFLATE)
+    assert (client.called(INFLATE), client.used(INFLATE)[0]) == (2, 1)
+
+
 def test_a_region_that_is_taken_away(start_by_events):
     client = start_by_events()
     before = client.open_files()
