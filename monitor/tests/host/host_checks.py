@@ -1,6 +1,7 @@
 """What tests demand of a host of many guests: the rule of targets, worked out once more, and a host
 at rest."""
 
+import os
 import time
 
 from linux_guest import PAGES_PER_MIB
@@ -23,6 +24,11 @@ def eventually(condition, words, limit=REST_LIMIT):
     while not condition():
         demand(time.monotonic() < end, words() if callable(words) else words)
         time.sleep(0.05)
+
+
+def files_of(process):
+    """Returns how many files a process has open."""
+    return len(os.listdir(f"/proc/{process}/fd"))
 
 
 # Up to which tier guests give, and what of a guest's share that is.

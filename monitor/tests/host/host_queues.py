@@ -7,7 +7,7 @@ import subprocess
 import tempfile
 import time
 
-from host_checks import eventually
+from host_checks import eventually, files_of
 from host_seats import becomes
 from host_small import PAGES, Talker
 from linux_kit import built, demand
@@ -85,7 +85,7 @@ def last_queue_s_kick(client):
 
 def seats_that_go(town):
     """A seat between others is taken away, with its client; its socket and its files go."""
-    files = lambda: len(os.listdir(f"/proc/{town.host.process.pid}/fd"))
+    files = lambda: files_of(town.host.process.pid)
     before = files()
     clients = [comes(town, it) for it in ("first", "second", "third")]
     town.host.demand("remove second")
@@ -113,24 +113,23 @@ def who_goes_amid_a_message(town):
     """The files that came with half a message are closed: with the process that has them, and not
     with the host."""
     path = town.host.add("half")
-    files = lambda process: len(os.listdir(f"/proc/{process}/fd"))
-    before = files(town.host.process.pid)
+    before = files_of(town.host.process.pid)
     for _ in range(3):
         client = Client(path, town.host.why)
         client.negotiate(protocol=OFFERED)
         process = town.host.guests()["half"]["process"]
-        had = files(process)
+        had = files_of(process)
         client.socket.sendmsg(
             [struct.pack("<IIIQ", ADD_MEM_REG, 1, 40, 0)],
             [(1, 1, struct.pack("i", client.files[0]))],
         )
-        eventually(lambda: files(process) == had + 1, "a file doesn't come", 5)
+        eventually(lambda: files_of(process) == had + 1, "a file doesn't come", 5)
         town.host.counters()  # it doesn't wait for the rest
         client.leave()
         becomes(town, {"here": 0}, "half")
         eventually(lambda: not os.path.exists(f"/proc/{process}"), "a process doesn't end", 5)
         eventually(
-            lambda: files(town.host.process.pid) == before,
+            lambda: files_of(town.host.process.pid) == before,
             "the host has more files open than before",
             5,
         )

@@ -7,6 +7,7 @@ import socket
 import time
 
 import pytest
+from host_checks import files_of
 from host_places import Mount
 from played import Played
 from tenants import FREE, begin_writer, eventually, go_on, has_ended, stop, writer_of
@@ -24,11 +25,6 @@ QUIET = ("--strict", "--floor", "0", "--period", "60000", "--step", "0")
 
 # A limit that can't be written is tried again twice a second.
 TRIES_A_SECOND = 2
-
-
-def files_of(process):
-    """Returns how many files a process has open."""
-    return len(os.listdir(f"/proc/{process}/fd"))
 
 
 def failures(lender):

@@ -4,6 +4,7 @@ import contextlib
 import ctypes
 import fcntl
 import os
+import resource
 import signal
 import socket
 import subprocess
@@ -11,6 +12,7 @@ import tempfile
 import time
 
 import pytest
+from host_checks import files_of
 from played import WAIT_ROOM, Message
 from tenants import FREE, eventually, go_on, has_ended, process_of, status_of, stop
 from test_awaits import GIVEN, begin
@@ -61,6 +63,28 @@ def test_the_lender_has_no_file_of_a_client(lend, come):
     assert links == ["anon_inode", "socket"]  # its process, and the channel to it
     with open(f"/proc/{lender.process.pid}/maps", encoding="ascii") as maps:
         assert "memfd" not in maps.read()
+
+
+# Files that a lender opens as a client comes, before it closes any: the ends of a channel, a socket
+# for a later lender, and three that it hands on.
+FILES_OF_COMING = 6
+
+
+def test_of_a_client_that_finds_too_few_files_left_none_stays_open(lend):
+    lender = lend(5)
+    path, process = lender.add("a"), lender.process.pid
+    had, limits = files_of(process), resource.prlimit(process, resource.RLIMIT_NOFILE)
+    client = None
+    for left in range(FILES_OF_COMING):
+        said = len(lender.said())
+        resource.prlimit(process, resource.RLIMIT_NOFILE, (had + left, limits[1]))
+        client = client or Client(path, lambda: "")
+        eventually(lambda: "a can't come: " in "".join(lender.said()[said:]), f"{left} are left")
+        eventually(lambda: files_of(process) == had, f"files stay open where {left} are left")
+    resource.prlimit(process, resource.RLIMIT_NOFILE, limits)
+    client.start()
+    lender.become("a", here=1, ready=1)
+    client.leave()
 
 
 # A guest's process that takes its client late.
