@@ -203,7 +203,7 @@ def memory_once_more(town):
 
 
 def longest_path(bench):
-    """A socket's path has 106 bytes at most, as that of its process has one more."""
+    """A socket's path has 107 bytes at most (unix(7))."""
     with tempfile.TemporaryDirectory() as folder:
         deep = os.path.join(folder, (99 - len(folder)) * "x")
         os.mkdir(deep)
@@ -219,15 +219,15 @@ def longest_path(bench):
         ]
         ran = subprocess.run(
             words,
-            input="add fives\nadd sixsix\nquit\n",
+            input="add sixsix\nadd sevenss\nquit\n",
             capture_output=True,
             text=True,
             timeout=PATIENCE,
         )
-    said = f"ready\nlistening {deep}/fives\nerror: sixsix: File name too long\n"
+    said = f"ready\nlistening {deep}/sixsix\nerror: sevenss: File name too long\n"
     demand(
         (ran.returncode, ran.stdout, len(deep)) == (0, said, 100),
-        f"paths of 106 and 107 bytes: {ran}",
+        f"paths of 107 and 108 bytes: {ran}",
     )
 
 
