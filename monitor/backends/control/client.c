@@ -18,8 +18,11 @@ struct control_client *client_new(int socket, enum control_rights rights)
     socklen_t size = sizeof its;
     getsockopt(socket, SOL_SOCKET, SO_PEERCRED, &its, &size);
     if (client)
-        *client = (struct control_client){
-            .socket = socket, .rights = rights, .user = its.uid, .process = its.pid};
+        *client = (struct control_client){.socket = socket,
+                                          .rights = rights,
+                                          .user = its.uid,
+                                          .process = its.pid,
+                                          .follows = UINT64_MAX};
     return client;
 }
 

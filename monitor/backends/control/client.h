@@ -17,7 +17,8 @@ struct control_client {
     uint32_t waits_for; /* the events of its socket that are waited for */
     const char *rest;   /* fields of its answer after those of an object, as text without the first
                            brace; NULL: none */
-    bool follows;       /* it has asked for events */
+    uint64_t follows;   /* the number of the first event that it is sent; UINT64_MAX: it has asked
+                           for none */
     bool ends;          /* nothing more is read of it; what came is answered yet */
     bool overrun;       /* it left more unread than there is room for */
     bool gone;          /* it can't be sent anything any longer */

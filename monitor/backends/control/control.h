@@ -59,12 +59,21 @@ struct made_status {
     bool is_old;       /* a client has asked for a change since */
 };
 
+/* The events of a look, on their way to those who follow the host. */
+struct followers {
+    char *lines; /* NULL: there are none, or there was no memory for them */
+    size_t length;
+    uint64_t first;       /* the number of the first of them */
+    unsigned count, next; /* how many there are; whose turn it is, by the places of all sockets */
+};
+
 struct control {
     struct service *service; /* that reads a configuration; NULL: none */
     int waits; /* an epoll file, which is ready once there is something to serve; -1: none */
     struct control_socket sockets[CONTROL_SOCKETS];
     struct events *events; /* what the followers know */
-    bool is_behind;        /* they are still to be told of something that the last look has found */
+    struct followers followers;
+    bool is_behind; /* they are still to be told of something that the last look has found */
     struct made_status status;
     bool has_acted; /* in this turn a client that may change the host was answered */
 };

@@ -2,7 +2,7 @@
 #include "events.h"
 
 #include "answers.h"
-#include "client.h"
+#include "followers.h"
 #include "parts.h"
 
 #include "../host/journal.h"
@@ -63,28 +63,14 @@ static double seconds_now(void)
     return (double)time.tv_sec + (double)time.tv_nsec / 1e9;
 }
 
-/* Sends a line to each follower at a socket. */
-static void tell_clients(const struct control_socket *its, const char *line, size_t length)
-{
-    for (unsigned i = 0; i < MOST_CONTROL_CLIENTS; i++)
-        if (its->clients[i] && its->clients[i]->follows)
-            client_send_text(its->clients[i], line, length);
-}
-
-/* Tells each follower of an event, with more fields, which it takes. Where there is no line of
- * them, the followers are dropped. */
+/* Tells each follower of an event, with more fields, which it takes. */
 static void tell_more(struct control *control, const char *event, const char *guest, json_t *more)
 {
-    json_t *line = json_pack("{s:i, s:s, s:I, s:f, s:s*}", "version", CONTROL_VERSION, "event",
-                             event, "number", (json_int_t)control->events->next++, "time",
-                             seconds_now(), "guest", guest);
-    line = part_update(line, more);
-    size_t length = 0;
-    char *text = client_text(line, NULL, &length);
-    json_decref(line);
-    for (unsigned i = 0; i < CONTROL_SOCKETS; i++)
-        tell_clients(&control->sockets[i], text, length);
-    free(text);
+    uint64_t number = control->events->next++;
+    json_t *line =
+        json_pack("{s:i, s:s, s:I, s:f, s:s*}", "version", CONTROL_VERSION, "event", event,
+                  "number", (json_int_t)number, "time", seconds_now(), "guest", guest);
+    followers_add(&control->followers, number, part_update(line, more));
 }
 
 static void tell(struct control *control, const char *event, const char *guest)
@@ -275,24 +261,33 @@ static void tell_decisions(struct control *control, const struct host *host,
                   json_pack("{s:o}", "decision", answer_decision(host, events->decisions++)));
 }
 
-void events_look(struct control *control, const struct host *host)
+/* Looks at all of the host; whether there was time for it. */
+static bool look_at_host(struct control *control, const struct host *host, const struct look *look)
 {
     struct events *events = control->events;
-    const struct look look = {events, events->next, loop_seconds() + CONTROL_SECONDS};
     struct host_view view;
     host_see(host, &view);
     if (events->budget != view.budget && events->budget > 0)
         tell_more(control, "budget", NULL, json_pack("{s:o}", "budget", part_bytes(view.budget)));
     events->budget = view.budget;
     tell_shortage(control, &view);
-    tell_notes(control, &look);
-    look_at_guests(control, host, &look, view.guests);
+    tell_notes(control, look);
+    look_at_guests(control, host, look, view.guests);
     tell_removed(control);
-    control->is_behind =
-        events->next_guest < view.guests || events->notes < control->service->audit.count;
-    if (control->is_behind)
-        return;
+    if (events->next_guest < view.guests || events->notes < control->service->audit.count)
+        return false;
     events->next_guest = 0;
-    tell_decisions(control, host, &look, view.decisions);
-    control->is_behind = events->decisions < view.decisions;
+    tell_decisions(control, host, look, view.decisions);
+    return events->decisions == view.decisions;
+}
+
+void events_look(struct control *control, const struct host *host)
+{
+    struct events *events = control->events;
+    const struct look look = {events, events->next, loop_seconds() + CONTROL_SECONDS};
+    control->is_behind = true;
+    if (!followers_send(control, look.until))
+        return;
+    bool all = look_at_host(control, host, &look);
+    control->is_behind = !followers_send(control, look.until) || !all;
 }

@@ -54,8 +54,8 @@ static json_t *decisions(const struct asked *asked)
 
 static json_t *follow(const struct asked *asked)
 {
-    asked->client->follows = true;
-    return json_pack("{s:b, s:I}", "ok", 1, "next", (json_int_t)events_next(asked->control));
+    asked->client->follows = events_next(asked->control);
+    return json_pack("{s:b, s:I}", "ok", 1, "next", (json_int_t)asked->client->follows);
 }
 
 /* clang-format off */

@@ -1,6 +1,7 @@
 /* The control sockets themselves: who comes, who goes, and whose turn it is. */
 #define _GNU_SOURCE
 #include "events.h"
+#include "followers.h"
 #include "requests.h"
 #include "socket.h"
 
@@ -82,6 +83,7 @@ void control_close(struct control *control)
     if (control->waits >= 0)
         file_close(control->waits);
     free(control->events);
+    followers_forget(&control->followers);
     free(control->status.text);
     control->status = (struct made_status){0};
     control->waits = -1;
