@@ -219,13 +219,16 @@ void memory_copy(const struct balloon_region *region, uint64_t at, uint8_t *to, 
         balloon_read_once(to, region->host + at, length);
 }
 
-/* Whether an earlier region is of the same file. */
-static bool seen_before(const struct guest_memory *memory, unsigned number, const struct stat *file)
+bool region_is_of(const struct balloon_region *region, const struct stat *file)
 {
-    struct stat other;
+    struct stat its;
+    return file_look(region->fd, &its) && its.st_dev == file->st_dev && its.st_ino == file->st_ino;
+}
+
+bool memory_seen_before(const struct guest_memory *memory, unsigned number, const struct stat *file)
+{
     for (unsigned i = 0; i < number; i++)
-        if (file_look(memory->regions[i].fd, &other) && other.st_dev == file->st_dev &&
-            other.st_ino == file->st_ino)
+        if (region_is_of(&memory->regions[i], file))
             return true;
     return false;
 }
@@ -235,7 +238,7 @@ uint64_t memory_held(const struct guest_memory *memory)
     uint64_t blocks = 0;
     struct stat file;
     for (unsigned i = 0; i < memory->count; i++)
-        if (file_look(memory->regions[i].fd, &file) && !seen_before(memory, i, &file))
+        if (file_look(memory->regions[i].fd, &file) && !memory_seen_before(memory, i, &file))
             blocks += (uint64_t)file.st_blocks;
     return blocks / 2;
 }

@@ -3,6 +3,8 @@
 #define GUEST_MEMORY_H
 #include "balloon.h"
 
+#include <sys/stat.h>
+
 enum { MOST_REGIONS = 32 };
 
 /* As a message has it: where a region is in the guest, in the client, and in its file. */
@@ -51,6 +53,11 @@ bool memory_word(const struct guest_memory *memory, uint64_t guest, uint16_t *wo
 /* Copies bytes of a region from its file: a page that the host doesn't hold reads as zeros, and
  * isn't held then either, as it would be after an access. */
 void memory_copy(const struct balloon_region *region, uint64_t at, uint8_t *to, size_t length);
+
+/* Whether a region is of this file; and whether one before the region of this number is. */
+bool region_is_of(const struct balloon_region *region, const struct stat *file);
+bool memory_seen_before(const struct guest_memory *memory, unsigned number,
+                        const struct stat *file);
 
 /* What the files hold on the host, in KiB. */
 uint64_t memory_held(const struct guest_memory *memory);

@@ -57,6 +57,7 @@ void kept_save(struct lent *lent)
     state->channel = backend->channel;
     state->outcome = backend->outcome;
     state->awaited = lent->awaited;
+    state->outside = lent->outside;
     state->messages = lent->messages;
     state->bytes = lent->bytes;
     __atomic_store_n(&lent->kept->counts, other, __ATOMIC_RELEASE);
@@ -100,6 +101,7 @@ bool kept_restore(struct lent *lent)
     VbDevice *device = &backend->balloon.state.device;
     lent->notes = state->notes;
     lent->awaited = state->awaited;
+    lent->outside = state->outside;
     lent->messages = state->messages;
     lent->bytes = state->bytes;
     backend->socket = state->socket;

@@ -49,7 +49,7 @@ struct kept_state {
     struct told told;
     struct ring rings[QUEUES]; /* the base of one that runs: its used index */
     struct kept_region regions[MOST_REGIONS];
-    uint32_t region_count;
+    uint32_t region_count, outside; /* 0.3.0 has a gap of zeros in place of the second */
     struct counters counters;
     VbStatistic figures[MOST_TAGS];
     uint32_t figure_count, target_pages, actual_pages, poison_value, seen, remarks;

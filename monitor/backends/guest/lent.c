@@ -17,6 +17,7 @@ static bool admit(struct backend *backend)
     struct lent *lent = (struct lent *)backend;
     uint64_t end = backend->balloon.state.device.settings.memory_end / BALLOON_PAGE;
     uint64_t pages = memory_pages(&backend->memory);
+    uint32_t before = lent->notes.pages, ballooned = lent_ballooned(lent);
     if (end > MOST_SET || pages > UINT32_MAX)
         return refuse("its memory ends above %llu GiB",
                       (unsigned long long)MOST_SET * BALLOON_PAGE >> 30);
@@ -27,6 +28,7 @@ static bool admit(struct backend *backend)
     lent->news |= pages != lent->notes.pages;
     lent->notes.pages = (uint32_t)pages;
     awaited_note(lent);
+    outside_note(lent, before, ballooned);
     return true;
 }
 

@@ -26,6 +26,8 @@ struct lent {
     uint32_t awaited; /* that count in its balloon at least, as its guest has started without them,
                          and its driver hasn't put as many there yet */
     uint32_t returns; /* as many fewer of them are wanted: a deflate of these is held */
+    uint32_t outside; /* pages that may have frames though their slot was removed, as another slot
+                         has their file */
     uint32_t wanted;  /* pages for which it waits, and for what */
     enum lending_wait waits;
     int answered; /* 1: they may be had; -1: they may not; 0: it waits */
@@ -58,6 +60,16 @@ void awaited_note(struct lent *lent);
 
 /* These pages have left the balloon by a grant. */
 void awaited_leave(struct lent *lent, uint32_t pages);
+
+/* ---- outside.c */
+
+/* Its memory has changed, from so many pages of which so many counted in its balloon: what was
+ * taken away, and isn't of the balloon, may be held outside of its slots. */
+void outside_note(struct lent *lent, uint32_t pages, uint32_t ballooned);
+
+/* The pages that may have frames outside of its slots. Those that come back into a slot stay among
+ * them until there is room for that. */
+uint32_t lent_outside(struct lent *lent);
 
 /* ---- lent_channel.c */
 

@@ -84,6 +84,7 @@ void lent_report(struct lent *lent, uint64_t number, bool asked)
                                       .taken_since = lent->notes.taken_since,
                                       .counters = backend->counters,
                                       .figure_count = backend->figure_count};
+    message.outside = lent_outside(lent);
     memcpy(message.figures, backend->figures, sizeof message.figures);
     strcpy(message.words, VB_VERSION);
     if (lent->waits == WAIT_NOTHING)

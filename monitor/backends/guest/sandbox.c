@@ -62,6 +62,7 @@ static const struct allowed calls[] = {
     ANY(fallocate),
     ANY(fstatfs),
     ANY(fstat),
+    ANY(lseek),
     WITH(fcntl, 1, SCMP_CMP_EQ, F_GETFL, 0),
     WITH(fcntl, 1, SCMP_CMP_EQ, F_SETFL, 0),
     WITH(fcntl, 1, SCMP_CMP_EQ, F_ADD_SEALS, 0),

@@ -102,6 +102,23 @@ static uint32_t held_pages(const struct seat *seat, enum guest_wait what)
     return pages[what];
 }
 
+uint32_t ask_outside(const struct seat *seat)
+{
+    return seat->report.has_terms ? 0 : seat->report.outside;
+}
+
+/* What is outside of its memory's slots, as far as a report may say it: where more is, that was in
+ * no slot, and its process deviates. */
+static uint32_t taken_outside(const VbSeat *its, const VbReport *report, uint32_t outside)
+{
+    uint32_t granted = report->deflates == its->granted ? report->held : 0;
+    uint32_t stays = report->ballooned - smaller(report->ballooned, granted);
+    uint32_t gave = its->ballooned - smaller(its->ballooned, stays);
+    uint64_t taken = report->removed - its->removed;
+    uint64_t most = its->outside + taken - (gave < taken ? gave : taken);
+    return outside < most ? outside : (uint32_t)most;
+}
+
 VbReport ask_report(const struct seat *seat)
 {
     static const uint32_t lines[] = {[WAITS_FOR_DEFLATE] = VB_LINE_DEFLATES,
@@ -111,12 +128,15 @@ VbReport ask_report(const struct seat *seat)
     const VbSeat *its = place_of(seat);
     enum guest_wait what = ask_of(seat).what;
     bool is_smaller = message->waits != WAIT_ROOM && message->pages < its->pages;
-    return (VbReport){.ballooned = comes(seat) ? its->ballooned : message->ballooned,
-                      .target = message->target,
-                      .read_target = read_target(seat),
-                      .held = held_pages(seat, what),
-                      .line = lines[what],
-                      .target_number = its->target_number - !target_is_received(seat),
-                      .deflates = seat->asks,
-                      .removed = its->removed + (is_smaller ? its->pages - message->pages : 0)};
+    VbReport report = {.ballooned = comes(seat) ? its->ballooned : message->ballooned,
+                       .target = message->target,
+                       .read_target = read_target(seat),
+                       .held = held_pages(seat, what),
+                       .line = lines[what],
+                       .target_number = its->target_number - !target_is_received(seat),
+                       .deflates = seat->asks,
+                       .removed = its->removed + (is_smaller ? its->pages - message->pages : 0)};
+    report.outside = its->uncounted ? smaller(its->outside, pages_beyond(seat))
+                                    : taken_outside(its, &report, ask_outside(seat));
+    return report;
 }

@@ -110,7 +110,7 @@ const char *folder_keep(struct seat *seat, const struct guest_terms *terms)
     char path[MOST_KEPT], part[MOST_KEPT], words[MOST_LIMIT_WORDS], text[MOST_KEPT];
     const uint32_t numbers[KEPT_NUMBERS] = {
         terms->least, terms->most,   terms->priority, terms->strict, terms->overhead,
-        terms->user,  terms->memory, terms->start,    terms->weight, seat_pages(seat)};
+        terms->user,  terms->memory, terms->start,    terms->weight, seat_frames(seat)};
     int length = snprintf(text, sizeof text, "%s", terms_word);
     for (unsigned i = 0; i < KEPT_NUMBERS; i++)
         length += snprintf(text + length, sizeof text - (size_t)length, "%" PRIu32 " ", numbers[i]);
@@ -120,14 +120,14 @@ const char *folder_keep(struct seat *seat, const struct guest_terms *terms)
     unlink(part);
     if (symlink(text, part) || rename(part, path))
         return strerror(errno);
-    seat->kept_pages = seat_pages(seat);
+    seat->kept_pages = seat_frames(seat);
     return NULL;
 }
 
 void folder_keep_pages(struct seat *seat)
 {
     const char *fault =
-        seat_pages(seat) == seat->kept_pages ? NULL : folder_keep(seat, &seat->terms);
+        seat_frames(seat) == seat->kept_pages ? NULL : folder_keep(seat, &seat->terms);
     if (fault)
         complain("its pages can't be kept for a later lender: %s", fault);
 }

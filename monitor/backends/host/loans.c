@@ -40,8 +40,7 @@ void loan_audit(struct seat *seat)
  * than is lent to it, and than is beside. */
 static bool holds_too_much(const struct seat *seat)
 {
-    return seat_pages(seat) > 0 && seat_reports(seat) && !place_of(seat)->uncounted &&
-           loan_excess(seat) > seat->terms.overhead;
+    return seat_pages(seat) > 0 && seat_reports(seat) && loan_excess(seat) > seat->terms.overhead;
 }
 
 /* Whether it has waited for long, while the guests can't give what is missing. */

@@ -68,7 +68,11 @@ struct lending_message {
     uint32_t taken_since;    /* it has taken pages itself after its last statistics */
     uint32_t has_terms;      /* unless 0, `terms` are those of a lender of 0.3.0 */
     uint32_t figure_count;
-    struct kept_terms terms;
+    union {
+        struct kept_terms terms;
+        uint32_t outside; /* of a report without terms: pages that have frames outside of its memory
+                             slots, of memory that was taken away; an older process says 0 */
+    };
     struct counters counters;
     VbStatistic figures[MOST_TAGS];
     char words[MOST_WORDS]; /* of a report: the version of the process */

@@ -5,16 +5,6 @@
 
 enum { STANDS = 1000 }; /* milliseconds in which nothing moves, and a host stands still */
 
-uint64_t places_owed(const struct host *host)
-{
-    return vb_host_owed(host->places, host->place_count);
-}
-
-bool places_wait(const struct host *host)
-{
-    return vb_host_first(host->places, host->place_count) != SIZE_MAX;
-}
-
 /* The seat of this number, of those that are leaving after all others; NULL after these. */
 static struct seat *seat_at(const struct host *host, unsigned number)
 {
@@ -249,6 +239,7 @@ static void follow(struct seat *seat, uint32_t pages, uint32_t target)
     VbReport report = {.ballooned = is_uncounted ? 0 : seat->report.ballooned,
                        .target = target,
                        .read_target = target,
+                       .outside = is_uncounted ? its->outside : ask_outside(seat),
                        .target_number = its->target_number + (its->target != target),
                        .deflates = 1};
     take_over(seat, pages, report);
@@ -290,6 +281,7 @@ void place_takes_over(struct seat *seat)
     VbReport report = {.ballooned = message->ballooned,
                        .target = message->target,
                        .read_target = message->obeyed > 0 ? message->obeyed - 1 : message->target,
+                       .outside = ask_outside(seat),
                        .target_number = 1,
                        .deflates = 1};
     seat->asks = seat->granted_asks = seat->told = 1;
@@ -298,12 +290,31 @@ void place_takes_over(struct seat *seat)
     host_changed(seat->host, BY_GUESTS);
 }
 
+/* What it holds beyond its memory is a loan to it. */
+static void lend_beyond(struct seat *seat)
+{
+    const VbSeat *its = place_of(seat);
+    uint32_t beyond = pages_beyond(seat);
+    if (beyond > its->outside)
+        take_over(seat, its->pages,
+                  (VbReport){.target = its->target,
+                             .read_target = its->target,
+                             .held = its->held,
+                             .line = its->line,
+                             .outside = beyond,
+                             .target_number = its->target_number,
+                             .deflates = its->held > 0 ? its->deflates : its->granted,
+                             .removed = its->removed});
+}
+
 void place_uncounts(struct seat *seat)
 {
     uint64_t granted = seat->granted;
     drop_added(seat);
-    if (place_of(seat)->granted > 0)
+    if (place_of(seat)->granted > 0) {
+        lend_beyond(seat);
         happens(seat->host, (VbHostEvent){.kind = VB_UNCOUNTS, .guest = seat->place});
+    }
     seat->granted = granted;
     host_changed(seat->host, BY_GUESTS);
 }

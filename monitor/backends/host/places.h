@@ -17,6 +17,13 @@ static inline VbSeat *place_of(const struct seat *seat)
 /* The place of memory that is added to it; zeros where none is. */
 const VbSeat *added_place_of(const struct seat *seat);
 
+/* The pages that its memory's files hold beyond its memory. */
+static inline uint32_t pages_beyond(const struct seat *seat)
+{
+    uint32_t held = pages_held(seat);
+    return held - smaller(held, place_of(seat)->pages);
+}
+
 /* ---- asks.c */
 
 /* For what its process asks, by its last report: a deflate that was granted, as long as it holds
@@ -26,6 +33,9 @@ struct ask ask_of(const struct seat *seat);
 /* Notes what it asks for: what isn't the ask before has another number. And since when its last
  * target is received. */
 void ask_note(struct seat *seat);
+
+/* The pages that it says to have outside of its memory's slots. */
+uint32_t ask_outside(const struct seat *seat);
 
 /* Its last report, as the step takes it. */
 VbReport ask_report(const struct seat *seat);
@@ -76,8 +86,10 @@ void places_relieve(struct host *host);
  * lets others pass, if there are any. */
 void places_defer(struct host *host);
 
-/* The pages of its memory that has room; and its last target, 0 where it was sent none. */
+/* The pages of its memory that has room; those with what is outside of it; and its last target, 0
+ * where it was sent none. */
 uint32_t seat_pages(const struct seat *seat);
+uint32_t seat_frames(const struct seat *seat);
 uint32_t seat_told(const struct seat *seat);
 
 /* The frames that are lent to it, and those that it waits for, also of memory that is added; and

@@ -40,12 +40,12 @@ static uint16_t contact_of(const struct seat *seat)
     return is_heard(seat) ? VB_CONTACT_HEARD : VB_CONTACT_SILENT;
 }
 
-/* What is known of a guest, with the memory that is added to it. What an operator wants in its
- * balloon is asked of it as what it has above its most. */
+/* What is known of a guest, with the memory that is added to it, and what is outside. What an
+ * operator wants in its balloon is asked of it as what it has above its most. */
 static VbFigures figures_of(const struct seat *seat)
 {
     const VbSeat *its = place_of(seat), *added = added_place_of(seat);
-    uint32_t pages = its->pages + added->pages;
+    uint32_t pages = its->pages + its->outside + added->pages;
     uint32_t most = pages - smaller(pages, seat->by_hand);
     return (VbFigures){.pages = pages,
                        .held = pages_held(seat),

@@ -8,8 +8,9 @@ enum { MOST_VERSION = 32 };
  * pages that isn't one; NULL: all may be. */
 static const char *number_fault(const struct lending_message *report)
 {
-    const uint32_t pages[] = {report->pages, report->wanted, report->ballooned, report->held_pages,
-                              report->ballooned_then};
+    const uint32_t pages[] = {report->pages,          report->wanted,
+                              report->ballooned,      report->held_pages,
+                              report->ballooned_then, report->has_terms ? 0 : report->outside};
     for (unsigned i = 0; i < sizeof pages / sizeof pages[0]; i++)
         if (pages[i] > MOST_SET)
             return "more pages than a guest may have";

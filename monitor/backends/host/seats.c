@@ -203,6 +203,11 @@ uint32_t seat_pages(const struct seat *seat)
     return place_of(seat)->granted > 0 ? place_of(seat)->pages : 0;
 }
 
+uint32_t seat_frames(const struct seat *seat)
+{
+    return seat_pages(seat) + place_of(seat)->outside;
+}
+
 uint32_t seat_told(const struct seat *seat)
 {
     return place_of(seat)->target_number > 0 ? place_of(seat)->target : 0;
@@ -222,4 +227,14 @@ uint32_t seat_lent(const struct seat *seat)
 uint32_t seat_asked(const struct seat *seat)
 {
     return vb_seat_asked(place_of(seat)) + vb_seat_asked(added_place_of(seat));
+}
+
+uint64_t places_owed(const struct host *host)
+{
+    return vb_host_owed(host->places, host->place_count);
+}
+
+bool places_wait(const struct host *host)
+{
+    return vb_host_first(host->places, host->place_count) != SIZE_MAX;
 }

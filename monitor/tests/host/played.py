@@ -59,6 +59,15 @@ class Message(ctypes.Structure):
         ("words", ctypes.c_char * WORDS),
     ]
 
+    @property
+    def outside(self):
+        """What is outside of its slots: in a report without terms, in place of their first."""
+        return self.least
+
+    @outside.setter
+    def outside(self, pages):
+        self.least = pages
+
 
 class Listens:
     """The socket where a lender finds a guest's process. Another process listens there, of this

@@ -1,5 +1,6 @@
 """What a guest holds counts, whatever it does meanwhile."""
 
+import ctypes
 import fcntl
 import os
 import signal
@@ -9,7 +10,7 @@ import time
 import pytest
 from host_places import ramfs
 from tenants import FREE, PAGES, eventually, process_of
-from test_strict import GIVEN, STRICT, used
+from test_strict import GIVEN, STRICT, Later, used
 from vhost_client import DEFLATE, INFLATE, PAGE, PAGES_OF_REGION, REGIONS, SET_MEM_TABLE, Client
 
 # Pages of a guest, and of it once it has given 50; the seconds in which a lender has looked at it.
@@ -104,8 +105,8 @@ def test_what_cannot_be_discarded_stays_lent_over_a_change(lend, come, changes, 
     assert not [it for it in lender.said() if "unasked" in it]
 
 
-# Pages of a file that are in no slot.
-OUTSIDE = 40
+# Pages of a file that are in no slot; how fallocate(2) discards pages.
+OUTSIDE, PUNCHES_HOLE = 40, 3
 
 
 class Larger(Client):
@@ -142,18 +143,52 @@ def test_what_a_file_holds_outside_of_its_slots_counts(lend, come):
     a.client.fill_outside()
     lender.become("a", held_kib=4 * (ALL + OUTSIDE))
     named(lender, OUTSIDE)
+    lender.become("a", lent=ALL + OUTSIDE)
     assert lender.counters()["held_kib"] == 4 * (ALL + OUTSIDE)
 
 
-def test_what_a_removed_slot_holds_counts_as_long_as_its_file_is_known(lend, come):
+def remove_slot(a):
+    """Takes the second of two slots of one file away from a guest."""
+    with a.lock:
+        a.client.hand_over_memory(1)
+
+
+def discard_outside(a):
+    """Gives up what the file holds beside the first slot."""
+    size = ctypes.c_long(PAGES_OF_REGION * PAGE)
+    assert ctypes.CDLL(None).fallocate(a.client.files[0], PUNCHES_HOLE, size, size) == 0
+
+
+def test_a_guest_that_holds_pages_in_a_removed_slot_is_lent_them(lend, come):
+    lender = lend(1, *STRICT)
+    lender.set_budget(ALL + PAGES_OF_REGION)
+    a = come(lender, "a", {FREE: 100}, client=OneFile)
+    lender.become("a", pages=ALL, held_kib=4 * ALL)
+    b = Client(lender.add("b"))
+    b.negotiate()
+    comes = Later(b.hand_over_memory)
+    lender.become("b", waits="room")
+    remove_slot(a)
+    lender.become("a", pages=PAGES_OF_REGION, held_kib=4 * ALL)
+    assert comes.waits(LOOKED)
+    assert lender.guests()["a"]["lent"] == ALL
+    discard_outside(a)
+    comes.ends()
+    lender.become("a", lent=PAGES_OF_REGION, cooperates=1)
+    b.leave()
+
+
+@pytest.mark.parametrize("changes", (next_process, next_lender))
+def test_what_a_removed_slot_holds_stays_lent_over_a_change(lend, come, changes):
     lender = lend(1, *STRICT)
     a = come(lender, "a", {FREE: 100}, "overhead=0", client=OneFile)
     lender.become("a", pages=ALL, held_kib=4 * ALL)
-    with a.lock:
-        a.client.hand_over_memory(1)
-    lender.become("a", pages=PAGES_OF_REGION, held_kib=4 * ALL)
-    named(lender, ALL - PAGES_OF_REGION)
-    assert lender.guests()["a"]["lent"] == PAGES_OF_REGION
+    remove_slot(a)
+    lender.become("a", pages=PAGES_OF_REGION, lent=ALL)
+    lender = changes(lender, lend)
+    lender.become("a", ready=1, pages=PAGES_OF_REGION, held_kib=4 * ALL)
+    time.sleep(LOOKED)
+    lender.become("a", lent=ALL, cooperates=1)
 
 
 def test_a_request_in_holes_is_not_held(lend, come):

@@ -67,6 +67,7 @@ ELSEWHERE = {
     ),
     "kept.unnoted": ("test_anew.py", "lost-bytes"),
     "awaited": ("test_start.py", "test_another_process_and_another_lender_know_of_it"),
+    "outside": ("test_held.py", "test_what_a_removed_slot_holds_stays_lent_over_a_change"),
     "kept.inbox.message": ("test_anew.py", "lost-files"),
     "outcome": ("test_anew.py", "handles-twice"),
     # A lender's process offers no log of writes.

@@ -19,7 +19,7 @@ from test_strict import GIVEN
 # ends it.
 ALLOWED = set(
     """accept4 recvmsg recvfrom poll ppoll getsockopt read write preadv2 pread64 splice setitimer
-    close munmap madvise fallocate fstatfs fstat brk mremap clock_gettime gettimeofday getrandom
+    close munmap madvise fallocate fstatfs fstat lseek brk mremap clock_gettime gettimeofday getrandom
     rt_sigaction rt_sigprocmask rt_sigreturn restart_syscall futex exit exit_group getpid
     gettid""".split()
 )

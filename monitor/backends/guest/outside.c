@@ -1,0 +1,103 @@
+/* Pages of slots that were removed, whose files other slots have: the host holds them as before,
+ * until the client discards them or lets go of the file. */
+#define _GNU_SOURCE
+#include "lent.h"
+
+#include <unistd.h>
+
+/* Runs of data that are looked for in a file: what is after these counts as data. Bytes in which
+ * the kernel counts what a file holds (stat(2)). */
+enum { MOST_RUNS = 256, BLOCK = 512 };
+
+static uint64_t larger(uint64_t one, uint64_t other)
+{
+    return one > other ? one : other;
+}
+
+/* Where what begins at `at` of a file ends, up to a region that `has` it, or before the next. */
+static uint64_t part_end(const struct guest_memory *memory, const struct stat *file, uint64_t at,
+                         bool *has)
+{
+    uint64_t end = (uint64_t)file->st_size;
+    *has = false;
+    for (unsigned i = 0; i < memory->count && !*has; i++) {
+        const struct balloon_region *region = &memory->regions[i];
+        if (!region_is_of(region, file))
+            continue;
+        *has = region->offset <= at && at - region->offset < region->length;
+        if (*has)
+            end = region->offset + region->length;
+        else if (region->offset > at && region->offset < end)
+            end = region->offset;
+    }
+    return end;
+}
+
+/* Where the next run of data begins and ends, between these bytes of a file. */
+static uint64_t next_data(int file, uint64_t at, uint64_t end, uint64_t *ends)
+{
+    off_t begins = lseek(file, (off_t)at, SEEK_DATA);
+    uint64_t data = begins < 0 && errno == ENXIO ? end : begins < 0 ? at : (uint64_t)begins;
+    off_t hole = data < end ? lseek(file, (off_t)data, SEEK_HOLE) : -1;
+    *ends = hole < 0 || (uint64_t)hole > end ? end : (uint64_t)hole;
+    return data < end ? data : end;
+}
+
+/* The bytes of data that a file has in no region. */
+static uint64_t data_outside(const struct guest_memory *memory, const struct stat *its, int file)
+{
+    uint64_t at = 0, ends, bytes = 0;
+    unsigned runs = 0;
+    bool has;
+    while (at < (uint64_t)its->st_size) {
+        uint64_t end = part_end(memory, its, at, &has);
+        if (!has && runs++ < MOST_RUNS) {
+            at = next_data(file, at, end, &ends);
+            end = ends;
+        }
+        bytes += has ? 0 : end - at;
+        at = end;
+    }
+    return bytes;
+}
+
+/* The pages that a file holds in no region: no fewer than it holds beyond its regions. The client's
+ * place in it stays. */
+static uint64_t pages_outside(const struct guest_memory *memory, const struct stat *its, int file)
+{
+    uint64_t held = (uint64_t)its->st_blocks * BLOCK;
+    off_t place = lseek(file, 0, SEEK_CUR);
+    uint64_t bytes = data_outside(memory, its, file);
+    lseek(file, place, SEEK_SET);
+    for (unsigned i = 0; i < memory->count; i++)
+        if (region_is_of(&memory->regions[i], its))
+            held -= memory->regions[i].length < held ? memory->regions[i].length : held;
+    return (larger(bytes, held) + BALLOON_PAGE - 1) / BALLOON_PAGE;
+}
+
+static uint64_t all_outside(const struct guest_memory *memory)
+{
+    uint64_t pages = 0;
+    struct stat its;
+    for (unsigned i = 0; i < memory->count; i++)
+        if (file_look(memory->regions[i].fd, &its) && !memory_seen_before(memory, i, &its))
+            pages += pages_outside(memory, &its, memory->regions[i].fd);
+    return pages;
+}
+
+void outside_note(struct lent *lent, uint32_t pages, uint32_t ballooned)
+{
+    uint32_t left = lent->notes.pages, stays = lent_ballooned(lent);
+    uint32_t taken = pages > left ? pages - left : 0,
+             gave = ballooned > stays ? ballooned - stays : 0;
+    lent->outside += taken > gave ? taken - gave : 0;
+}
+
+uint32_t lent_outside(struct lent *lent)
+{
+    if (lent->outside == 0 || lent->waits == WAIT_ROOM)
+        return lent->outside;
+    uint64_t most = all_outside(&lent->backend.memory);
+    lent->outside = most < lent->outside ? (uint32_t)most : lent->outside;
+    return lent->outside;
+}
