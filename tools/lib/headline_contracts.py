@@ -20,6 +20,7 @@ PAGES = {
             "the_limits_hold",
             "toward_a_target_never_waits",
             "never_stuck_unless_short",
+            "one_round_each_serves_all",
             "the_lender_is_the_systems",
         )
     ],

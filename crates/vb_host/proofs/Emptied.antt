@@ -1,5 +1,5 @@
 -- A balloon that counts no longer leaves true what is true of its guest.
-use Rattle.std.proofs.Common.{ℕ, ◌+◌, ◌<◌, ◌≤◌, refl, arith}
+use Rattle.std.proofs.Common.{refl, arith}
 use Rattle.vb_host.specs.declared.seat.Seat.{Seat}
 use Rattle.vb_host.specs.Seats.{uncounting}
 use Rattle.vb_host.specs.System.{Grant, Order, Process, Target}

@@ -20,6 +20,9 @@ pub mod Preferring
 pub mod Deferring
 pub mod Ordered
 pub mod Settling
+pub mod Heard
+pub mod Giving
+pub mod Serving
 pub mod Possible
 pub mod Outcome
 pub mod Events
@@ -30,5 +33,6 @@ mod SeatFacts
 mod SystemFacts
 mod RunFacts
 mod RoundFacts
+mod OutstandingFacts
 mod PatienceFacts
 mod OutsideFacts

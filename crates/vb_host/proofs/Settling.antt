@@ -21,7 +21,7 @@ use Rattle.vb_host.proofs.Sound.{IsKnown, IsTrusty, and_left, and_right, counts,
 
 -- ---- what the process is then
 
-abbrev ordered : Process → Seat → Process
+abbrev pub ordered : Process → Seat → Process
 ordered p s = obeys (Grant s.granted) (obeys (Target s.target_number s.target) p)
 
 abbrev settled : Process → Seat → Process
@@ -34,11 +34,11 @@ settled_known p s k =
     (does_moves s (does Reads (ordered p s)) (Gives s.target) (does_moves s (ordered p s) Reads b).known).known
 
 -- what it received, and what it has
-record IsReady (p q : Process) (s : Seat) : Type 0 where
-  number : q.target_number ≡ s.target_number
-  target : q.target ≡ s.target
-  pages : q.pages ≡ p.pages
-  held : q.held ≤ p.held
+pub record IsReady (p q : Process) (s : Seat) : Type 0 where
+  pub number : q.target_number ≡ s.target_number
+  pub target : q.target ≡ s.target
+  pub pages : q.pages ≡ p.pages
+  pub held : q.held ≤ p.held
 
 target_ready : (p : Process) (s : Seat) → IsKnown p s → IsReady p (obeys (Target s.target_number s.target) p) s
 target_ready p s k = either (λ (x : Process). IsReady p x s) (nat_lt p.target_number s.target_number) _ _
@@ -50,7 +50,7 @@ grant_ready : (p q : Process) (s : Seat) (n : ℕ) → IsReady p q s → IsReady
 grant_ready p q s n r = either (λ (x : Process). IsReady p x s) (q.deflates == n) _ _
     (λ _. record { number = r.number; target = r.target; pages = r.pages; held = omega arith }) (λ _. r)
 
-ordered_ready : (p : Process) (s : Seat) → IsKnown p s → IsReady p (ordered p s) s
+pub ordered_ready : (p : Process) (s : Seat) → IsKnown p s → IsReady p (ordered p s) s
 ordered_ready p s k = grant_ready p (obeys (Target s.target_number s.target) p) s s.granted (target_ready p s k)
 
 has_pages : (p q : Process) (s : Seat) → IsReady p q s → s.target ≤ p.pages → s.target ≤ min (q.balloon + s.target) q.pages
@@ -65,7 +65,7 @@ heard_number turn r s = let q = believed s r in let t = targets_stay q s in eith
       raised_number : (r : Report) (s : Seat) → (raised r s).target_number ≡ s.target_number
       raised_number r s = either (λ (x : Seat). x.target_number ≡ s.target_number) ((r.target_number == s.target_number) && (r.read_target == s.target)) _ _ (λ _. refl) (λ _. refl)
 
-heard_uncounted : (turn : ℕ) (r : Report) (s : Seat) → (heard turn r s).uncounted ≡ s.uncounted
+pub heard_uncounted : (turn : ℕ) (r : Report) (s : Seat) → (heard turn r s).uncounted ≡ s.uncounted
 heard_uncounted turn r s = let q = believed s r in either (λ (x : Seat). x.uncounted ≡ s.uncounted) (is_stale r s) _ _ (λ _. refl)
     (λ _. let e = raised_same r (served (counting q s)) ∙ (served_same (counting q s) ∙ counted_same q s) in
     queues (λ (y : Seat). y.uncounted ≡ s.uncounted) turn s (raised r (served (counting q s))) e (λ _. e)) where
@@ -92,7 +92,7 @@ record IsIdle (p : Process) (s : Seat) : Type 0 where
 abbrev Settles : Process → Seat → Type 0
 Settles p s = (due_grant (snapshot p) s ≡ true) ⊎ IsIdle p s
 
-no_due : (a b : ℕ) → a ≡ b → not (a == b) ≡ false
+pub no_due : (a b : ℕ) → a ≡ b → not (a == b) ≡ false
 no_due a b e = grind (arith, nat_tests)
 
 due_is : (held deflates granted : ℕ) → 0 < held → deflates ≡ granted → (nat_lt 0 held && (deflates == granted)) ≡ true
@@ -129,7 +129,7 @@ settles p s turn k l = let r = ordered_ready p s k in
 
 -- ---- a round
 
-sends_both : (b : Bool) (l : Limit) (s : Seat) (orders : List Order) → b ≡ true → lent s ≤ l.sure → sending b l s orders ≡ Target s.target_number s.target ∷ Grant s.granted ∷ orders
+pub sends_both : (b : Bool) (l : Limit) (s : Seat) (orders : List Order) → b ≡ true → lent s ≤ l.sure → sending b l s orders ≡ Target s.target_number s.target ∷ Grant s.granted ∷ orders
 sends_both true l s orders e h = either (λ (os : List Order). os ≡ Target s.target_number s.target ∷ Grant s.granted ∷ orders) (nat_le (lent s) l.sure) _ _
     (λ _. refl) (λ f. absurd (not_within (lent s) l.sure h f)) where
       not_within : (a b : ℕ) → a ≤ b → nat_le a b ≡ false → ⊥
@@ -175,33 +175,33 @@ round_settles turn g k l t h =
 
 -- ---- at its place
 
-at_there : (n : ℕ) (f : Guest → Guest) (xs : List Guest) (g : Guest) → slice_get xs n ≡ Some g → slice_get (each_at n f xs) n ≡ Some (f g)
+pub at_there : (n : ℕ) (f : Guest → Guest) (xs : List Guest) (g : Guest) → slice_get xs n ≡ Some g → slice_get (each_at n f xs) n ≡ Some (f g)
 at_there n f [] g e = absurd (cc)
 at_there zero f (x ∷ xs) g e = ap (λ (y : Guest). Some (f y)) (some_is x g e)
 at_there (suc n) f (x ∷ xs) g e = at_there n f xs g e
 
-abbrev sent : Guest → Guest
+abbrev pub sent : Guest → Guest
 sent g = record g { orders = sending g.known g.limit g.seat g.orders }
 
-abbrev obeyed : ℕ → Guest → Guest
+abbrev pub obeyed : ℕ → Guest → Guest
 obeyed i g = record g { process = obeying (order_at g.orders i) g.process }
 
-abbrev has_read : Guest → Guest
+abbrev pub has_read : Guest → Guest
 has_read g = record g { process = does Reads g.process }
 
-abbrev given : ℕ → Guest → Guest
+abbrev pub given : ℕ → Guest → Guest
 given pages g = record g { process = does (Gives pages) g.process }
 
-abbrev reported : Guest → Guest
+abbrev pub reported : Guest → Guest
 reported g = record g { reports = snapshot g.process ∷ g.reports }
 
-abbrev received : ℕ → Guest → Guest
+abbrev pub received : ℕ → Guest → Guest
 received turn g = by_lender (hearing turn (report_at g.reports 0)) g
 
-abbrev all_but_last : ℕ → ℕ → List Guest → List Guest
+abbrev pub all_but_last : ℕ → ℕ → List Guest → List Guest
 all_but_last n pages xs = each_at n reported (each_at n (given pages) (each_at n has_read (each_at n (obeyed 1) (each_at n (obeyed 0) (each_at n sent xs)))))
 
-abbrev last_turn_of : ℕ → ℕ → Host → ℕ
+abbrev pub last_turn_of : ℕ → ℕ → Host → ℕ
 last_turn_of n pages h = next_turn (seats (all_but_last n pages h.guests))
 
 round_there : (h : Host) (n : ℕ) (g : Guest) → slice_get h.guests n ≡ Some g

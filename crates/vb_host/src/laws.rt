@@ -13,6 +13,8 @@ ghost use Rattle.vb_host.specs.Patience.{DefersNone, DefersToTheLastLine, AllPas
 ghost use Rattle.vb_host.specs.Patience.{NonePasses, StaysDeferred, EndsWithItsWait};
 ghost use Rattle.vb_host.specs.Promises.{Uncounted, StaysUncounted, UncountedHasAll};
 ghost use Rattle.vb_host.specs.Rounds.{RoundsSettle, TwoRoundsSuffice};
+ghost use Rattle.vb_host.specs.Outstanding.{RoundsPay, OwnMovesChangeNone, WaitsForPages};
+ghost use Rattle.vb_host.specs.Outstanding.{OneRoundEach};
 ghost use Rattle.vb_host.specs.System.{Host};
 ghost use Rattle.std.specs.Prelude.{ℕ};
 
@@ -113,6 +115,16 @@ pub fn uncounted_stays()
 pub fn one_round_settles()
     ensures settles { RoundsSettle }
     ensures suffice { TwoRoundsSuffice }
+{}
+
+/// A round of a guest leaves it nothing to give, and no grant and no target changes what all still
+/// have to give; once each guest that has something to give had one, none waits after the next
+/// step, unless all need more than the frames.
+pub fn one_round_each_serves_all()
+    ensures pay { RoundsPay }
+    ensures own { OwnMovesChangeNone }
+    ensures waits { WaitsForPages }
+    ensures serve { OneRoundEach }
 {}
 
 /// A step has one outcome, and leaves nothing to grant, and no target that may be nearer to what is
