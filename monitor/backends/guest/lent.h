@@ -63,8 +63,8 @@ void awaited_leave(struct lent *lent, uint32_t pages);
 
 /* ---- outside.c */
 
-/* Its memory has changed, from so many pages of which so many counted in its balloon: what was
- * taken away, and isn't of the balloon, may be held outside of its slots. */
+/* Its memory has changed, from `pages` of which `ballooned` counted in its balloon: what was taken
+ * away, and isn't of the balloon, may be held outside of its slots. */
 void outside_note(struct lent *lent, uint32_t pages, uint32_t ballooned);
 
 /* The pages that may have frames outside of its slots. Those that come back into a slot stay among

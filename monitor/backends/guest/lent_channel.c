@@ -112,12 +112,10 @@ void lent_note(struct lent *lent)
     bool ready = backend_is_ready(backend);
     bool heard = counters->statistics != lent->notes.heard,
          taken = counters->taken != lent->notes.taken;
-    if (heard || taken)
+    if (heard || taken) {
         lent->notes.ballooned_then = backend->ballooned;
-    if (heard)
-        lent->notes.taken_since = false;
-    if (taken)
-        lent->notes.taken_since = true;
+        lent->notes.taken_since = taken;
+    }
     uint32_t pages;
     awaited_note(lent);
     if (lent->notes.held_pages > 0 && !balloon_held_deflate(&backend->balloon, &pages))

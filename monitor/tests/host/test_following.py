@@ -1,5 +1,5 @@
-"""A budget that follows the host's machine, so that some memory stays available to other work. Budgets
-are pages; the machine's numbers come from a folder in the place of /proc."""
+"""A budget that follows the host's machine, so that some memory stays available to other work.
+Budgets are pages; the machine's numbers come from a folder in the place of /proc."""
 
 import os
 import time

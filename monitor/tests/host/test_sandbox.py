@@ -19,8 +19,8 @@ from test_strict import GIVEN
 # ends it.
 ALLOWED = set(
     """accept4 recvmsg recvfrom poll ppoll getsockopt read write preadv2 pread64 splice setitimer
-    close munmap madvise fallocate fstatfs fstat lseek brk mremap clock_gettime gettimeofday getrandom
-    rt_sigaction rt_sigprocmask rt_sigreturn restart_syscall futex exit exit_group getpid
+    close munmap madvise fallocate fstatfs fstat lseek brk mremap clock_gettime gettimeofday
+    getrandom rt_sigaction rt_sigprocmask rt_sigreturn restart_syscall futex exit exit_group getpid
     gettid""".split()
 )
 ALLOWED_WITH_ZEROS = {"sendto", "mmap"}
