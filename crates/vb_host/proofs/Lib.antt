@@ -29,6 +29,7 @@ pub mod Events
 pub mod Lower
 pub mod RoomLeft
 pub mod Limits
+pub mod Proceeding
 mod SeatFacts
 mod SystemFacts
 mod RunFacts
@@ -36,3 +37,4 @@ mod RoundFacts
 mod OutstandingFacts
 mod PatienceFacts
 mod OutsideFacts
+mod LeastFacts

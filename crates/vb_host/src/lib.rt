@@ -6,6 +6,7 @@ mod arrival;
 mod event;
 mod hearing;
 mod laws;
+mod least;
 mod lending;
 mod line;
 mod memory;
@@ -20,6 +21,7 @@ pub use laws::{
     steps_settle, targets_leave_room, the_budget_holds, the_lender_is_the_systems, the_limits_hold,
     toward_a_target_never_waits, uncounted_stays,
 };
+pub use least::{least_budget, the_least_budget_suffices};
 pub use lending::{happen, step};
 pub use line::{first_in_line, owed, room, waited};
 pub use report::{Report, WaitingLine};

@@ -68,7 +68,7 @@ impl Seat {
     }
 
     /// What is lent to it where this many pages of its balloon may not be deflated.
-    fn lent_but(&self, reclaimed: u32) -> u64
+    pub(crate) fn lent_but(&self, reclaimed: u32) -> u64
         ensures value { result ≡ self.now.pages + self.now.outside - reclaimed }
         ensures small { result ≤ 8589934590 }
     {
@@ -104,8 +104,9 @@ impl Seat {
     }
 
     /// What is lent to it once its deflate is granted.
-    fn lent_then(&self) -> u64
+    pub(crate) fn lent_then(&self) -> u64
         ensures value { result ≡ lent (granting self.now) }
+        ensures small { result ≤ 8589934590 }
         ensures more { result ≤ lent self.now + 4294967295 }
     {
         let ballooned = self.ballooned.saturating_sub(self.held);

@@ -7,7 +7,7 @@ use Rattle.vb_policy.specs.declared.figures.Figures.{Figures}
 use Rattle.vb_policy.specs.declared.guest.Decision.TheVariants.{Enough, Short}
 use Rattle.vb_policy.specs.Asking.{Asks, host_of, joined, lack, starves}
 use Rattle.vb_policy.specs.Needs.{cached_of, contact_of, counts, forced, guest_of, most_of, spare_of}
-use Rattle.vb_policy.specs.Needs.{target_of, unused_of, yielding, yields}
+use Rattle.vb_policy.specs.Needs.{target_of, unused_of, wants, yielding, yields}
 
 abbrev budget : ℕ → Budget
 budget frames = record { frames = frames; floor = 100; slack = 20; reserve = 10; band = 35 }
@@ -190,3 +190,27 @@ one_page_short = record {
   usual = λ e. refl;
   first = λ e. absurd cc;
 }
+
+-- ---- what a guest that waits takes in the end: by what it asks for, its statistics, its floor and
+-- its most pages
+
+abbrev starved : ℕ → ℕ → Figures
+starved available asked = record known {
+  available = available;
+  ballooned_then = 300;
+  ballooned = 300;
+  strict = 1;
+  lent = 700;
+  asked = asked;
+}
+
+takes : map (wants (budget 0)) (starved 0 1 ∷ starved 0 99 ∷ starved 0 101 ∷ starved 99 1 ∷ starved 99 2
+    ∷ starved 100 1 ∷ starved 0 0 ∷ []) ≡ 100 ∷ 100 ∷ 101 ∷ 1 ∷ 2 ∷ 1 ∷ 0 ∷ []
+takes = refl
+
+-- one that is silent, or starts; whose most is less; which isn't strict; whose balloon doesn't count
+takes_else : map (wants (budget 0)) (record (starved 0 1) { contact = 1 } ∷ record (starved 0 1) { contact = 0 }
+    ∷ record (starved 0 1) { most = 750 } ∷ record (starved 0 1) { most = 600 }
+    ∷ record (starved 0 1) { strict = 0 } ∷ record (starved 0 1) { strict = 0; uncounted = 1 }
+    ∷ record (starved 0 1) { paused = 1; pressed = 1 } ∷ []) ≡ 1 ∷ 300 ∷ 50 ∷ 1 ∷ 0 ∷ 100 ∷ 100 ∷ []
+takes_else = refl

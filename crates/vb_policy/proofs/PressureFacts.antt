@@ -1,5 +1,5 @@
 -- Worked facts of when a guest is pressed: counters and times by hand, in milliseconds.
-use Rattle.std.proofs.Common.{◌≡◌, ℕ, List, [], ◌∷◌, map, Bool, true, false, refl}
+use Rattle.std.proofs.Common.{◌≡◌, ℕ, List, [], ◌∷◌, map, true, false, refl}
 use Rattle.vb_policy.specs.declared.pressure.Counter.{Counter}
 use Rattle.vb_policy.specs.declared.pressure.Counters.{Counters}
 use Rattle.vb_policy.specs.declared.pressure.Pressure.{Pressure}

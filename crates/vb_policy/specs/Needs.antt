@@ -1,7 +1,7 @@
 -- What a guest counts for on a host, and what it can give in each tier, by what is known of it. All
 -- in pages.
 use Rattle.std.specs.Prelude.{ℕ, ◌+◌, ◌-◌, ◌*◌, ◌/◌, ◌^◌, Bool, ◌&&◌, ◌||◌, ◌==◌}
-use Rattle.std.specs.Prelude.{nat_lt, if◌then◌else◌, min, max}
+use Rattle.std.specs.Prelude.{false, nat_lt, if◌then◌else◌, min, max}
 use Rattle.vb_policy.specs.declared.figures.Budget.{Budget}
 use Rattle.vb_policy.specs.declared.figures.Contact.{Contact}
 use Rattle.vb_policy.specs.declared.figures.Contact.TheVariants.{Starting, Silent, Heard, Away}
@@ -116,6 +116,16 @@ guest_of b g = record {
   most = most_of b g - forced b g;
   waits = waits g;
 }
+
+-- ---- what a guest that waits takes in the end
+
+-- All its memory but for what it could give by its own word, with its floor: no more than its most
+-- pages. Beyond what is lent to it that is at least what it asks for.
+abbrev pub uses : Budget → Figures → ℕ
+uses b g = min (g.pages - tells (contact_of g.contact) false b.floor g.available g) g.most
+
+abbrev pub wants : Budget → Figures → ℕ
+wants b g = if waits g then max g.asked (uses b g - g.lent) else 0
 
 -- ---- while somebody waits on a short host: the first that waits is served alone
 

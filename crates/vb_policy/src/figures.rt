@@ -158,7 +158,7 @@ impl Figures {
     }
 
     /// What it can give by its own word, where `floor` are to stay of `room` pages.
-    fn tells(&self, limited: bool, floor: u32, room: u32) -> u32
+    pub(crate) fn tells(&self, limited: bool, floor: u32, room: u32) -> u32
         ensures { result ≡ tells (contact_of self.now.contact) limited floor room self.now }
     {
         match Contact::of(self.contact) {

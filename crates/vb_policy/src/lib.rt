@@ -12,6 +12,7 @@ mod machine;
 mod pressure;
 mod settle;
 mod tiers;
+mod wants;
 
 pub use asking::ask;
 pub use decision::decide;
