@@ -4,6 +4,7 @@
 #include <setjmp.h>
 #include <signal.h>
 
+/* It comes back with the signals that were blocked: none is while on_fault runs. */
 static sigjmp_buf back;
 static volatile sig_atomic_t guarded;
 
@@ -18,7 +19,7 @@ static void on_fault(int number)
 static void prepare(void)
 {
     static bool prepared;
-    struct sigaction action = {.sa_handler = on_fault};
+    struct sigaction action = {.sa_handler = on_fault, .sa_flags = SA_NODEFER};
     if (!prepared)
         prepared = sigaction(SIGBUS, &action, NULL) == 0;
 }
@@ -26,7 +27,7 @@ static void prepare(void)
 int guard(int (*act)(void *what), void *what)
 {
     prepare();
-    if (sigsetjmp(back, 1)) {
+    if (sigsetjmp(back, 0)) {
         guarded = 0;
         return refuse("its memory's file has been cut off"), -1;
     }

@@ -105,11 +105,13 @@ def calls_of(pid):
     """Looks at a process, whose calls are those from its next ones on."""
     with tempfile.NamedTemporaryFile("w") as file:
         with subprocess.Popen([sys.executable, __file__, str(pid)], stdout=file) as tracer:
-            calls = Calls(file.name)
-            eventually(calls.all, "the process isn't looked at")
-            calls.forget()
-            yield calls
-            tracer.terminate()
+            try:
+                calls = Calls(file.name)
+                eventually(calls.all, "the process isn't looked at")
+                calls.forget()
+                yield calls
+            finally:
+                tracer.terminate()
 
 
 if __name__ == "__main__":

@@ -1,0 +1,61 @@
+"""The system calls of a guest's process and of its lender: exactly those that a request or a
+question takes. Each one more would be a wait more of the guest, or one for each guest of a host."""
+
+import pytest
+from system_calls import calls_of
+from tenants import FREE, process_of
+from test_between_looks import SELDOM
+from test_strict import GIVEN, used
+from vhost_client import INFLATE
+
+# On a busy machine a report may be late, and is one more then: so the round that takes the fewest
+# calls is looked at.
+ROUNDS = 20
+
+# A kick in a message, which is answered; page numbers, and their discard; the call of the driver;
+# the wait for what comes next.
+KICKED = {"recvmsg": 2, "write": 1, "splice": 1}
+REQUEST = {**KICKED, "pread64": 1, "fallocate": 1, "sendto": 1, "poll": 1}
+
+# What the two files of the memory hold is reported, by a look at each, and one at the first again.
+REPORTED_REQUEST = {**REQUEST, "fstat": 3, "sendto": 2}
+
+# An order, the call of the driver, and a wait; what it tells, which is reported, and a wait.
+STATISTICS = {**KICKED, "recvfrom": 2, "pread64": 1, "fstat": 3, "sendto": 2, "poll": 2}
+
+
+def fewest(rounds):
+    """Returns the calls of the round that takes the fewest."""
+    return min(rounds, key=lambda it: sum(it.values()))
+
+
+@pytest.mark.parametrize(
+    "words, wanted",
+    [((), REQUEST), (("--strict",), REPORTED_REQUEST)],
+    ids=["request", "strict-request"],
+)
+def test_calls_of_a_request(lend, come, words, wanted):
+    lender = lend(1, *SELDOM, *words)
+    guest = come(lender, "a", {FREE: 100})
+
+    def give(number):
+        calls.forget()
+        guest.give(GIVEN[number : number + 1])
+        used(guest, INFLATE, number + 1)
+        return calls.until_it_sleeps()
+
+    with calls_of(process_of(lender, "a")) as calls:
+        assert fewest(give(it) for it in range(ROUNDS)) == wanted
+
+
+def test_calls_of_a_question_for_statistics(lend, come):
+    lender = lend(1, *SELDOM)
+    come(lender, "a", {FREE: 100})
+
+    def ask(_):
+        calls.forget()
+        assert lender.ask("a ask") == "asked"
+        return calls.until_it_sleeps()
+
+    with calls_of(process_of(lender, "a")) as calls:
+        assert fewest(ask(it) for it in range(ROUNDS)) == STATISTICS
