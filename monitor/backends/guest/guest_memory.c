@@ -114,13 +114,15 @@ bool memory_add(struct guest_memory *memory, struct region_place place, int file
 {
     uint8_t *at = MAP_FAILED;
     uint64_t page_size = 0;
-    if (is_range(&place) && has_room(memory, &place))
+    struct stat its;
+    if (is_range(&place) && has_room(memory, &place) && file_look(file, &its))
         at = map(&place, file, &page_size);
     if (at == MAP_FAILED) {
         file_close(file);
         return false;
     }
     memory->user[memory->count] = place.user;
+    memory->files[memory->count] = (struct file_identity){its.st_dev, its.st_ino};
     memory->regions[memory->count++] =
         (struct balloon_region){place.guest, place.size, at, file, place.offset, page_size};
     return true;
@@ -137,6 +139,7 @@ bool memory_remove(struct guest_memory *memory, struct region_place place)
         memory->count--;
         memory->regions[i] = memory->regions[memory->count];
         memory->user[i] = memory->user[memory->count];
+        memory->files[i] = memory->files[memory->count];
         return true;
     }
     return false;
@@ -219,16 +222,16 @@ void memory_copy(const struct balloon_region *region, uint64_t at, uint8_t *to, 
         balloon_read_once(to, region->host + at, length);
 }
 
-bool region_is_of(const struct balloon_region *region, const struct stat *file)
+bool memory_is_one_file(const struct guest_memory *memory, unsigned one, unsigned other)
 {
-    struct stat its;
-    return file_look(region->fd, &its) && its.st_dev == file->st_dev && its.st_ino == file->st_ino;
+    const struct file_identity *its = &memory->files[one], *others = &memory->files[other];
+    return its->device == others->device && its->inode == others->inode;
 }
 
-bool memory_seen_before(const struct guest_memory *memory, unsigned number, const struct stat *file)
+bool memory_seen_before(const struct guest_memory *memory, unsigned number)
 {
     for (unsigned i = 0; i < number; i++)
-        if (region_is_of(&memory->regions[i], file))
+        if (memory_is_one_file(memory, i, number))
             return true;
     return false;
 }
@@ -238,7 +241,7 @@ uint64_t memory_held(const struct guest_memory *memory)
     uint64_t blocks = 0;
     struct stat file;
     for (unsigned i = 0; i < memory->count; i++)
-        if (file_look(memory->regions[i].fd, &file) && !memory_seen_before(memory, i, &file))
+        if (!memory_seen_before(memory, i) && file_look(memory->regions[i].fd, &file))
             blocks += (uint64_t)file.st_blocks;
     return blocks / 2;
 }

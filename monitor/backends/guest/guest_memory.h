@@ -3,7 +3,7 @@
 #define GUEST_MEMORY_H
 #include "balloon.h"
 
-#include <sys/stat.h>
+#include <sys/types.h>
 
 enum { MOST_REGIONS = 32 };
 
@@ -12,9 +12,16 @@ struct region_place {
     uint64_t guest, size, user, offset;
 };
 
+/* A file, whatever its number is. */
+struct file_identity {
+    dev_t device;
+    ino_t inode;
+};
+
 struct guest_memory {
     struct balloon_region regions[MOST_REGIONS];
-    uint64_t user[MOST_REGIONS]; /* where each is in the client */
+    uint64_t user[MOST_REGIONS];              /* where each is in the client */
+    struct file_identity files[MOST_REGIONS]; /* which file each is of */
     unsigned count;
 };
 
@@ -54,10 +61,10 @@ bool memory_word(const struct guest_memory *memory, uint64_t guest, uint16_t *wo
  * isn't held then either, as it would be after an access. */
 void memory_copy(const struct balloon_region *region, uint64_t at, uint8_t *to, size_t length);
 
-/* Whether a region is of this file; and whether one before the region of this number is. */
-bool region_is_of(const struct balloon_region *region, const struct stat *file);
-bool memory_seen_before(const struct guest_memory *memory, unsigned number,
-                        const struct stat *file);
+/* Whether two regions are of one file; and whether one before the region of this number is of its
+ * file. */
+bool memory_is_one_file(const struct guest_memory *memory, unsigned one, unsigned other);
+bool memory_seen_before(const struct guest_memory *memory, unsigned number);
 
 /* What the files hold on the host, in KiB. */
 uint64_t memory_held(const struct guest_memory *memory);

@@ -14,15 +14,23 @@ static uint64_t larger(uint64_t one, uint64_t other)
     return one > other ? one : other;
 }
 
+/* The file of a region, by its number. */
+struct region_file {
+    const struct guest_memory *memory;
+    unsigned number;
+    int file;
+    uint64_t size;
+};
+
 /* Where what begins at `at` of a file ends, up to a region that `has` it, or before the next. */
-static uint64_t part_end(const struct guest_memory *memory, const struct stat *file, uint64_t at,
-                         bool *has)
+static uint64_t part_end(const struct region_file *its, uint64_t at, bool *has)
 {
-    uint64_t end = (uint64_t)file->st_size;
+    const struct guest_memory *memory = its->memory;
+    uint64_t end = its->size;
     *has = false;
     for (unsigned i = 0; i < memory->count && !*has; i++) {
         const struct balloon_region *region = &memory->regions[i];
-        if (!region_is_of(region, file))
+        if (!memory_is_one_file(memory, i, its->number))
             continue;
         *has = region->offset <= at && at - region->offset < region->length;
         if (*has)
@@ -44,15 +52,15 @@ static uint64_t next_data(int file, uint64_t at, uint64_t end, uint64_t *ends)
 }
 
 /* The bytes of data that a file has in no region. */
-static uint64_t data_outside(const struct guest_memory *memory, const struct stat *its, int file)
+static uint64_t data_outside(const struct region_file *its)
 {
     uint64_t at = 0, ends, bytes = 0;
     unsigned runs = 0;
     bool has;
-    while (at < (uint64_t)its->st_size) {
-        uint64_t end = part_end(memory, its, at, &has);
+    while (at < its->size) {
+        uint64_t end = part_end(its, at, &has);
         if (!has && runs++ < MOST_RUNS) {
-            at = next_data(file, at, end, &ends);
+            at = next_data(its->file, at, end, &ends);
             end = ends;
         }
         bytes += has ? 0 : end - at;
@@ -61,16 +69,16 @@ static uint64_t data_outside(const struct guest_memory *memory, const struct sta
     return bytes;
 }
 
-/* The pages that a file holds in no region: no fewer than it holds beyond its regions. The client's
- * place in it stays. */
-static uint64_t pages_outside(const struct guest_memory *memory, const struct stat *its, int file)
+/* The pages of a file in no region, of the bytes that it holds: no fewer than those beyond its
+ * regions. The client's place in it stays. */
+static uint64_t pages_outside(const struct region_file *its, uint64_t held)
 {
-    uint64_t held = (uint64_t)its->st_blocks * BLOCK;
-    off_t place = lseek(file, 0, SEEK_CUR);
-    uint64_t bytes = data_outside(memory, its, file);
-    lseek(file, place, SEEK_SET);
+    const struct guest_memory *memory = its->memory;
+    off_t place = lseek(its->file, 0, SEEK_CUR);
+    uint64_t bytes = data_outside(its);
+    lseek(its->file, place, SEEK_SET);
     for (unsigned i = 0; i < memory->count; i++)
-        if (region_is_of(&memory->regions[i], its))
+        if (memory_is_one_file(memory, i, its->number))
             held -= memory->regions[i].length < held ? memory->regions[i].length : held;
     return (larger(bytes, held) + BALLOON_PAGE - 1) / BALLOON_PAGE;
 }
@@ -79,9 +87,12 @@ static uint64_t all_outside(const struct guest_memory *memory)
 {
     uint64_t pages = 0;
     struct stat its;
-    for (unsigned i = 0; i < memory->count; i++)
-        if (file_look(memory->regions[i].fd, &its) && !memory_seen_before(memory, i, &its))
-            pages += pages_outside(memory, &its, memory->regions[i].fd);
+    for (unsigned i = 0; i < memory->count; i++) {
+        int file = memory->regions[i].fd;
+        if (!memory_seen_before(memory, i) && file_look(file, &its))
+            pages += pages_outside(&(struct region_file){memory, i, file, (uint64_t)its.st_size},
+                                   (uint64_t)its.st_blocks * BLOCK);
+    }
     return pages;
 }
 
