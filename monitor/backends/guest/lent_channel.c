@@ -7,9 +7,9 @@
 #include <unistd.h>
 
 /* Milliseconds between two reports that nobody asked for; those in which a report waits for the
- * statistics for which the guest was asked with it; of a turn in which the lender is waited for;
- * orders that are obeyed in one turn. */
-enum { NEWS_EVERY = 10, ANSWERS_IN = 100, AWAIT_EVERY = 1000, ORDERS = 16 };
+ * statistics for which the guest was asked with it; of a turn in which the lender is waited
+ * for. */
+enum { NEWS_EVERY = 10, ANSWERS_IN = 100, AWAIT_EVERY = 1000 };
 
 /* Whose words go to the lender. */
 static struct lent *speaks;
@@ -254,19 +254,16 @@ static bool obey(struct lent *lent, const struct lending_message *order)
 
 bool lent_obey(struct lent *lent)
 {
-    struct lending_message order;
-    for (unsigned i = 0; i < ORDERS; i++) {
-        int got = lending_read(lent->notes.channel, &order);
-        if (got < 0) {
-            file_close(lent->notes.channel);
-            lent->notes.channel = -1;
-        }
-        if (got <= 0)
-            return true;
-        if (!obey(lent, &order))
-            return false;
+    struct lending_message orders[MOST_AT_ONCE];
+    bool ended, good = true;
+    unsigned count = lending_read(lent->notes.channel, orders, MOST_AT_ONCE, &ended);
+    for (unsigned i = 0; i < count && good; i++)
+        good = obey(lent, &orders[i]);
+    if (ended) {
+        file_close(lent->notes.channel);
+        lent->notes.channel = -1;
     }
-    return true;
+    return good;
 }
 
 void lent_take_lender(struct lent *lent)

@@ -43,7 +43,7 @@ static const struct allowed calls[] = {
       * sendmsg. */
     ANY(accept4),
     ANY(recvmsg),
-    ANY(recvfrom),
+    ANY(recvmmsg),
     WITH(sendto, 4, SCMP_CMP_EQ, 0, 0),
     ANY(poll),
     ANY(ppoll),

@@ -22,9 +22,27 @@ static int take(ssize_t got, struct lending_message *message)
     return 1;
 }
 
-int lending_read(int channel, struct lending_message *message)
+/* Has each message read to its place by one call; as recvmmsg(2). */
+static int read_all(int channel, struct lending_message messages[],
+                    struct mmsghdr headers[MOST_AT_ONCE], unsigned most)
 {
-    return take(recv(channel, message, sizeof *message, MSG_DONTWAIT | MSG_TRUNC), message);
+    struct iovec parts[MOST_AT_ONCE];
+    for (unsigned i = 0; i < most; i++) {
+        parts[i] = (struct iovec){&messages[i], sizeof messages[i]};
+        headers[i].msg_hdr = (struct msghdr){.msg_iov = &parts[i], .msg_iovlen = 1};
+    }
+    return recvmmsg(channel, headers, most, MSG_DONTWAIT | MSG_TRUNC, NULL);
+}
+
+unsigned lending_read(int channel, struct lending_message messages[], unsigned most, bool *ended)
+{
+    struct mmsghdr headers[MOST_AT_ONCE];
+    int came = read_all(channel, messages, headers, most), count = 0;
+    *ended = came < 0 && take(came, messages) < 0;
+    while (count < came && take(headers[count].msg_len, &messages[count]) > 0)
+        count++;
+    *ended |= count < came;
+    return (unsigned)count;
 }
 
 bool lending_names_senders(int channel)

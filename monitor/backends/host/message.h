@@ -85,12 +85,14 @@ enum { CLIENT_FILE = 3, CHANNEL_FILE, LATER_FILE, FILES_OF_GUEST };
 /* Sends a message; false where there is no room, or nobody at the other end. */
 bool lending_send(int channel, struct lending_message *message);
 
-/* Reads the next message: 1; 0 where there is none yet; -1 where the other end has gone, or has
- * sent something else. */
-int lending_read(int channel, struct lending_message *message);
+/* Reads the messages that have come, at most `most`, which is MOST_AT_ONCE at most: how many;
+ * `*ended` where the other end has gone after them, or has sent something else. */
+enum { MOST_AT_ONCE = 16 };
+unsigned lending_read(int channel, struct lending_message messages[], unsigned most, bool *ended);
 
-/* The same of a channel that names senders, with the number of the process that has sent it, by the
- * kernel's word; 0 where that isn't known. */
+/* Reads the next message of a channel that names senders: 1; 0 where there is none yet; -1 where
+ * the other end has gone, or has sent something else. With the number of the process that has sent
+ * it, by the kernel's word; 0 where that isn't known. */
 bool lending_names_senders(int channel);
 int lending_read_from(int channel, struct lending_message *message, pid_t *sender);
 

@@ -86,7 +86,8 @@ static void lender_changes(bool comes)
 static void lender_hears(void)
 {
     struct lending_message report;
-    while (lender >= 0 && lending_read(lender, &report) > 0)
+    bool ended;
+    while (lender >= 0 && lending_read(lender, &report, 1, &ended) > 0)
         demand(report.kind >= TELL_REPORT);
 }
 

@@ -61,7 +61,8 @@ void process_tells(struct process *process, uint64_t number)
 void process_hears(struct process *process)
 {
     struct lending_message order;
-    while (process->channel >= 0 && lending_read(process->channel, &order) > 0) {
+    bool ended;
+    while (process->channel >= 0 && lending_read(process->channel, &order, 1, &ended) > 0) {
         demand(order.kind >= ORDER_LOOK && order.kind <= ORDER_LEAVE);
         if (order.kind == ORDER_ADMIT || order.kind == ORDER_REFUSE)
             process->answered = order.wait;

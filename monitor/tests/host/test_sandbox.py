@@ -18,7 +18,7 @@ from test_strict import GIVEN
 # are all 0. Of all numbers that a kernel of these years knows, and of some more, each other one
 # ends it.
 ALLOWED = set(
-    """accept4 recvmsg recvfrom poll ppoll getsockopt read write preadv2 pread64 splice setitimer
+    """accept4 recvmsg recvmmsg poll ppoll getsockopt read write preadv2 pread64 splice setitimer
     close munmap madvise fallocate fstatfs fstat lseek brk mremap clock_gettime gettimeofday
     getrandom rt_sigaction rt_sigprocmask rt_sigreturn restart_syscall futex exit exit_group getpid
     gettid""".split()

@@ -21,7 +21,7 @@ REQUEST = {**KICKED, "pread64": 1, "fallocate": 1, "sendto": 1, "poll": 1}
 REPORTED_REQUEST = {**REQUEST, "fstat": 2, "sendto": 2}
 
 # An order, the call of the driver, and a wait; what it tells, which is reported, and a wait.
-STATISTICS = {**KICKED, "recvfrom": 2, "pread64": 1, "fstat": 2, "sendto": 2, "poll": 2}
+STATISTICS = {**KICKED, "recvmmsg": 1, "pread64": 1, "fstat": 2, "sendto": 2, "poll": 2}
 
 
 def fewest(rounds):

@@ -68,7 +68,8 @@ CUT(ssize_t, splice, (from, at_from, to, at_to, length, flags), int from, off_t 
     off_t *at_to, size_t length, unsigned flags)
 CUT(int, fallocate, (file, mode, begin, length), int file, int mode, off_t begin, off_t length)
 CUT(bool, lending_send, (channel, message), int channel, struct lending_message *message)
-CUT(int, lending_read, (channel, message), int channel, struct lending_message *message)
+CUT(unsigned, lending_read, (channel, messages, most, ended), int channel,
+    struct lending_message messages[], unsigned most, bool *ended)
 CUT(bool, rings_settle, (backend), struct backend *backend)
 
 REAL(void, kept_save, struct lent *lent)

@@ -174,8 +174,9 @@ static void serve(struct guest *guest)
 static void turn(struct guest *guest)
 {
     struct lending_message order;
+    bool ended;
     guest->turns = false;
-    while (guest->channel >= 0 && lending_read(guest->channel, &order) > 0)
+    while (guest->channel >= 0 && lending_read(guest->channel, &order, 1, &ended) > 0)
         obey(guest, &order);
     serve(guest);
     if (guest->answers != 0 && day->now >= guest->answers_until) {
