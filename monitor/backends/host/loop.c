@@ -16,7 +16,6 @@ enum {
     MESSAGES = 40,
     REFILL = 50,
     STEP_EVERY = 50,
-    MESSAGES_A_TURN = 2,
     START_EVERY = 20,
     STARTS_AHEAD = 64
 };
@@ -129,8 +128,8 @@ static int take_end(void *seat, int file)
     return LOOP_GOES_ON;
 }
 
-/* Reads what a guest's process has sent, unless that has ended meanwhile. Once this turn's time for
- * messages is over, the next turn begins with this guest. */
+/* Reads a message of a guest's process, unless that has ended meanwhile: poll(2) says whether more
+ * have come. Once this turn's time for messages is over, the next turn begins with this guest. */
 static int take_messages(void *context, int file)
 {
     struct seat *seat = context;
@@ -138,7 +137,7 @@ static int take_messages(void *context, int file)
     if (file != seat->channel || host->reads_next)
         return LOOP_GOES_ON;
     if (loop_seconds() - host->loop.woke_at < reading_seconds)
-        seat->read += seat_read(seat, MESSAGES_A_TURN);
+        seat->read += seat_read(seat, 1);
     else
         host->reads_next = seat;
     return LOOP_GOES_ON;

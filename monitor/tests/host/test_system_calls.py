@@ -1,6 +1,8 @@
 """The system calls of a guest's process and of its lender: exactly those that a request or a
 question takes. Each one more would be a wait more of the guest, or one for each guest of a host."""
 
+from collections import Counter
+
 import pytest
 from system_calls import calls_of
 from tenants import FREE, process_of
@@ -59,3 +61,30 @@ def test_calls_of_a_question_for_statistics(lend, come):
 
     with calls_of(process_of(lender, "a")) as calls:
         assert fewest(ask(it) for it in range(ROUNDS)) == STATISTICS
+
+
+def calls_on_channel(calls):
+    """Returns the names of the calls on a guest's channel in each turn that has some."""
+    made = calls.all()
+    channel = next((it[1] for it in made if it[0] == "recvmsg"), None)
+    turns = [[]]
+    for name, *arguments in made:
+        if name == "poll":
+            turns.append([])
+        elif arguments[:1] == [channel] and name in ("sendto", "recvmsg"):
+            turns[-1].append(name)
+    return [it for it in turns if it]
+
+
+def test_calls_of_a_lender_that_asks(lend, come):
+    """An order on the guest's channel, and a report."""
+    lender = lend(1, *SELDOM)
+    come(lender, "a", {FREE: 100})
+
+    def ask(_):
+        calls.forget()
+        assert lender.ask("a ask") == "asked"
+        return Counter(sum(calls_on_channel(calls), []))
+
+    with calls_of(lender.process.pid) as calls:
+        assert fewest(ask(it) for it in range(ROUNDS)) == {"sendto": 1, "recvmsg": 1}
