@@ -21,10 +21,19 @@ void seat_look(struct seat *seat, bool asks)
     order(seat, &message);
 }
 
+/* Whether its balloon is as it was told, by all that its last report says. */
+static bool is_on_target(const struct seat *seat)
+{
+    const struct lending_message *report = &seat->report;
+    uint32_t told = seat_told(seat);
+    return report->target == told && report->ballooned == told && report->actual == told &&
+           report->holds != HAS_STARTED_SMALL;
+}
+
 void seat_remind(struct seat *seat)
 {
     struct lending_message message = {.kind = ORDER_REMIND};
-    if (seat_is_ready(seat) && seat->silent <= SILENT_AFTER)
+    if (seat_is_ready(seat) && seat->silent <= SILENT_AFTER && !is_on_target(seat))
         order(seat, &message);
 }
 

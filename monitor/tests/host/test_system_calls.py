@@ -7,12 +7,14 @@ import pytest
 from system_calls import calls_of
 from tenants import FREE, process_of
 from test_between_looks import SELDOM
+from test_later_lender import QUICK
 from test_strict import GIVEN, used
 from vhost_client import INFLATE
+from waiting import eventually
 
 # On a busy machine a report may be late, and is one more then: so the round that takes the fewest
 # calls is looked at.
-ROUNDS = 20
+ROUNDS, TURNS = 20, 12
 
 # A kick in a message, which is answered; page numbers, and their discard; the call of the driver;
 # the wait for what comes next.
@@ -88,3 +90,22 @@ def test_calls_of_a_lender_that_asks(lend, come):
 
     with calls_of(lender.process.pid) as calls:
         assert fewest(ask(it) for it in range(ROUNDS)) == {"sendto": 1, "recvmsg": 1}
+
+
+def part_with_two_orders(calls):
+    """Returns which part of the turns with orders have two, of the next TURNS at least."""
+    calls.forget()
+    orders = lambda: [it.count("sendto") for it in calls_on_channel(calls) if "sendto" in it]
+    eventually(lambda: len(orders()) >= TURNS)
+    return sum(it > 1 for it in orders()) / len(orders())
+
+
+def test_who_is_on_its_target_isnt_reminded(lend, come):
+    """Beside an order to look there is one to remind in every second turn, off the target alone."""
+    lender = lend(1, *QUICK)
+    come(lender, "a", {FREE: 100})
+    with calls_of(lender.process.pid) as calls:
+        assert part_with_two_orders(calls) < 1 / 4
+        lender.set_budget(78)
+        lender.become("a", asked=50, target=50)
+        assert part_with_two_orders(calls) > 1 / 4
