@@ -33,7 +33,8 @@ static int put(int file, const char *text)
     return 0;
 }
 
-/* Writes the file beside its place, and then puts it there; 0 or an errno. */
+/* Writes the file beside its place, and then puts it there; 0 or an errno. The process ends with
+ * that, and its files with it. */
 static int write_whole(int folder, const char *name, const char *text)
 {
     char part[MOST_FILE_NAME];
@@ -47,7 +48,6 @@ static int write_whole(int folder, const char *name, const char *text)
     int why = put(file, text);
     if (why == 0 && (fsync(file) || renameat(folder, part, folder, name) || fsync(folder)))
         why = errno;
-    close(file);
     return why;
 }
 

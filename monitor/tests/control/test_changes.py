@@ -1,6 +1,7 @@
 """What is changed of a host lasts: a file in a folder of its own has it, beside the configuration
 file, and both are one whole after a restart and after a reload."""
 
+import os
 import shutil
 import signal
 import subprocess
@@ -10,6 +11,7 @@ from bigvasta.statuses import Refused
 from hosts import Host, Raw, say
 from installed import bigvasta
 from keeping import MIB, terms
+from test_status import fields_of_requests
 from waiting import PATIENCE, eventually, patience_from_now
 
 
@@ -129,20 +131,64 @@ def test_a_host_without_a_folder_says_so(host):
     assert "lasts" not in host.ask("guest", name="a") and "lasts" not in host.ask("budget")
 
 
-def test_a_change_that_cannot_be_written_is_not_made(kept):
+def be_a_folder(file):
+    """Has a folder be in the place of a file."""
+    file.unlink()
+    file.mkdir()
+
+
+# What keeps a change from being written: no file can be made; the new one can't take the old one's
+# place. And what is said of that.
+SPOILS = (
+    (lambda kept: shutil.rmtree(kept.state), "No such file or directory"),
+    (lambda kept: be_a_folder(kept.changes), "Is a directory"),
+)
+
+
+@pytest.mark.parametrize("spoil, why", SPOILS, ids=[it[1] for it in SPOILS])
+def test_a_change_that_cannot_be_written_is_not_made(kept, spoil, why):
     kept.host.ask("budget", bytes=300 * MIB)
     before = kept.host.status()["budget"], terms(kept.host)
-    shutil.rmtree(kept.state)
+    spoil(kept)
     for request in (
         {"request": "budget", "bytes": MIB},
         {"request": "guest", "name": "web-1", "most": MIB},
         {"request": "add", "name": "new"},
         {"request": "remove", "name": "web-1"},
     ):
-        with pytest.raises(Refused, match="it can't be kept: No such file .* --until-restart"):
+        with pytest.raises(Refused, match=f"it can't be kept: {why}; --until-restart"):
             kept.host.ask(**request)
     assert (kept.host.status()["budget"], terms(kept.host)) == before
     assert kept.host.ask("budget", bytes=MIB, until_restart=True)["budget"] == MIB
+
+
+# Of each kind of request one; but for that which makes the host another program.
+REQUESTS = {
+    "status": {},
+    "guest": {"name": "web-1", "weight": 2},
+    "add": {"name": "new"},
+    "remove": {"name": "new"},
+    "reload": {},
+    "renew": {"name": "web-1"},
+    "budget": {"bytes": 300 * MIB},
+    "floor": {"bytes": MIB},
+    "config": {},
+    "log": {},
+    "changes": {},
+    "events": {},
+}
+
+
+def test_no_request_leaves_a_file_open(kept):
+    assert {name for name, _ in fields_of_requests()} == {*REQUESTS, "upgrade"}
+    files = lambda: len(os.listdir(f"/proc/{kept.host.process.pid}/fd"))
+    before = files()
+    for request, fields in REQUESTS.items():
+        raw = Raw(kept.host.control)
+        assert raw.answer(say(request=request, **fields))["ok"] == (request != "renew")
+        raw.close()
+        added = request == "add"  # where its client comes
+        eventually(lambda: files() == before + added, f"{request} leaves a file open")
 
 
 def test_a_change_that_the_host_refuses_is_not_kept(kept):
