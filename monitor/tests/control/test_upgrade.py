@@ -86,7 +86,8 @@ def test_a_program_that_does_not_run_upgrades_nothing(program, folder, tmp_path)
     process = host.guest("a")["process"]
     for broken in ("vhost_user_host", "vhost_user_balloon"):
         os.rename(installed / broken, installed / "aside")
-        (installed / broken).write_text("#!/bin/sh\nexit 1\n"), os.chmod(installed / broken, 0o755)
+        (installed / broken).write_text("#!/bin/sh\ncat\necho out\necho err >&2\nexit 1\n")
+        os.chmod(installed / broken, 0o755)
         ran = bigvasta(host.control, "upgrade")
         assert (ran.returncode, ran.stdout, ran.stderr) == (
             1,
@@ -94,6 +95,10 @@ def test_a_program_that_does_not_run_upgrades_nothing(program, folder, tmp_path)
             f"bigvasta: {installed / broken}: it doesn't say its version\n",
         )
         os.rename(installed / "aside", installed / broken)
+    # What it reads and says is neither the host's input nor the host's words.
+    host.process.stdin.write(b"nothing\n"), host.process.stdin.flush()
+    assert host.lines.next(patience_from_now()).startswith("error: add, ")
+    assert "err" not in host.said()
     assert host.guest("a")["process"] == process
     host.ask("remove", name="a", force=True)
     assert host.end() == 0
