@@ -153,6 +153,17 @@ def test_what_shows_the_host_is_answered_as_at_the_control_socket(host, raw):
     assert raw.answer(say(request="status"))["guests"] == host.ask("status")["guests"]
 
 
+def test_a_status_that_is_given_again_shows_a_change_all_the_same(host):
+    """Statuses that take more than a part of the time are given again, until somebody changes the
+    host."""
+    for number in range(60):
+        host.ask("add", name=f"g{number}")
+    with Connection(host.control) as it:
+        eventually(lambda: it.ask("status") == it.ask("status"), "each status is a new one")
+        it.ask("budget", bytes=300 * MIB)
+        assert it.ask("status")["host"]["budget"] == 300 * MIB
+
+
 def test_who_follows_the_host_there_hears_of_its_guests(host, raw):
     assert raw.answer(say(request="events"))["ok"]
     host.ask("add", name="a")
