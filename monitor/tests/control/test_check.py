@@ -74,15 +74,13 @@ def test_a_file_by_which_no_host_starts(program, folder, file):
 
 
 def test_bytes_of_others_making(program, folder, file):
-    """A file of 1 GiB, without an end of a line, and one of 1 MiB, the most; a name with bytes that a terminal obeys; a number
-    of 40 digits."""
+    """A file of 1 GiB, without an end of a line, and one of 1 MiB, the most; a name with bytes that
+    a terminal obeys; a number of 40 digits."""
+    too_long = (1, [f"{file}: a file has 1 MiB at most"])
     with open(file, "ab") as it:
         it.truncate(1 << 30)
-    assert checked(program, file) == (1, [f"{file}: a file has 1 MiB at most"])
-    for size, wanted in (
-        (1 << 20, (0, [])),
-        ((1 << 20) + 1, (1, [f"{file}: a file has 1 MiB at most"])),
-    ):
+    assert checked(program, file) == too_long
+    for size, wanted in ((1 << 20, (0, [])), ((1 << 20) + 1, too_long)):
         file.write_text(filled(folder).ljust(size, "\n"))
         assert checked(program, file) == wanted
     file.write_bytes(filled(folder).encode() + b"[guest \x1b[2J\xff]\n")
