@@ -109,7 +109,6 @@ class Connection:
         """Asks the host; returns its answer, or raises what it refuses."""
         until = time.monotonic() + self.limit
         try:
-            self.socket.settimeout(self.limit)
             self.socket.sendall(
                 json.dumps(
                     {
