@@ -186,6 +186,11 @@ uint32_t vb_seat_due_grant(const VbSeat *seat, const VbReport *report);
 
 /* How many frames are lent to all guests together (2^64 - 1 where it is more). */
 uint64_t vb_host_owed(const VbSeat *seats, size_t count);
+/* The least budget with which all that wait proceed, once those that don't wait have in their
+ * balloons what is wanted there, and the drivers have read that: then one more step leaves nobody
+ * waiting, and with one page less, or more, somebody still waits who asks for a page (2^64 - 1
+ * where it is more). */
+uint64_t vb_host_least_budget(const VbSeat *seats, size_t count);
 /* How many frames of the budget are neither lent nor waited for. */
 uint32_t vb_host_room(const VbHost *host, const VbSeat *seats, size_t count);
 /* The place of the guest that waits first, of two with one turn in one line the lower; SIZE_MAX

@@ -162,6 +162,11 @@ VB_ASSERT(offsetof(VbMachine, step) == 24 && offsetof(VbMachine, pressed) == 28)
  * what it waits for, and one whose balloon doesn't count nothing. Its least pages stay to it. */
 VbTiers vb_policy_tiers(const VbPolicyBudget *budget, const VbFigures *figures);
 
+/* What a guest that waits takes in the end beyond what is lent to it, as its statistics say: its
+ * memory but for what it could give by its own word, which leaves it the floor, and no more than
+ * its most pages; at least what it asks for. 0 of one that doesn't wait. */
+uint32_t vb_policy_wants(const VbPolicyBudget *budget, const VbFigures *figures);
+
 /* Puts a target for each guest into `targets`, so that what the guests count for without their
  * targets is no more than the frames. The first tier that suffices is given by lower priorities
  * first; of it the guests of the last class keep equal parts by weight. A guest whose target so far

@@ -81,6 +81,13 @@ static Sum forced(const VbPolicyBudget *budget, const VbFigures *it)
     return waits(it) ? 0 : less(beyond(counts(it), it->most), vb_policy_tiers(budget, it).spare);
 }
 
+uint32_t vb_policy_wants(const VbPolicyBudget *budget, const VbFigures *it)
+{
+    Sum uses = beyond(it->pages, tells(it, false, budget->floor, it->available));
+    Sum takes = beyond(less(uses, it->most), it->lent);
+    return waits(it) ? (uint32_t)more(it->asked, takes) : 0;
+}
+
 /* ---- all guests of a decision */
 
 enum { NUMBER_OF_TIERS = 4 };

@@ -5,6 +5,7 @@ ghost use Rattle.std.specs.Prelude.{◌≡◌};
 ghost use Rattle.vb_virtio.specs.Tests.{one_if};
 ghost use Rattle.vb_c.specs.Policy.{decision_of, refused, tier_number, tiers_of, DecidesFor};
 ghost use Rattle.vb_policy.specs.Following.{budget_after};
+ghost use Rattle.vb_policy.specs.Needs.{wants};
 ghost use Rattle.vb_policy.specs.Pressing.{after, is_pressed};
 
 use vb_monitor::{BAD_ARGUMENT, OK, SHORT};
@@ -88,6 +89,14 @@ pub extern "C" fn vb_policy_tiers(budget: &Budget, figures: &Figures) -> VbTiers
         spare,
         most: figures.most(budget),
     }
+}
+
+/// What a guest that waits takes in the end beyond what is lent to it.
+#[unsafe(no_mangle)]
+pub extern "C" fn vb_policy_wants(budget: &Budget, figures: &Figures) -> u32
+    ensures { result ≡ wants budget.now figures.now }
+{
+    figures.wants(budget)
 }
 
 /// Puts a target for each guest into the caller's array.

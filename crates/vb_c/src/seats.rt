@@ -2,11 +2,12 @@
 
 ghost use Rattle.std.specs.Prelude.{◌≡◌, ◌-◌, ◌^◌, min};
 ghost use Rattle.vb_virtio.specs.Tests.{one_if};
+ghost use Rattle.vb_host.specs.Least.{least_budget};
 ghost use Rattle.vb_host.specs.Lending.{owed, room};
 ghost use Rattle.vb_host.specs.Seats.{asked, due_grant, due_target, lent, waits};
 ghost use Rattle.vb_c.specs.Seats.{event_of, lending_of, FirstFor, StepsFor};
 
-use vb_host::{Event, Report, Seat, first_in_line, owed, room, step};
+use vb_host::{Event, Report, Seat, first_in_line, least_budget, owed, room, step};
 use vb_monitor::{BAD_ARGUMENT, OK};
 
 /// Which layout seats, reports and events have, as vb_host.h has it in VB_HOST_VERSION: another
@@ -176,6 +177,16 @@ pub extern "C" fn vb_host_owed(seats: &[Seat]) -> u64
 {
     let most = u128::from(u64::MAX);
     owed(seats).min(most) as u64
+}
+
+/// The least budget with which all that wait proceed, once those that don't have done what is
+/// wanted of them.
+#[unsafe(no_mangle)]
+pub extern "C" fn vb_host_least_budget(seats: &[Seat]) -> u64
+    ensures { result ≡ min (least_budget seats.now) (2 ^ 64 - 1) }
+{
+    let most = u128::from(u64::MAX);
+    least_budget(seats).min(most) as u64
 }
 
 /// The frames that are neither lent nor waited for.

@@ -152,6 +152,14 @@ impl Lender {
         unsafe { vb_host_owed(self.seats.as_ptr(), self.seats.len()) }
     }
 
+    /// The least budget with which all that wait proceed, once those that don't wait have in their
+    /// balloons what is wanted there, and their drivers have read that: with one page less somebody
+    /// still waits.
+    pub fn least_budget(&self) -> u64 {
+        // SAFETY: the pointer is of a slice with its length.
+        unsafe { vb_host_least_budget(self.seats.as_ptr(), self.seats.len()) }
+    }
+
     /// How many frames of the budget are neither lent nor waited for.
     pub fn room(&self) -> u32 {
         // SAFETY: the pointers are of a `&`, and of a slice with its length.

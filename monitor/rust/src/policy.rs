@@ -69,6 +69,12 @@ impl Budget {
         unsafe { vb_policy_tiers(self, figures) }
     }
 
+    /// What a guest that waits takes in the end beyond what is lent to it, as its statistics say.
+    pub fn wants(&self, figures: &Figures) -> u32 {
+        // SAFETY: the pointers are of `&`.
+        unsafe { vb_policy_wants(self, figures) }
+    }
+
     /// The target of each guest, so that what they count for beside that is no more than the frames.
     pub fn decide(&self, guests: &[Figures]) -> Decision {
         let mut rooms = vec![PolicyRoom::default(); guests.len()];

@@ -48,6 +48,7 @@ fn a_guest_is_let_in_where_there_is_room_and_another_one_waits() {
     };
     assert_eq!(lender.seats()[0], first);
     assert_eq!((lender.owed(), lender.room(), lender.first()), (50, 0, Some(1)));
+    assert_eq!(lender.least_budget(), 136);
     assert_eq!((first.lent(), first.asked(), first.waits()), (50, 0, false));
     let second = lender.seats()[1];
     assert_eq!((second.lent(), second.asked(), second.waits(), second.turn), (0, 86, true, 1));
@@ -70,6 +71,7 @@ fn orders_are_due_until_a_report_shows_them() {
 fn an_overdraft_is_lent_once_all_others_have_reached_their_targets() {
     let mut lender = host();
     lender.step(Event::Wants { guest: 0, pages: 40 });
+    assert_eq!(lender.least_budget(), 106, "86 beside the 20 that it is to keep");
     lender.step(Event::Overdraws { guest: 1 });
     assert_eq!((lender.seats()[0].target, lender.first()), (40, Some(1)));
     lender.step(Event::Hears { guest: 0, report: given() });

@@ -38,6 +38,15 @@ fn unused_memory_is_given_first_and_page_cache_after_it() {
 }
 
 #[test]
+fn a_guest_that_waits_takes_its_floor_too() {
+    let waits = Figures { strict: 1, lent: 700, asked: 2, ..heard(300, 0, 0) };
+    for (floor, wants) in [(0, 2), (3, 3), (100, 100)] {
+        assert_eq!(Budget { floor, ..budget(0) }.wants(&waits), wants);
+    }
+    assert_eq!(budget(0).wants(&Figures { asked: 0, ..waits }), 0);
+}
+
+#[test]
 fn a_host_without_guests_lacks_nothing() {
     assert_eq!(budget(0).decide(&[]), Decision { tier: Tier::None, missing: 0, targets: vec![] });
 }

@@ -116,6 +116,9 @@ static void check_same(const struct host *host, VbDecision is, const uint32_t *t
         VbTiers plain = reference_policy_tiers(&host->budget, &host->figures[i]);
         if (memcmp(&one, &plain, sizeof one) != 0)
             fail(host, "the plain implementation has other tiers");
+        if (vb_policy_wants(&host->budget, &host->figures[i]) !=
+            reference_policy_wants(&host->budget, &host->figures[i]))
+            fail(host, "the plain implementation has a guest want something else");
     }
 }
 

@@ -86,8 +86,47 @@ static const struct row {
      {1000, 250, 300, 400, 420}},
 };
 
+/* What guests that wait take in the end: 300 of 1000 pages are in the balloon. */
+static const struct want {
+    uint32_t available, asked, most;
+    uint16_t contact, wants;
+} wants[] = {
+    {0, 1, UINT32_MAX, VB_CONTACT_HEARD, 100},
+    {0, 99, UINT32_MAX, VB_CONTACT_HEARD, 100},
+    {0, 101, UINT32_MAX, VB_CONTACT_HEARD, 101},
+    {99, 1, UINT32_MAX, VB_CONTACT_HEARD, 1},
+    {98, 1, UINT32_MAX, VB_CONTACT_HEARD, 2},
+    {0, 1, UINT32_MAX, VB_CONTACT_SILENT, 1},
+    {0, 1, UINT32_MAX, VB_CONTACT_STARTS, 300},
+    {0, 1, 750, VB_CONTACT_HEARD, 50},
+    {0, 1, 600, VB_CONTACT_HEARD, 1},
+    {0, 0, UINT32_MAX, VB_CONTACT_HEARD, 0},
+};
+
+static void check_wants(void)
+{
+    for (const struct want *it = wants; it < wants + sizeof wants / sizeof *wants; it++) {
+        VbFigures figures = {.pages = 1000,
+                             .ballooned = 300,
+                             .ballooned_then = 300,
+                             .available = it->available,
+                             .lent = 700,
+                             .asked = it->asked,
+                             .most = it->most,
+                             .contact = it->contact,
+                             .strict = 1};
+        uint32_t is = vb_policy_wants(&budget, &figures);
+        figures.strict = 0;
+        if (is != it->wants || vb_policy_wants(&budget, &figures) != 0) {
+            fprintf(stderr, "policy: want %ld: %u\n", (long)(it - wants), is);
+            exit(1);
+        }
+    }
+}
+
 void check_tiers(void)
 {
+    check_wants();
     for (const struct row *row = rows; row < rows + sizeof rows / sizeof *rows; row++) {
         VbTiers is = vb_policy_tiers(&budget, &row->figures);
         if (memcmp(&is, &row->tiers, sizeof is) != 0) {

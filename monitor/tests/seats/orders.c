@@ -265,6 +265,32 @@ static void check_sums(void)
     expect(seats[0].pages == UINT32_MAX, "they have joined");
 }
 
+/* One waits for 21 pages of its 60, of which 20 are lent already, and two give up to what is
+ * wanted: with 131 frames nobody waits once both have, and with one less the first still does. */
+static void check_least(void)
+{
+    VbSeat waits = guest(100, 60, 40), gives = guest(100, 60, 70), gave = guest(100, 60, 0);
+    VbSeat seats[] = {waits, gives, gave};
+    seats[0].held = 21, seats[0].turn = 1, seats[0].deflates++;
+    seats[0].least_target = 40;
+    expect(vb_host_least_budget(NULL, 0) == 0, "no guest");
+    expect(vb_host_least_budget(seats, 1) == 61, "what it waits for");
+    expect(vb_host_least_budget(seats + 1, 1) == 30, "less what is wanted");
+    expect(vb_host_least_budget(seats + 2, 1) == 40, "less what it has given for good");
+    seats[1].ballooned = 70, seats[1].least_target = seats[1].target = 70;
+    for (uint32_t frames = 130; frames <= 131; frames++) {
+        VbSeat then[] = {seats[0], seats[1], seats[2]};
+        VbHost host = {0};
+        VbHostEvent event = {.kind = VB_BUDGET, .frames = frames};
+        expect(vb_host_least_budget(then, 3) == 131, "all together");
+        expect(vb_host_step(&host, then, 3, &event) == VB_OK, "a budget");
+        expect((then[0].held == 0) == (frames == 131), "to a page");
+    }
+    seats[1].uncounted = 1, seats[1].ballooned = seats[1].least_target = 0;
+    seats[1].outside = 7;
+    expect(vb_host_least_budget(seats + 1, 1) == 107, "all that it may have");
+}
+
 /* A guest that a later lender hasn't heard of: all its pages are lent, and stay so. */
 static void check_unheard(void)
 {
@@ -315,4 +341,5 @@ void check_largest(void)
     check_sums();
     check_unheard();
     check_less();
+    check_least();
 }

@@ -183,7 +183,8 @@ static void check_readers(const struct day *day)
     if (vb_host_owed(seats, day->count) != reference_host_owed(seats, day->count) ||
         vb_host_room(&day->host, seats, day->count) !=
             reference_host_room(&day->host, seats, day->count) ||
-        vb_host_first(seats, day->count) != reference_host_first(seats, day->count))
+        vb_host_first(seats, day->count) != reference_host_first(seats, day->count) ||
+        vb_host_least_budget(seats, day->count) != reference_host_least_budget(seats, day->count))
         fail(day, "the plain implementation reads something else of all");
     for (const VbSeat *it = seats; it < seats + day->count; it++)
         if (vb_seat_lent(it) != reference_seat_lent(it) ||
