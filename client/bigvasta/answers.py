@@ -78,7 +78,8 @@ HOST = {
         is_count,
         "guests budget overdraft floor held lent missing overdrawn waiting silent uncooperative",
     ),
-    **fields(Maybe(is_count), "patience reserve pressed most_budget least_budget keep"),
+    **fields(Maybe(is_count), "patience reserve pressed wanted least_budget"),
+    **fields(Maybe(is_count), "most_budget lowest_budget keep"),
     "short": Maybe(is_flag),
     "differs": Maybe(
         [{"guest": is_text_or_null, **fields(is_text, "key file now"), "lasts": is_flag}]

@@ -17,6 +17,8 @@ HOST_BYTES = (
     ("held", "held", "Memory that all guests' files hold"),
     ("lent", "lent", "Memory that is lent to all guests"),
     ("missing", "missing", "Memory by which the guests can't give what is missing"),
+    ("wanted", "wanted", "Memory that guests that wait take in the end"),
+    ("least_budget", "least_budget", "Least budget with which nobody waits any longer"),
     ("overdrawn", "overdrawn", "Memory that is lent above the budget"),
 )
 HOST_COUNTS = (
@@ -158,7 +160,8 @@ def host_metrics(host):
     build.add_metric([], {"version": host["version"], "core": host.get("core", host["version"])})
     yield build
     for name, field, what in HOST_BYTES:
-        yield gauge(f"{name}_bytes", what, [([], host[field])])
+        if field in host:
+            yield gauge(f"{name}_bytes", what, [([], host[field])])
     yield gauge(
         "held_peak_bytes",
         "The most memory that all guests' files held at a look",

@@ -137,8 +137,8 @@ static void take_config(struct host *host, const struct config *config)
         host->budget = config->budget;
     if (host->machine.keep == UINT32_MAX)
         host->machine.keep = config->keep != UINT32_MAX ? config->keep : 0;
-    if (host->machine.least == UINT32_MAX)
-        host->machine.least = config->least_budget != UINT32_MAX ? config->least_budget : 0;
+    if (host->machine.lowest == UINT32_MAX)
+        host->machine.lowest = config->lowest_budget != UINT32_MAX ? config->lowest_budget : 0;
     if (host->lends.overdraft == UINT32_MAX)
         host->lends.overdraft = config->overdraft != UINT32_MAX ? config->overdraft : 0;
     if (host->floor == UINT32_MAX)
@@ -157,7 +157,7 @@ static void take_config(struct host *host, const struct config *config)
 }
 
 static const char help[] =
-    "vhost_user_host FOLDER --budget MIB [--keep MIB] [--least-budget MIB] [--machine FOLDER] "
+    "vhost_user_host FOLDER --budget MIB [--keep MIB] [--lowest-budget MIB] [--machine FOLDER] "
     "[--floor MIB] [--period MS] [--step N] "
     "[--reserve PERCENT] [--overdraft PAGES] [--patience SECONDS] [--on-short PATH] [--cost MS] "
     "[--strict] [--strict-pages] [--events] "
@@ -174,7 +174,7 @@ static enum command_line read_words(struct host *host, struct service *service, 
     const struct option_row rows[] = {
         {"budget", .read = read_mebibytes, .at = &host->budget},
         {"keep", .read = read_mebibytes, .at = &host->machine.keep},
-        {"least-budget", .read = read_mebibytes, .at = &host->machine.least},
+        {"lowest-budget", .read = read_mebibytes, .at = &host->machine.lowest},
         {"machine", .read = read_word, .at = &host->machine.folder},
         {"floor", .read = read_mebibytes, .at = &host->floor},
         {"step", .read = read_number_of, .at = &host->step},
@@ -200,7 +200,7 @@ static enum command_line read_words(struct host *host, struct service *service, 
     host->features = USUAL_FEATURES;
     host->cost = COST;
     host->step = host->floor = host->reserve = host->lends.overdraft = UINT32_MAX;
-    host->machine.keep = host->machine.least = UINT32_MAX;
+    host->machine.keep = host->machine.lowest = UINT32_MAX;
     service_defaults(service);
     enum command_line line = options_read(count, words, rows, &host->folder);
     if (service->checks)

@@ -42,6 +42,13 @@ def summary(host):
     return f"{', '.join(parts)} MiB; {tier}{', '.join(counts)}; version {host['version']}"
 
 
+def demand(host):
+    """Yields the line about what guests that wait take in the end, and the budget for that."""
+    if host.get("wanted"):
+        least = mebibytes(host["least_budget"])
+        yield f"who waits takes {mebibytes(host['wanted'])} MiB: a budget of {least} is enough"
+
+
 def others(host, guests):
     """Yields the line about processes that are of another version than the host: they serve on
     since before an upgrade."""
@@ -71,6 +78,7 @@ def run(asked):
         say(
             summary(answer["host"]),
             *table([COLUMNS, *map(row, answer["guests"])]),
+            *demand(answer["host"]),
             *others(answer["host"], answer["guests"]),
             *differences(answer["host"]),
         )

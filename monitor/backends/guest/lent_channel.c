@@ -230,8 +230,7 @@ static bool obey(struct lent *lent, const struct lending_message *order)
     case ORDER_LOOK:
         return look(lent, order);
     case ORDER_REMIND:
-        remind(lent);
-        return true;
+        return remind(lent), true;
     case ORDER_TARGET:
         set_target(lent, order->target);
         return true;

@@ -152,12 +152,19 @@ struct head {
     int64_t since;
 };
 
+/* What guests that wait take in the end beyond what is lent to them, as their statistics say, and
+ * the least budget with which all of them have it, in pages. */
+struct demand {
+    uint64_t wanted, least_budget;
+};
+
 /* That the guests can't give what is missing. */
 struct shortage {
     int64_t since;         /* 0: they can */
     bool lasts, is_due;    /* the host's patience has passed; the command is still to be run */
     char guest[MOST_NAME]; /* who had the lowest priority then; empty: nobody had memory */
     uint64_t missing;      /* then, in pages */
+    struct demand demand;  /* then */
     int command;           /* tells how the operator's command has ended; -1: none runs */
 };
 
@@ -418,6 +425,9 @@ void policy_sees_taken(struct seat *seat);
 /* By how many frames a guest of `pages` pages, which gives none at first, finds too few; 0 where
  * there are enough. */
 uint64_t policy_lacks(struct host *host, const struct seat *newcomer, uint32_t pages);
+
+/* What guests want, as far as is known now. */
+struct demand policy_demand(const struct host *host);
 
 /* Sets targets where the old ones no longer serve. */
 void policy_decide(struct host *host);

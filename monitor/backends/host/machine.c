@@ -63,7 +63,7 @@ static bool find_budget(const struct host *host, uint32_t *budget)
     if (!read_available(machine, &it.available))
         return false;
     uint64_t held = host_held(host) / PAGE_KIB;
-    it.least = machine->least > 0 ? machine->least : 1;
+    it.least = machine->lowest > 0 ? machine->lowest : 1;
     it.held = held < UINT32_MAX ? (uint32_t)held : UINT32_MAX;
     it.step = host->budget / STEPS_TO_MOST + 1;
     it.pressed = is_pressed(machine);

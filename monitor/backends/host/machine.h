@@ -10,7 +10,7 @@ struct host;
 struct machine {
     uint32_t keep;      /* pages that are to stay available to other work; 0: the budget is what the
                            operator says */
-    uint32_t least;     /* pages: the budget follows no further down */
+    uint32_t lowest;    /* pages: the budget follows no further down */
     const char *folder; /* where meminfo and pressure/memory are; NULL: /proc */
     int64_t follows_at; /* when it is read next */
     bool fails;         /* it couldn't be read last */

@@ -116,6 +116,24 @@ void policy_hears(struct seat *seat)
     seat->host->news = true;
 }
 
+struct demand policy_demand(const struct host *host)
+{
+    static VbSeat seats[MOST_PLACES];
+    VbPolicyBudget budget = budget_of(host);
+    struct demand demand = {0, 0};
+    memcpy(seats, host->places, host->place_count * sizeof seats[0]);
+    for (unsigned i = 0; i < host->count; i++) {
+        VbFigures figures = figures_of(host->seats[i]);
+        VbSeat *its = &seats[host->seats[i]->place];
+        uint32_t wants = vb_policy_wants(&budget, &figures);
+        demand.wanted += wants;
+        if (its->held > 0)
+            its->held += smaller(wants - smaller(wants, figures.asked), UINT32_MAX - its->held);
+    }
+    demand.least_budget = vb_host_least_budget(seats, host->place_count);
+    return demand;
+}
+
 /* Linux takes pages back where it has none free. */
 void policy_sees_taken(struct seat *seat)
 {

@@ -61,21 +61,29 @@ static struct command_end await(char *const words[], char *const environment[])
     return end;
 }
 
+/* Writes pages in MiB, as many as they need. */
+static void print_mib(char *words, size_t room, const char *before, uint64_t pages)
+{
+    snprintf(words, room, "%s%" PRIu64, before, (pages + PAGES_PER_MIB - 1) / PAGES_PER_MIB);
+}
+
 /* Becomes the process that runs the command, with no other files than its own. */
 static void become_runner(const struct host *host, int channel, int lock)
 {
-    char number[MOST_NUMBER], path[4096];
+    char number[MOST_NUMBER], path[4096], wanted[MOST_STATUS], least[MOST_STATUS];
     const char *found = getenv("PATH");
-    char *words[] = {(char *)host->on_short, (char *)host->shortage.guest, number, NULL};
-    char *environment[] = {path, NULL};
+    const struct shortage *its = &host->shortage;
+    char *words[] = {(char *)host->on_short, (char *)its->guest, number, NULL};
+    char *environment[] = {path, wanted, least, NULL};
     sigset_t none;
     if (fork() != 0)
         _exit(0);
     setsid();
     sigemptyset(&none);
     sigprocmask(SIG_SETMASK, &none, NULL);
-    snprintf(number, sizeof number, "%" PRIu64,
-             (host->shortage.missing + PAGES_PER_MIB - 1) / PAGES_PER_MIB);
+    print_mib(number, sizeof number, "", its->missing);
+    print_mib(wanted, sizeof wanted, "WANTED=", its->demand.wanted);
+    print_mib(least, sizeof least, "LEAST_BUDGET=", its->demand.least_budget);
     snprintf(path, sizeof path, "PATH=%s", found ? found : "/usr/bin:/bin");
     dup2(channel, OUTCOME_FILE);
     dup2(STDERR_FILENO, STDOUT_FILENO);
@@ -144,6 +152,7 @@ static void note_shortage(struct host *host)
     shortage->lasts = true;
     shortage->is_due = host->on_short && *host->on_short;
     shortage->missing = host->missing;
+    shortage->demand = policy_demand(host);
     snprintf(shortage->guest, sizeof shortage->guest, "%s", seat ? seat->name : "");
     host->counters.shortages++;
 }

@@ -66,12 +66,13 @@ static bool cooperates(const struct seat *seat)
 void host_see(const struct host *host, struct host_view *view)
 {
     const struct host_counters *its = &host->counters;
+    struct demand demand = policy_demand(host);
     *view = (struct host_view){.folder = host->folder,
                                .guests = host->count,
                                .budget = host->frames,
                                .most_budget = host->budget,
                                .keep = host->machine.keep,
-                               .least_budget = host->machine.least,
+                               .lowest_budget = host->machine.lowest,
                                .overdraft = host->lends.overdraft,
                                .floor = host->floor,
                                .step = host->step,
@@ -79,6 +80,8 @@ void host_see(const struct host *host, struct host_view *view)
                                .reserve = host->reserve,
                                .tier = tier_word(host->tier),
                                .short_by = host->missing,
+                               .wanted = demand.wanted,
+                               .least_budget = demand.least_budget,
                                .patience = host->patience,
                                .is_short = host->shortage.lasts,
                                .strict = host->strict,
@@ -226,9 +229,9 @@ void host_set_keep(struct host *host, uint32_t pages)
     host_changed(host, BY_BUDGET);
 }
 
-void host_set_least_budget(struct host *host, uint32_t pages)
+void host_set_lowest_budget(struct host *host, uint32_t pages)
 {
-    host->machine.least = pages;
+    host->machine.lowest = pages;
 }
 
 const char *host_set_floor(struct host *host, uint32_t pages)

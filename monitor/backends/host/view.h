@@ -116,13 +116,16 @@ struct host_view {
         most_budget; /* what the operator says: the budget is less where the machine has no more
                              to leave */
     uint32_t keep,
-        least_budget;        /* pages that the machine is to keep available, 0: it needn't; below
+        lowest_budget;       /* pages that the machine is to keep available, 0: it needn't; below
                                     the second the budget doesn't fall for it */
     uint32_t reserve;        /* percent */
     const char *tier;        /* up to which guests give: a word */
     uint32_t step;           /* a guest's pages divided by it, in a second */
     uint64_t held_kib, lent; /* lent: frames of all loans together */
     uint64_t short_by;       /* pages by which the guests can't give what is missing */
+    /* what guests that wait take in the end beyond what is lent to them, as their statistics say,
+     * and the least budget with which all of them have it */
+    uint64_t wanted, least_budget;
     uint32_t patience;       /* seconds */
     const char *on_short;    /* the operator's command; NULL: none */
     bool is_short;           /* they couldn't for that long */
@@ -152,7 +155,7 @@ const char *host_set_budget(struct host *host, uint32_t pages);
 /* Sets how many pages the machine is to keep available (0: it needn't), and below which budget it
  * doesn't. */
 void host_set_keep(struct host *host, uint32_t pages);
-void host_set_least_budget(struct host *host, uint32_t pages);
+void host_set_lowest_budget(struct host *host, uint32_t pages);
 const char *host_set_floor(struct host *host, uint32_t pages);
 const char *host_set_overdraft(struct host *host, uint32_t pages);
 const char *host_set_patience(struct host *host, uint32_t seconds);

@@ -68,8 +68,8 @@ void apply_sizes(const char *file, struct host *host, const struct config *confi
         fault = host_set_overdraft(host, config->overdraft);
     if (config->keep != UINT32_MAX)
         host_set_keep(host, config->keep);
-    if (config->least_budget != UINT32_MAX)
-        host_set_least_budget(host, config->least_budget);
+    if (config->lowest_budget != UINT32_MAX)
+        host_set_lowest_budget(host, config->lowest_budget);
     if (config->floor != UINT32_MAX)
         host_set_floor(host, config->floor);
     if (config->patience != UINT32_MAX)
@@ -99,15 +99,15 @@ static void see_guest(const struct guest_view *view, struct config *config)
 void apply_see(const struct host *host, struct config *config)
 {
     static const enum config_key keys[] = {
-        KEY_FOLDER, KEY_BUDGET, KEY_KEEP,     KEY_LEAST_BUDGET, KEY_FLOOR, KEY_RESERVE,
-        KEY_STRICT, KEY_STEP,   KEY_PATIENCE, KEY_OVERDRAFT,    KEY_PERIOD};
+        KEY_FOLDER, KEY_BUDGET, KEY_KEEP,     KEY_LOWEST_BUDGET, KEY_FLOOR, KEY_RESERVE,
+        KEY_STRICT, KEY_STEP,   KEY_PATIENCE, KEY_OVERDRAFT,     KEY_PERIOD};
     struct host_view view;
     host_see(host, &view);
     *config = config_empty();
     snprintf(config->fixed.folder, MOST_CONFIG_WORD, "%s", view.folder);
     snprintf(config->on_short, MOST_CONFIG_WORD, "%s", view.on_short ? view.on_short : "");
     config->budget = view.most_budget, config->keep = view.keep;
-    config->least_budget = view.least_budget;
+    config->lowest_budget = view.lowest_budget;
     config->floor = view.floor, config->overdraft = view.overdraft;
     config->reserve = view.reserve, config->strict = view.strict, config->step = view.step;
     config->patience = view.patience, config->fixed.period = (uint32_t)view.period;

@@ -211,8 +211,8 @@ static void check(struct reader *reader)
         check_guest(reader, i);
     if (config->overdraft != UINT32_MAX && config->overdraft > config->budget)
         fault_at(reader, reader->lines[KEY_OVERDRAFT], "overdraft", "more than the budget");
-    if (config->least_budget != UINT32_MAX && config->least_budget > config->budget)
-        fault_at(reader, reader->lines[KEY_LEAST_BUDGET], "least_budget", "more than the budget");
+    if (config->lowest_budget != UINT32_MAX && config->lowest_budget > config->budget)
+        fault_at(reader, reader->lines[KEY_LOWEST_BUDGET], "lowest_budget", "more than the budget");
 }
 
 struct config config_empty(void)
@@ -220,7 +220,7 @@ struct config config_empty(void)
     return (struct config){
         .budget = UINT32_MAX,
         .keep = UINT32_MAX,
-        .least_budget = UINT32_MAX,
+        .lowest_budget = UINT32_MAX,
         .floor = UINT32_MAX,
         .reserve = UINT32_MAX,
         .step = UINT32_MAX,

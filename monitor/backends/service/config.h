@@ -38,7 +38,7 @@ struct config_fixed {
 struct config {
     struct config_fixed fixed;
     uint32_t budget, floor, overdraft; /* pages; UINT32_MAX: not said */
-    uint32_t keep, least_budget;       /* likewise */
+    uint32_t keep, lowest_budget;      /* likewise */
     uint32_t patience;                 /* seconds; UINT32_MAX: not said */
     char on_short[MOST_CONFIG_WORD];   /* a command; empty: not said */
     uint32_t reserve;                  /* percent; UINT32_MAX: not said */

@@ -9,7 +9,7 @@ enum config_key {
     KEY_FOLDER,
     KEY_BUDGET,
     KEY_KEEP,
-    KEY_LEAST_BUDGET,
+    KEY_LOWEST_BUDGET,
     KEY_FLOOR,
     KEY_RESERVE,
     KEY_OVERDRAFT,

@@ -133,7 +133,7 @@ WRONG = (
         "line 18: colour: this section has no such key",
     ),
     ("floor = 8M", "overdraft = 481M", "line 5: overdraft: more than the budget"),
-    ("floor = 8M", "least_budget = 481M", "line 5: least_budget: more than the budget"),
+    ("floor = 8M", "lowest_budget = 481M", "line 5: lowest_budget: more than the budget"),
     ("floor = 8M", "strict = 1", "line 5: strict: yes or no"),
     ("floor = 8M", "step = x", "line 5: step: a number up to 4294967294"),
     ("floor = 8M", "patience = 0", "line 5: patience: seconds, from 1 to 86400"),
@@ -235,10 +235,10 @@ TAKEN = (
         MIB,
     ),
     (
-        "least_budget of [host]",
+        "lowest_budget of [host]",
         "floor = 8M",
-        "floor = 8M\nleast_budget = 40M",
-        lambda host: host.status()["least_budget"],
+        "floor = 8M\nlowest_budget = 40M",
+        lambda host: host.status()["lowest_budget"],
         40 * MIB,
     ),
     (

@@ -71,10 +71,8 @@ GUEST = {
 HOST = {
     **rows("text", "folder on_short gives_first tier"),
     **rows("count", "guests reserve step waiting silent uncooperative pressed patience"),
-    **rows(
-        "pages",
-        "budget most_budget least_budget keep overdraft floor lent short_by=missing overdrawn",
-    ),
+    **rows("pages", "budget most_budget lowest_budget keep overdraft floor lent short_by=missing"),
+    **rows("pages", "wanted least_budget overdrawn"),
     **rows("kib", "held_kib=held peak_kib=counters.peak"),
     **rows("flag", "strict is_short=short"),
     **rows("ms", "period"),
@@ -290,6 +288,8 @@ METRICS = {
     "held_bytes": "held",
     "lent_bytes": "lent",
     "missing_bytes": "missing",
+    "wanted_bytes": "wanted",
+    "least_budget_bytes": "least_budget",
     "overdrawn_bytes": "overdrawn",
     "held_peak_bytes": "counters.peak",
     "guests": "guests",
@@ -481,6 +481,8 @@ def test_each_column_and_each_line(made, host):
             *words_of(guest, "memory held loan target ballooned spare"),
         ]
         assert line.split()[: len(wanted)] == wanted
+    wanted, least = (mebibytes(its[it]) for it in ("wanted", "least_budget"))
+    assert rest[len(guests)] == f"who waits takes {wanted} MiB: a budget of {least} is enough"
     head, *rest = [it.text for it in picture(status, 200, 24, Shown())]
     promised = mebibytes(sum(it["memory"] for it in guests))
     assert head == (

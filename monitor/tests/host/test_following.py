@@ -86,7 +86,7 @@ def test_it_is_what_is_left_from_the_start_and_falls_at_once(follow, machine):
     machine.leaves(KEEP - 1)
     become(lender, 1)
     its = lender.status()["host"]
-    assert (its["most_budget"], its["keep"], its["least_budget"]) == (
+    assert (its["most_budget"], its["keep"], its["lowest_budget"]) == (
         MOST * MIB * PAGE,
         KEEP * MIB * PAGE,
         0,
@@ -150,17 +150,17 @@ def test_a_guest_of_the_operator_s_budget_may_wait_until_there_is_room(follow, m
 @pytest.mark.parametrize("least", (0, 59))
 def test_it_falls_while_the_machine_s_own_work_waits(follow, machine, least):
     machine.waits("9.99")
-    lender = follow("--least-budget", str(least))
+    lender = follow("--lowest-budget", str(least))
     stays(lender, 60 * MIB)
     machine.waits("10.00")
     become(lender, 59 * MIB if least else 60 * MIB - 3 * STEP)
 
 
 def test_it_falls_no_further_than_the_least(follow, machine):
-    lender = follow("--least-budget", "7")
+    lender = follow("--lowest-budget", "7")
     machine.leaves(0)
     become(lender, 7 * MIB)
-    assert lender.status()["host"]["least_budget"] == 7 * MIB * PAGE
+    assert lender.status()["host"]["lowest_budget"] == 7 * MIB * PAGE
 
 
 def test_the_operator_s_budget_is_the_most(follow, machine):

@@ -14,7 +14,7 @@ PATIENCE = 1
 
 # It notes its words and its environment, but for what the shell adds, and then does more.
 COMMAND = """#!/bin/sh
-echo "$# $1 $2 $(env | grep -v ^PWD= | tr '\\n' ' ')$(id -u)" >> {log}
+echo "$# $1 $2 $(env | grep -v ^PWD= | sort | tr '\\n' ' ')$(id -u)" >> {log}
 {more}
 """
 
@@ -77,7 +77,7 @@ def test_it_is_run_once_for_a_shortage_that_lasts(lend, come, command):
     lender.set_budget(156)
     wait_for(lender, 1, 0, True, "b")
     assert time.monotonic() - begin >= PATIENCE
-    wanted = f"2 b 1 PATH={os.environ['PATH']} {os.getuid()}"
+    wanted = f"2 b 1 LEAST_BUDGET=1 PATH={os.environ['PATH']} WANTED=0 {os.getuid()}"
     eventually(lambda: command.noted() == [wanted], command.noted)
     time.sleep(2 * PATIENCE)
     assert command.noted() == [wanted] and shortages(lender) == (1, 0, True, "b")

@@ -1,0 +1,65 @@
+"""What guests that wait take in the end, and the least budget with which all of them have it.
+Guests have 128 pages."""
+
+import time
+
+import pytest
+from bigvasta.connection import Connection
+from tenants import FREE, eventually
+from test_short import STANDS
+from test_strict import GIVEN, STRICT, used
+from vhost_client import DEFLATE, PAGE
+
+# Pages of a guest, those that one has given, and those that are to stay available in each.
+ALL, GAVE, FLOOR = 128, 50, 20
+
+
+def demand(lender):
+    """Returns both, in pages."""
+    its = lender.status()["host"]
+    return its["wanted"] // PAGE, its["least_budget"] // PAGE
+
+
+@pytest.fixture
+def starved(lend, come):
+    """A host, all of whose frames two guests use: `a` has given 50 pages, and has none left."""
+    lender = lend(1, *STRICT)
+    a = come(lender, "a", {FREE: GAVE})
+    come(lender, "b", {FREE: 0})
+    lender.set_budget(2 * ALL - GAVE)
+    lender.become("a", asked=GAVE)
+    a.give(GIVEN[:GAVE])
+    lender.become("a", ballooned=GAVE, lent=ALL - GAVE)
+    a.figures[FREE] = 0
+    lender.become("a", free=0)
+    with Connection(f"{lender.folder}/.control") as it:
+        it.ask("floor", bytes=FLOOR * PAGE)
+    eventually(lambda: demand(lender) == (0, 2 * ALL - GAVE), lambda: demand(lender))
+    return lender, a
+
+
+# The pages that it asks for, and those that it takes in the end: with its floor, or more.
+TAKES = ((5, FLOOR), (FLOOR, FLOOR), (FLOOR + 11, FLOOR + 11))
+
+
+@pytest.mark.parametrize("asks, takes", TAKES)
+def test_what_a_guest_takes_in_the_end(starved, asks, takes):
+    lender, a = starved
+    a.take(GIVEN[:asks])
+    lender.become("a", waits="deflate")
+    wanted = takes, 2 * ALL - GAVE + takes
+    eventually(lambda: demand(lender) == wanted, lambda: demand(lender))
+
+
+def test_the_least_budget_is_enough_to_a_page(starved):
+    lender, a = starved
+    a.take(GIVEN[:FLOOR])
+    lender.become("a", waits="deflate")
+    _, least = demand(lender)
+    lender.set_budget(least - 1)
+    time.sleep(STANDS)
+    lender.become("a", waits="deflate")
+    assert demand(lender) == (FLOOR, least)
+    lender.set_budget(least)
+    used(a, DEFLATE, 1)
+    lender.become("a", waits="nothing")
