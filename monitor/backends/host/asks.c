@@ -104,7 +104,10 @@ static uint32_t held_pages(const struct seat *seat, enum guest_wait what)
 
 uint32_t ask_outside(const struct seat *seat)
 {
-    return seat->report.has_terms ? 0 : seat->report.outside;
+    const VbSeat *its = place_of(seat);
+    uint32_t says = seat->report.has_terms ? 0 : seat->report.outside;
+    uint32_t keeps = its->uncounted ? smaller(its->outside, pages_beyond(seat)) : 0;
+    return says > keeps ? says : keeps;
 }
 
 /* What is outside of its memory's slots, as far as a report may say it: where more is, that was in
@@ -136,7 +139,6 @@ VbReport ask_report(const struct seat *seat)
                        .target_number = its->target_number - !target_is_received(seat),
                        .deflates = seat->asks,
                        .removed = its->removed + (is_smaller ? its->pages - message->pages : 0)};
-    report.outside = its->uncounted ? smaller(its->outside, pages_beyond(seat))
-                                    : taken_outside(its, &report, ask_outside(seat));
+    report.outside = taken_outside(its, &report, ask_outside(seat));
     return report;
 }

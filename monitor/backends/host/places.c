@@ -239,7 +239,7 @@ static void follow(struct seat *seat, uint32_t pages, uint32_t target)
     VbReport report = {.ballooned = is_uncounted ? 0 : seat->report.ballooned,
                        .target = target,
                        .read_target = target,
-                       .outside = is_uncounted ? its->outside : ask_outside(seat),
+                       .outside = ask_outside(seat),
                        .target_number = its->target_number + (its->target != target),
                        .deflates = 1};
     take_over(seat, pages, report);

@@ -34,7 +34,8 @@ struct ask ask_of(const struct seat *seat);
  * target is received. */
 void ask_note(struct seat *seat);
 
-/* The pages that it says to have outside of its memory's slots. */
+/* The pages that it says to have outside of its memory's slots; of one whose balloon doesn't count
+ * those that are lent to it, as long as it holds as many. */
 uint32_t ask_outside(const struct seat *seat);
 
 /* Its last report, as the step takes it. */

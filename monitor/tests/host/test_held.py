@@ -136,6 +136,12 @@ def named(lender, pages):
     eventually(lambda: words in lender.said(), lender.said)
 
 
+def discard_outside(file):
+    """Gives up what a file holds after its first slot."""
+    size = ctypes.c_long(PAGES_OF_REGION * PAGE)
+    assert ctypes.CDLL(None).fallocate(file, PUNCHES_HOLE, size, size) == 0
+
+
 def test_what_a_file_holds_outside_of_its_slots_counts(lend, come):
     lender = lend(1, *STRICT)
     a = come(lender, "a", {FREE: 100}, "overhead=0", client=Larger)
@@ -145,18 +151,14 @@ def test_what_a_file_holds_outside_of_its_slots_counts(lend, come):
     named(lender, OUTSIDE)
     lender.become("a", lent=ALL + OUTSIDE)
     assert lender.counters()["held_kib"] == 4 * (ALL + OUTSIDE)
+    discard_outside(a.client.files[1])
+    lender.become("a", lent=ALL, cooperates=0)
 
 
 def remove_slot(a):
     """Takes the second of two slots of one file away from a guest."""
     with a.lock:
         a.client.hand_over_memory(1)
-
-
-def discard_outside(a):
-    """Gives up what the file holds beside the first slot."""
-    size = ctypes.c_long(PAGES_OF_REGION * PAGE)
-    assert ctypes.CDLL(None).fallocate(a.client.files[0], PUNCHES_HOLE, size, size) == 0
 
 
 def test_a_guest_that_holds_pages_in_a_removed_slot_is_lent_them(lend, come):
@@ -172,7 +174,7 @@ def test_a_guest_that_holds_pages_in_a_removed_slot_is_lent_them(lend, come):
     lender.become("a", pages=PAGES_OF_REGION, held_kib=4 * ALL)
     assert comes.waits(LOOKED)
     assert lender.guests()["a"]["lent"] == ALL
-    discard_outside(a)
+    discard_outside(a.client.files[0])
     comes.ends()
     lender.become("a", lent=PAGES_OF_REGION, cooperates=1)
     b.leave()
