@@ -8,6 +8,7 @@ from bigvasta import __version__
 from bigvasta.commands import MODULES
 from bigvasta.connection import CONTROL, STATUS
 from bigvasta.statuses import DONE, TABLE, Fault, Refused, Usage
+from bigvasta.subcommands import Subcommands
 from bigvasta.words import plain
 
 
@@ -20,23 +21,9 @@ def parser():
         formatter_class=argparse.RawDescriptionHelpFormatter,
     )
     words.add_argument("--version", action="version", version=f"bigvasta {__version__}")
-    common = argparse.ArgumentParser(add_help=False)
-    common.add_argument(
-        "--control",
-        metavar="PATH",
-        default=os.environ.get("BIGVASTA_CONTROL"),
-        help=(
-            f"the host's socket (what BIGVASTA_CONTROL says; else {CONTROL} for what changes the "
-            f"host, {STATUS} for what shows it)"
-        ),
-    )
-    common.set_defaults(changes=lambda asked: False)
-    common.add_argument(
-        "--json", action="store_true", help="print the host's answer, an object a line"
-    )
-    commands = words.add_subparsers(metavar="COMMAND", required=True)
+    commands = Subcommands(words)
     for module in MODULES:
-        module.add(commands, common)
+        module.add(commands)
     return words
 
 

@@ -6,9 +6,7 @@ from prometheus_client.core import (
     HistogramMetricFamily,
     InfoMetricFamily,
 )
-
-from bigvasta.connection import Connection
-from bigvasta.statuses import Fault
+from prometheus_client.exposition import generate_latest
 
 # Of the host: the metric, the field of the status, and what it is.
 HOST_BYTES = (
@@ -260,21 +258,23 @@ def measured_metrics(measures):
 
 
 class Collector:
-    """Asks the host at each scrape. Where it doesn't answer, `bigvasta_up` is 0, and that is
-    all."""
+    """What the library takes: `look` returns a status. Where that is None, as no host answers,
+    `bigvasta_up` is 0, and that is all."""
 
-    def __init__(self, path):
-        self.path = path
+    def __init__(self, look):
+        self.look = look
 
     def collect(self):
         """Yields all metrics."""
-        try:
-            with Connection(self.path) as host:
-                status = host.ask("status")
-        except Fault:
-            yield gauge("up", "Whether the host answers", [([], 0)])
+        status = self.look()
+        yield gauge("up", "Whether the host answers", [([], float(status is not None))])
+        if status is None:
             return
-        yield gauge("up", "Whether the host answers", [([], 1)])
         yield from host_metrics(status["host"])
         yield from measured_metrics(status["host"]["measures"])
         yield from guest_metrics(status["guests"])
+
+
+def metrics_of(status):
+    """Returns the metrics of a status as Prometheus reads them."""
+    return generate_latest(Collector(lambda: status))

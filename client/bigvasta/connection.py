@@ -39,18 +39,28 @@ def named(request):
     return {"by": user[:MOST_NAME]} if user and user.isascii() else {}
 
 
+def away(why):
+    """Returns what is answered in the place of a host that doesn't answer."""
+    return {"version": VERSION, "ok": False, "error": {"code": "away", "text": str(why)}}
+
+
 class Connection:
     """A connection to a socket of a host."""
 
     def __init__(self, path, limit=LIMIT):
         self.path, self.limit, self.unread, self.names = path, limit, bytearray(), True
-        self.socket = socket.socket(socket.AF_UNIX, socket.SOCK_STREAM)
-        self.socket.settimeout(limit)
+        self.socket = self.reach()
+
+    def reach(self):
+        """Returns a socket that is connected to the host."""
+        its = socket.socket(socket.AF_UNIX, socket.SOCK_STREAM)
+        its.settimeout(self.limit)
         try:
-            self.socket.connect(path)
+            its.connect(self.path)
         except OSError as fault:
-            self.socket.close()
-            raise Away(f"no host answers at {path}: {why_not(path, fault)}") from None
+            its.close()
+            raise Away(f"no host answers at {self.path}: {why_not(self.path, fault)}") from None
+        return its
 
     def __enter__(self):
         return self
@@ -105,32 +115,32 @@ class Connection:
             raise self.unclear(f"the host's answer has no {place}, or a wrong one")
         return answer
 
-    def ask(self, request, **fields):
-        """Asks the host; returns its answer, or raises what it refuses."""
-        until = time.monotonic() + self.limit
+    def send(self, line):
+        """Sends a line of a request."""
         try:
-            self.socket.sendall(
-                json.dumps(
-                    {
-                        "version": VERSION,
-                        "request": request,
-                        **(named(request) if self.names else {}),
-                        **fields,
-                    }
-                ).encode()
-                + b"\n"
-            )
+            self.socket.settimeout(self.limit)
+            self.socket.sendall(line.encode() + b"\n")
         except BrokenPipeError:
             pass  # what it said before it went is read yet
         except OSError as fault:
             raise self.unclear(fault.strerror or fault) from None
-        answer = self.receive({"ok": is_flag, **ANSWERS.get(request, {})}, until)
+
+    def ask(self, request, **fields):
+        """Asks the host; returns its answer, or raises what it refuses."""
+        until = time.monotonic() + self.limit
+        name = named(request) if self.names else {}
+        self.send(json.dumps({"version": VERSION, "request": request, **name, **fields}))
+        answer = self.receive_answer(request, until)
         if answer["ok"]:
             return answer
         if self.names and answer["error"].get("field") == "by":
             self.names = False  # an older host knows no such field
             return self.ask(request, **fields)
         raise Refused(answer["error"])
+
+    def receive_answer(self, request, until):
+        """Returns the answer to a request, or its refusal."""
+        return self.receive({"ok": is_flag, **ANSWERS.get(request, {})}, until)
 
     def ends(self):
         """Waits until the host ends the connection, as it becomes another program."""

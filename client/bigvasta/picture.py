@@ -14,6 +14,9 @@ LEAST_WIDTH, NAME_WIDTH, NUMBER_WIDTH = 60, 12, 7
 
 SORTS = ("name", "held", "waits")
 
+# What is shown of each guest in numbers.
+NUMBERS = ("held", "loan", "target", "spare")
+
 
 class Line(NamedTuple):
     """A line, and how it is drawn: plain, a head, or a warning."""
@@ -31,53 +34,71 @@ class Shown(NamedTuple):
     blocks: str = BLOCKS
 
 
-def bar(parts, mark, width, blocks):
-    """Returns a bar of this width: each part is a share of it, in the order of the blocks; the mark
-    is one, too, or None."""
-    text, at = "", 0.0
-    for share, block in zip(parts, blocks):
-        at += share
-        text += block * (round(min(at, 1) * width) - len(text))
-    text = text.ljust(width, blocks[3])
-    if mark is not None and 0 <= mark < 1:
-        place = min(round(mark * width), width - 1)
-        text = text[:place] + blocks[4] + text[place + 1 :]
-    return text
+class Bar(NamedTuple):
+    """Shares of a whole, in the order of the blocks, and where the mark is, or None."""
+
+    parts: tuple
+    mark: object
+
+    def drawn(self, width, blocks):
+        """Returns it as characters."""
+        text, at = "", 0.0
+        for share, block in zip(self.parts, blocks):
+            at += share
+            text += block * (round(min(at, 1) * width) - len(text))
+        text = text.ljust(width, blocks[3])
+        if self.mark is None or not 0 <= self.mark < 1:
+            return text
+        place = min(round(self.mark * width), width - 1)
+        return text[:place] + blocks[4] + text[place + 1 :]
+
+
+def bar_of_guest(guest):
+    """Returns the bar of a guest that has memory."""
+    memory, held = guest["memory"], min(guest["held"], guest["memory"])
+    spare = min(max(guest["spare"] - guest["ballooned"], 0), held)
+    lent = max(min(guest["loan"], memory) - held, 0)
+    mark = (memory - guest["target"]) / memory if guest["target"] else None
+    return Bar(((held - spare) / memory, spare / memory, lent / memory), mark)
 
 
 def guest_bar(guest, scale, width, blocks):
     """Returns the bar of a guest, as wide as its memory is of the largest guest's."""
     own = max(1, round(width * guest["memory"] / scale)) if scale and guest["memory"] else 0
-    if own == 0:
-        return ""
-    memory, held = guest["memory"], min(guest["held"], guest["memory"])
-    spare = min(max(guest["spare"] - guest["ballooned"], 0), held)
-    parts = [
-        (held - spare) / memory,
-        spare / memory,
-        max(min(guest["loan"], memory) - held, 0) / memory,
-    ]
-    mark = (memory - guest["target"]) / memory if guest["target"] else None
-    return bar(parts, mark, own, blocks) + "]"
+    return bar_of_guest(guest).drawn(own, blocks) + "]" if own else ""
+
+
+def promised_to(guests):
+    """Returns how much memory guests were promised together."""
+    return sum(it["memory"] for it in guests)
+
+
+def bar_of_host(host, guests):
+    """Returns the bar of the sums, with the budget."""
+    scale = max(promised_to(guests), host["budget"], 1)
+    lent = max(host["lent"] - host["held"], 0)
+    return Bar((host["held"] / scale, 0, lent / scale), host["budget"] / scale)
+
+
+def head_line(host, guests):
+    """Returns the line of the sums."""
+    budget, missing = host["budget"], host["missing"]
+    most = host.get("most_budget", budget)
+    sizes = {"held": host["held"], "lent": host["lent"], "promised": promised_to(guests)}
+    sizes |= {"missing": missing} if missing else {}
+    of_most = f" of {mebibytes(most)}" if most > budget else ""
+    text = "".join(f"  {name} {mebibytes(it)}" for name, it in sizes.items())
+    tier = f"  tier {host['tier']}" if "tier" in host else ""
+    is_warning = host["held"] > budget or missing
+    kind = "warning" if is_warning else "head"
+    return Line(f"budget {mebibytes(budget)}{of_most}{text} MiB{tier}", kind)
 
 
 def host_lines(host, guests, width, shown):
-    """Returns the lines about the host: the sums, and their bar with the budget."""
-    held, lent, budget = host["held"], host["lent"], host["budget"]
-    promised = sum(it["memory"] for it in guests)
-    scale = max(promised, budget, 1)
-    most = host.get("most_budget", budget)
-    of_most = f" of {mebibytes(most)}" if most > budget else ""
-    head = (
-        f"budget {mebibytes(budget)}{of_most}  held {mebibytes(held)}  lent {mebibytes(lent)}  "
-        f"promised {mebibytes(promised)}"
-    )
-    missing = f"  missing {mebibytes(host['missing'])}" if host["missing"] else ""
-    tier = f"  tier {host['tier']}" if "tier" in host else ""
-    kind = "warning" if held > budget or host["missing"] else "head"
-    yield Line(f"{head}{missing} MiB{tier}"[:width], kind)
-    parts = (held / scale, 0, max(lent - held, 0) / scale)
-    yield Line("[" + bar(parts, budget / scale, width - 2, shown.blocks) + "]", kind)
+    """Returns the lines about the host: the sums, and their bar."""
+    head = head_line(host, guests)
+    bar = bar_of_host(host, guests).drawn(width - 2, shown.blocks)
+    return [Line(head.text[:width], head.kind), Line(f"[{bar}]", head.kind)]
 
 
 def state_line(host, shown, fault):
@@ -106,12 +127,23 @@ def ordered(guests, sort):
     return sorted(guests, key=keys[sort])
 
 
+def numbers_of(guest):
+    """Returns the numbers of a guest."""
+    return [mebibytes(guest[it]) for it in NUMBERS]
+
+
+def wait_line(guest):
+    """Returns what a guest waits for, or that it is absent."""
+    wait = wait_of(guest)
+    if wait:
+        return Line(wait, "warning")
+    return Line("absent" if guest["state"] == "absent" else "")
+
+
 def guest_line(guest, scale, width, shown):
     """Returns the line of a guest: its numbers, its bar, and what it waits for."""
-    numbers = "".join(
-        f"{mebibytes(guest[it]):>{NUMBER_WIDTH}}" for it in ("held", "loan", "target", "spare")
-    )
-    wait = wait_of(guest) or ("absent" if guest["state"] == "absent" else "")
+    numbers = "".join(f"{it:>{NUMBER_WIDTH}}" for it in numbers_of(guest))
+    wait, kind = wait_line(guest)
     room = max(width - NAME_WIDTH - 4 * NUMBER_WIDTH - 18, 8)
     if guest["memory"] == 0:  # there is no bar, which leaves its place to longer words
         room = max(min(room, width - NAME_WIDTH - 4 * NUMBER_WIDTH - 3 - len(wait)), 1)
@@ -119,7 +151,7 @@ def guest_line(guest, scale, width, shown):
         f"{guest['name'][:NAME_WIDTH]:<{NAME_WIDTH}}{numbers}  "
         f"{guest_bar(guest, scale, room - 1, shown.blocks):<{room}} {wait}"
     )
-    return Line(text[:width].rstrip(), "warning" if wait and wait != "absent" else "plain")
+    return Line(text[:width].rstrip(), kind)
 
 
 def picture(status, width, height, shown, fault=""):
@@ -132,9 +164,7 @@ def picture(status, width, height, shown, fault=""):
     )
     scale = max((it["memory"] for it in guests), default=0)
     lines = [*host_lines(host, guests, width, shown), state_line(host, shown, fault), Line("")]
-    head = f"{'guest':<{NAME_WIDTH}}" + "".join(
-        f"{it:>{NUMBER_WIDTH}}" for it in ("held", "loan", "target", "spare")
-    )
+    head = f"{'guest':<{NAME_WIDTH}}" + "".join(f"{it:>{NUMBER_WIDTH}}" for it in NUMBERS)
     lines.append(Line(f"{head}  memory", "head"))
     room = max(height - len(lines) - 2, 0)
     chosen = ordered(guests, shown.sort)[shown.first : shown.first + room]

@@ -7,37 +7,10 @@ import time
 
 from bigvasta.connection import Connection
 from bigvasta.picture import BLOCKS, PLAIN, SORTS, Shown, picture
-from bigvasta.statuses import Fault
+from bigvasta.source import Source
 from bigvasta.words import plain, say
 
 ESCAPE = 27
-
-# Seconds in which a host has to answer: no longer, as keys wait meanwhile.
-PATIENCE = 2.0
-
-
-class Source:
-    """The status of a host, which may go and come back; `fault` says why there is no newer one."""
-
-    def __init__(self, path):
-        self.path, self.fault = path, ""
-        self.connection = Connection(path, PATIENCE)
-        self.status = self.connection.ask("status")
-
-    def look(self):
-        """Asks for a new status, over a new connection where the old one has ended."""
-        try:
-            self.connection = self.connection or Connection(self.path, PATIENCE)
-            self.status, self.fault = self.connection.ask("status"), ""
-        except Fault as fault:
-            self.fault = str(fault)
-            self.close()
-
-    def close(self):
-        """Lets go of the host."""
-        if self.connection:
-            self.connection.close()
-        self.connection = None
 
 
 def watch_lines(path, interval):
@@ -112,6 +85,7 @@ def watch(path, interval):
     """Shows the host in the terminal."""
     locale.setlocale(locale.LC_ALL, "")
     source = Source(path)
+    source.ask()
     try:
         curses.wrapper(show, source, interval)
     finally:

@@ -1,6 +1,16 @@
-"""The subcommands. Each module has `add`, which adds its own to the command line; what it sets as
-`run` returns an exit status or None."""
+"""The subcommands. Each module has `add`, which adds its own to the command line."""
 
-from bigvasta.commands import changes, guest, log, metrics, plan, reload, status, upgrade, watch
+from bigvasta.commands import (
+    changes,
+    guest,
+    log,
+    metrics,
+    plan,
+    reload,
+    serve,
+    status,
+    upgrade,
+    watch,
+)
 
-MODULES = (status, guest, changes, log, watch, metrics, reload, upgrade, plan)
+MODULES = (status, guest, changes, log, watch, serve, metrics, reload, upgrade, plan)

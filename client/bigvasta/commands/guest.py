@@ -1,13 +1,10 @@
 """`bigvasta guest`: one guest, and what is agreed with it."""
 
-import json
-
-from bigvasta.commands.changes import how_long, until_restart
-from bigvasta.connection import Connection
+from bigvasta.commands.changes import add_guest_words, how_long
 from bigvasta.sizes import mebibytes
-from bigvasta.waits import wait_of
+from bigvasta.subcommands import ask
 from bigvasta.terms import TARGET, TERMS, TERMS_HELP, parse_terms, said
-from bigvasta.words import say
+from bigvasta.waits import wait_of
 
 SIZES = ("memory", "held", "loan", "excess", "target", "ballooned", "free", "available", "spare")
 
@@ -39,30 +36,27 @@ def describe(guest):
         yield f"  {name:<19} {value:>20}"
 
 
+def lines(answer):
+    """Yields the lines about a guest, and for how long what was changed lasts."""
+    yield from describe(answer["guest"])
+    if how_long(answer):
+        yield f"  changed{how_long(answer)}"
+
+
 def run(asked):
     """Changes what is asked for, and prints the guest."""
-    fields = parse_terms(asked.words, TERMS | TARGET)
-    if asked.until_restart:
-        fields["until_restart"] = True
-    with Connection(asked.control) as host:
-        answer = host.ask("guest", name=asked.name, **said(fields))
-    say(*([json.dumps(answer)] if asked.json else describe(answer["guest"])))
-    if how_long(answer) and not asked.json:
-        say(f"  changed{how_long(answer)}")
+    fields = said(parse_terms(asked.words, TERMS | TARGET))
+    ask(asked, "guest", lines, name=asked.name, **fields)
 
 
-def add(commands, common):
+def add(commands):
     """Adds the subcommand."""
-    words = commands.add_parser(
+    words = commands.add(
         "guest",
-        parents=[common],
-        help="a guest; and changes what is agreed with it",
-        description=(
-            "Shows a guest. With words, changes what is agreed with it: all of them or, where the "
-            "host refuses one, none."
-        ),
+        run,
+        "a guest; and changes what is agreed with it",
+        "Shows a guest. With words, changes what is agreed with it: all of them or, where the "
+        "host refuses one, none.",
+        changes=lambda asked: bool(asked.words),
     )
-    words.add_argument("name", metavar="NAME")
-    words.add_argument("words", metavar="KEY=VALUE", nargs="*", help=f"{TERMS_HELP} target=SIZE")
-    until_restart(words)
-    words.set_defaults(run=run, changes=lambda asked: bool(asked.words))
+    add_guest_words(words, f"{TERMS_HELP} target=SIZE")

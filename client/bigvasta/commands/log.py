@@ -183,16 +183,14 @@ def run(asked):
                 say(json.dumps(shown) if asked.json else event_line(shown))
 
 
-def add(commands, common):
+def add(commands):
     """Adds the subcommand."""
-    words = commands.add_parser(
+    words = commands.add(
         "log",
-        parents=[common],
-        help="what the host decided, and why; what was changed, and by whom",
-        description=(
-            "Prints what the host decided, and why: the targets in MiB, OLD>NEW where one changed; "
-            "and what was changed of the host, from what to what, and by whom."
-        ),
+        run,
+        "what the host decided, and why; what was changed, and by whom",
+        "Prints what the host decided, and why: the targets in MiB, OLD>NEW where one changed; "
+        "and what was changed of the host, from what to what, and by whom.",
     )
     words.add_argument(
         "-f",
@@ -213,4 +211,3 @@ def add(commands, common):
         action="store_true",
         help="without the decisions that changed no target",
     )
-    words.set_defaults(run=run)

@@ -35,9 +35,9 @@ def run(asked):
     return command.run(asked)
 
 
-def add(commands, _):
+def add(commands):
     """Adds the subcommand, which asks no host."""
-    words = commands.add_parser(
+    words = commands.own.add_parser(
         "plan",
         help="which budget a host needs, by a recorded day",
         epilog=EXAMPLE,

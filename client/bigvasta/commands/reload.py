@@ -1,28 +1,21 @@
 """`bigvasta reload`: the host reads its configuration file again."""
 
-import json
-
-from bigvasta.connection import Connection
-from bigvasta.words import say
+from bigvasta.subcommands import ask
 
 
 def run(asked):
     """Has the file read, and prints that it was; what is wrong in it is refused, and the host keeps
     what it had."""
-    with Connection(asked.control) as host:
-        answer = host.ask("reload")
-    say(json.dumps(answer) if asked.json else "the configuration is read")
+    ask(asked, "reload", lambda _: ["the configuration is read"])
 
 
-def add(commands, common):
+def add(commands):
     """Adds the subcommand."""
-    words = commands.add_parser(
+    commands.add(
         "reload",
-        parents=[common],
-        help="the host reads its configuration file again",
-        description=(
-            "Has the host read its configuration file again. Where the file is wrong, the host "
-            "keeps what it had, and the status is 1."
-        ),
+        run,
+        "the host reads its configuration file again",
+        "Has the host read its configuration file again. Where the file is wrong, the host keeps "
+        "what it had, and the status is 1.",
+        changes=lambda asked: True,
     )
-    words.set_defaults(run=run, changes=lambda asked: True)

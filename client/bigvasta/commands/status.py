@@ -1,11 +1,9 @@
 """`bigvasta status`: the host and its guests, once."""
 
-import json
-
-from bigvasta.connection import Connection
 from bigvasta.sizes import mebibytes
+from bigvasta.subcommands import ask
 from bigvasta.waits import wait_of
-from bigvasta.words import say
+from bigvasta.words import table
 
 COLUMNS = ("guest", "state", "memory", "held", "loan", "target", "balloon", "spare", "waits for")
 
@@ -16,18 +14,6 @@ def row(guest):
         mebibytes(guest[it]) for it in ("memory", "held", "loan", "target", "ballooned", "spare")
     )
     return (guest["name"], guest["state"], *sizes, wait_of(guest))
-
-
-def table(rows):
-    """Returns lines of columns: the first two and the last begin at the left, the others end at the
-    right."""
-    widths = [max(len(it[number]) for it in rows) for number in range(len(COLUMNS))]
-    left = (0, 1, len(COLUMNS) - 1)
-
-    def cell(number, text):
-        return text.ljust(widths[number]) if number in left else text.rjust(widths[number])
-
-    return ["  ".join(cell(number, text) for number, text in enumerate(it)).rstrip() for it in rows]
 
 
 def summary(host):
@@ -66,33 +52,37 @@ def differences(host):
         yield f"{whose}{it['key']} is {it['now']}{until}, and {it['file']} in the file"
 
 
+def lines(answer):
+    """Returns the lines of the status."""
+    host, guests = answer["host"], answer["guests"]
+    rows = [COLUMNS, *map(row, guests)]
+    return [
+        summary(host),
+        *table(rows, left=(0, 1, len(COLUMNS) - 1)),
+        *demand(host),
+        *others(host, guests),
+        *differences(host),
+    ]
+
+
+def names(answer):
+    """Returns the names of the guests."""
+    return [it["name"] for it in answer["guests"]]
+
+
 def run(asked):
     """Prints the status."""
-    with Connection(asked.control) as host:
-        answer = host.ask("status")
-    if asked.json:
-        say(json.dumps(answer))
-    elif asked.names:
-        say(*(it["name"] for it in answer["guests"]))
-    else:
-        say(
-            summary(answer["host"]),
-            *table([COLUMNS, *map(row, answer["guests"])]),
-            *demand(answer["host"]),
-            *others(answer["host"], answer["guests"]),
-            *differences(answer["host"]),
-        )
+    ask(asked, "status", names if asked.names else lines)
 
 
-def add(commands, common):
+def add(commands):
     """Adds the subcommand."""
-    words = commands.add_parser(
+    words = commands.add(
         "status",
-        parents=[common],
-        help="the host and its guests, in MiB",
-        description="Shows the host and its guests. Columns are in MiB.",
+        run,
+        "the host and its guests, in MiB",
+        "Shows the host and its guests. Columns are in MiB.",
     )
     words.add_argument(
         "--names", action="store_true", help="print the names of the guests alone, one a line"
     )
-    words.set_defaults(run=run)

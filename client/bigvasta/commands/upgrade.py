@@ -90,15 +90,13 @@ def run(asked):
     return PART if stay else DONE
 
 
-def add(commands, common):
+def add(commands):
     """Adds the subcommand."""
-    words = commands.add_parser(
+    commands.add(
         "upgrade",
-        parents=[common],
-        help="the host and its guests' processes become the programs that are installed now",
-        description=(
-            "Has the host and its guests' processes become the programs that are installed now, "
-            "while guests live on. Prints the versions before and after."
-        ),
+        run,
+        "the host and its guests' processes become the programs that are installed now",
+        "Has the host and its guests' processes become the programs that are installed now, while "
+        "guests live on. Prints the versions before and after.",
+        changes=lambda asked: True,
     )
-    words.set_defaults(run=run, changes=lambda asked: True)

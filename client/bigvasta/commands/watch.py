@@ -12,19 +12,16 @@ def run(asked):
     show(asked.control, asked.interval)
 
 
-def add(commands, common):
+def add(commands):
     """Adds the subcommand."""
-    words = commands.add_parser(
+    words = commands.add(
         "watch",
-        parents=[common],
-        help="a live view in the terminal",
-        description=(
-            "A bar for each guest: what it holds, what it could spare of that, its loan, what its "
-            "target leaves it. Keys: q ends, s sorts by name, held or waits, p pauses, the arrows "
-            "move."
-        ),
+        run,
+        "a live view in the terminal",
+        "A bar for each guest: what it holds, what it could spare of that, its loan, what its "
+        "target leaves it. Keys: q ends, s sorts by name, held or waits, p pauses, the arrows "
+        "move.",
     )
     words.add_argument(
         "--interval", type=float, default=1.0, metavar="S", help="seconds between two looks (1)"
     )
-    words.set_defaults(run=run)

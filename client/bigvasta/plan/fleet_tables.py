@@ -2,6 +2,7 @@
 
 from bigvasta.plan import tables
 from bigvasta.sizes import PAGE
+from bigvasta.words import table
 
 COLUMNS = ("promise", "hosts", "away", *tables.FIGURES)
 
@@ -41,7 +42,7 @@ def lines(plan, limit):
     return [
         head,
         "",
-        *tables.table([COLUMNS, *map(row, plan.answers)]),
+        *table([COLUMNS, *map(row, plan.answers)]),
         "",
         *legend,
         "",

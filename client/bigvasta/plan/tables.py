@@ -1,6 +1,7 @@
 """What a plan says, as lines for a terminal, and as an object."""
 
 from bigvasta.sizes import MIB, PAGE, mebibytes
+from bigvasta.words import table
 
 FIGURES = ("waits", "a day", "median", "99%", "worst", "short", "for", "by", "moved")
 COLUMNS = ("budget", "promise", *FIGURES)
@@ -33,12 +34,6 @@ def figures(answer):
 def row(answer):
     """Returns the columns of an answer."""
     return in_mib(answer.budget), f"{answer.promise():.2f}", *figures(answer)
-
-
-def table(rows):
-    """Returns lines of columns that end at the right."""
-    widths = [max(map(len, it)) for it in zip(*rows)]
-    return ["  ".join(cell.rjust(width) for cell, width in zip(it, widths)) for it in rows]
 
 
 def conclusion(plan, limit):

@@ -3,7 +3,8 @@ lines."""
 
 import pytest
 from bigvasta import picture
-from bigvasta.commands import log, metrics
+from bigvasta.addresses import parse_address
+from bigvasta.commands import log
 from bigvasta.picture import PLAIN, Shown
 from bigvasta.sizes import mebibytes, parse_size, seconds
 from bigvasta.statuses import Usage
@@ -64,7 +65,7 @@ ADDRESSES = (
 
 @pytest.mark.parametrize("text, address", ADDRESSES)
 def test_addresses(text, address):
-    assert metrics.parse_address(text) == address
+    assert parse_address(text) == address
 
 
 def guest(name="a", **fields):

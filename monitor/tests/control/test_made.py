@@ -11,7 +11,8 @@ from bigvasta.sizes import mebibytes
 from hosts import Host, values
 from installed import bigvasta, version
 from made import MadeHost
-from waiting import patience_from_now
+from served import facts, serving
+from waiting import eventually, patience_from_now
 
 PAGE, KIB = 4096, 1024
 ALL = (1 << 32) - 1
@@ -441,6 +442,42 @@ def test_each_metric(made, host):
             shown_host(made[0], phase), [shown_guest(it) for it in made[0].guests[phase]]
         )
         assert differences(values(ran.stdout), wanted) == {}
+
+
+def row_of(guest):
+    """Returns what the page shows of a guest: its sizes in MiB, and the parts of its memory that it
+    holds, could spare of that, and has on loan beyond it; and where its target is."""
+    memory, held = guest["pages"] * PAGE, min(guest["held_kib"] * KIB, guest["pages"] * PAGE)
+    loan, target, spare = (guest[it] * PAGE for it in ("loan", "target", "spare"))
+    given = min(max(spare - guest["ballooned"] * PAGE, 0), held)
+    parts = [held - given, given, max(min(loan, memory) - held, 0)]
+    return {
+        "name": guest["name"],
+        "numbers": [f"{it / 2**20:.0f}" for it in (guest["held_kib"] * KIB, loan, target, spare)],
+        "parts": [it / memory for it in parts],
+        "mark": 1 - target / memory,
+    }
+
+
+def test_each_number_of_the_page(made, host):
+    with serving(host.control) as (port, _):
+        for phase in range(2):
+            host.ask("floor", bytes=phase * PAGE)
+            wanted = shown_host(made[0], phase)
+            eventually(
+                lambda: differences(facts(port)[1]["host"], wanted) == {},
+                lambda: differences(facts(port)[1]["host"], wanted),
+            )
+            code, answer = facts(port)
+            guests, most = made[0].guests[phase], max(it["pages"] for it in made[0].guests[phase])
+            assert code == 200 and answer["guests"] == [shown_guest(it) for it in guests]
+            for found, its in zip(answer["shown"]["guests"], guests):
+                bar, row = found["bar"], row_of(its)
+                assert (found["name"], found["numbers"]) == (row["name"], row["numbers"])
+                assert bar["parts"] == pytest.approx(row["parts"], rel=1e-9)
+                assert (bar["mark"], found["width"]) == pytest.approx(
+                    (row["mark"], its["pages"] / most), rel=1e-9
+                )
 
 
 def words_of(guest, names):

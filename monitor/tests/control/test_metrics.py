@@ -9,13 +9,13 @@ import socket
 import subprocess
 import time
 import urllib.parse
-import urllib.request
 
 import pytest
 from bigvasta.plan import lending, reading
 from hosts import values
-from installed import CLIENT, bigvasta
+from installed import bigvasta
 from linux_kit import ROOT
+from served import free_port, get, serving
 from vhost_client import DEFLATE, INFLATE, REGIONS
 from waiting import PATIENCE, eventually
 
@@ -116,49 +116,11 @@ def test_metrics_of_a_host_that_is_away(tmp_path):
     assert promtool("check", "metrics", text=ran.stdout) == ""
 
 
-def free_port():
-    """Returns a port that nobody has."""
-    with socket.socket() as it:
-        it.bind(("localhost", 0))
-        return it.getsockname()[1]
-
-
-def get(port, path):
-    """Returns what a server answers; None while it doesn't."""
-    try:
-        with urllib.request.urlopen(f"http://localhost:{port}{path}", timeout=PATIENCE) as answer:
-            return answer.read().decode()
-    except OSError:
-        return None
-
-
 @pytest.fixture
 def exporter(host):
     """`bigvasta metrics` of the host, and its port."""
-    port = free_port()
-    words = [
-        "/usr/bin/python3",
-        "-B",
-        "-m",
-        "bigvasta",
-        "metrics",
-        "--listen",
-        f"localhost:{port}",
-        "--control",
-        host.control,
-    ]
-    with subprocess.Popen(words, env={**os.environ, "PYTHONPATH": CLIENT}) as it:
-        eventually(lambda: get(port, "/metrics"))
+    with serving(host.control, "metrics") as (port, _):
         yield port
-        it.terminate()
-
-
-def test_a_port_that_somebody_has(host, exporter):
-    ran = bigvasta(host.control, "metrics", "--listen", f"localhost:{exporter}")
-    assert (ran.returncode, ran.stderr) == (
-        3,
-        f"bigvasta: --listen: localhost:{exporter}: Address already in use\n",
-    )
 
 
 CONFIGURATION = """global: {{scrape_interval: 1s, evaluation_interval: 1s}}

@@ -167,6 +167,7 @@ COMPLETIONS = (
             "config",
             "log",
             "watch",
+            "serve",
             "metrics",
             "reload",
             "upgrade",
@@ -185,6 +186,7 @@ COMPLETIONS = (
     (["bigvasta", "log", "--s"], {"--since"}),
     (["bigvasta", "upgrade", "--"], {"--control", "--json", "--help"}),
     (["bigvasta", "plan", "--s"], {"--scheduler", "--seed", "--steps"}),
+    (["bigvasta", "serve", "--l"], {"--listen"}),
     (["bigvasta", "status", "--"], {"--control", "--json", "--help", "--names"}),
 )
 

@@ -12,6 +12,7 @@ import linux_kit
 sys.path.append(os.path.join(linux_kit.ROOT, "client"))
 
 from bigvasta.plan.metrics import KNOWN
+from bigvasta.source import Source
 
 # Seconds between two looks: as a host looks at its guests.
 LOOK_EVERY = 0.2
@@ -25,7 +26,7 @@ def collector_of(control):
         raise linux_kit.Missing(
             "metrics want a library: apt-get install python3-prometheus-client"
         ) from None
-    return Collector(control)
+    return Collector(Source(control).look)
 
 
 def text_of(value):
