@@ -2,6 +2,7 @@
 
 from bigvasta.commands import (
     changes,
+    fleet,
     guest,
     log,
     metrics,
@@ -13,4 +14,4 @@ from bigvasta.commands import (
     watch,
 )
 
-MODULES = (status, guest, changes, log, watch, serve, metrics, reload, upgrade, plan)
+MODULES = (status, guest, changes, log, watch, serve, metrics, fleet, reload, upgrade, plan)

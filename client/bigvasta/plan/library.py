@@ -104,8 +104,7 @@ def path_of(path=None):
     paths = [path] if path else [it for it in PLACES if os.path.exists(it)]
     if not paths:
         raise Usage(
-            "plan: the library isn't there: make -C monitor shared makes it, --library FILE names "
-            "another"
+            "the library isn't there: make -C monitor shared makes it, --library FILE names another"
         )
     return os.path.abspath(paths[0])
 
@@ -119,8 +118,8 @@ def load(path=None):
             call = getattr(library, name)
             call.restype, call.argtypes = answer, taken
     except (OSError, AttributeError) as fault:
-        raise Usage(f"plan: {path} is no library of vb.h: {fault}") from None
+        raise Usage(f"{path} is no library of vb.h: {fault}") from None
     version = library.vb_version()
     if version >> 8 != VERSION >> 8:
-        raise Usage(f"plan: {path} has version {version:#08x}, and {VERSION:#08x} is wanted")
+        raise Usage(f"{path} has version {version:#08x}, and {VERSION:#08x} is wanted")
     return library

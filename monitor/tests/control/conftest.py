@@ -10,7 +10,12 @@ from keeping import Kept
 from waiting import patience_from_now
 
 
-PROGRAMS = ("checked/vhost_user_host", "older/vhost_user_host", "wrong-checked/vhost_user_host")
+PROGRAMS = (
+    "checked/vhost_user_host",
+    "older/vhost_user_host",
+    "wrong-checked/vhost_user_host",
+    "libvb.so",
+)
 
 
 @pytest.fixture(scope="session")

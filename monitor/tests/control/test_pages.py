@@ -169,6 +169,7 @@ COMPLETIONS = (
             "watch",
             "serve",
             "metrics",
+            "fleet",
             "reload",
             "upgrade",
             "plan",
@@ -187,6 +188,7 @@ COMPLETIONS = (
     (["bigvasta", "upgrade", "--"], {"--control", "--json", "--help"}),
     (["bigvasta", "plan", "--s"], {"--scheduler", "--seed", "--steps"}),
     (["bigvasta", "serve", "--l"], {"--listen"}),
+    (["bigvasta", "fleet", "--"], {"--fits", "--library", "--json", "--help"}),
     (["bigvasta", "status", "--"], {"--control", "--json", "--help", "--names"}),
 )
 

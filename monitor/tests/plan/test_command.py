@@ -269,7 +269,7 @@ def test_refusals(day, words, said):
 def test_what_is_no_library(tmp_path, day, shared):
     (tmp_path / "libvb.so").write_text("no library")
     assert run(day, "--library", f"{tmp_path}/libvb.so", status=2).startswith(
-        f"bigvasta: plan: {tmp_path}/libvb.so is no library of vb.h: "
+        f"bigvasta: {tmp_path}/libvb.so is no library of vb.h: "
     )
     program = "import bigvasta.plan.library as it; it.VERSION += 256; it.load({!r})".format(shared)
     ran = subprocess.run(
@@ -280,7 +280,7 @@ def test_what_is_no_library(tmp_path, day, shared):
         env={**os.environ, "PYTHONPATH": CLIENT},
     )
     assert (
-        f"Usage: plan: {shared} has version {VERSION:#08x}, and {VERSION + 256:#08x} is wanted\n"
+        f"Usage: {shared} has version {VERSION:#08x}, and {VERSION + 256:#08x} is wanted\n"
         in ran.stderr
     )
     program = "import bigvasta.plan.library as it; it.PLACES = (); it.load()"
@@ -292,8 +292,8 @@ def test_what_is_no_library(tmp_path, day, shared):
         env={**os.environ, "PYTHONPATH": CLIENT},
     )
     assert (
-        "Usage: plan: the library isn't there: make -C monitor shared makes it, --library "
-        "FILE names another\n"
+        "Usage: the library isn't there: make -C monitor shared makes it, --library FILE names "
+        "another\n"
     ) in ran.stderr
 
 
