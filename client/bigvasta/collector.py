@@ -165,6 +165,8 @@ def host_metrics(host):
         "The most memory that all guests' files held at a look",
         [([], host["counters"]["peak"])],
     )
+    what = "Whether the guests wait for what isn't lent to them"
+    yield gauge("strict", what, [([], float(host["strict"]))])
     for name, field, what in HOST_COUNTS:
         if field in host:
             yield gauge(name, what, [([], host[field])])

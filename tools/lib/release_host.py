@@ -15,6 +15,7 @@ INSTALLED = (
     ("etc/host.conf", "etc/bigvasta/host.conf"),
     ("bash-completion/bigvasta", "usr/share/bash-completion/completions/bigvasta"),
     ("prometheus/bigvasta.rules.yml", "usr/share/doc/bigvasta-host/examples/bigvasta.rules.yml"),
+    ("grafana/bigvasta.json", "usr/share/doc/bigvasta-host/examples/bigvasta.dashboard.json"),
     ("qemu/50-bigvasta-balloon.json", "usr/share/qemu/vhost-user/50-bigvasta-balloon.json"),
 )
 DOCUMENTS = ("docs/HOST.md", "docs/CONTROL.md", "docs/LINUX.md", "docs/PLANNING.md")
@@ -70,6 +71,7 @@ def put_service(root):
         ("tmpfiles.d", "tmpfiles.d"),
         ("etc", "etc"),
         ("prometheus", "prometheus"),
+        ("grafana", "grafana"),
         ("qemu", "qemu"),
     ):
         copy_listed(f"packaging/{source}", f"{root}/{target}")

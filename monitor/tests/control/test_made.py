@@ -293,6 +293,7 @@ METRICS = {
     "least_budget_bytes": "least_budget",
     "overdrawn_bytes": "overdrawn",
     "held_peak_bytes": "counters.peak",
+    "strict": "strict",
     "guests": "guests",
     "guests_waiting": "waiting",
     "guests_silent": "silent",

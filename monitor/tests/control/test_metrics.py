@@ -15,11 +15,13 @@ from bigvasta.plan import lending, reading
 from hosts import values
 from installed import bigvasta
 from linux_kit import ROOT
+from made_status import guest, status
 from served import free_port, get, serving
 from vhost_client import DEFLATE, INFLATE, REGIONS
 from waiting import PATIENCE, eventually
 
 RULES = os.path.join(ROOT, "packaging", "prometheus")
+DASHBOARD = os.path.join(ROOT, "packaging", "grafana", "bigvasta.json")
 PAGE, MIB = 4096, 1 << 20
 
 # Pages that a driver gives: of its second region, which has no rings.
@@ -46,8 +48,35 @@ def promtool(*words, text=None, folder=None):
 
 def test_the_rules():
     said = promtool("check", "rules", "bigvasta.rules.yml", folder=RULES)
-    assert "SUCCESS: 6 rules found" in said
+    assert "SUCCESS: 8 rules found" in said
     assert "SUCCESS" in promtool("test", "rules", "bigvasta.rules.test.yml", folder=RULES)
+
+
+def expressions_of_the_dashboard():
+    """Returns what its panels read, and what it chooses a host by."""
+    with open(DASHBOARD, encoding="utf-8") as file:
+        its = json.load(file)
+    (hosts,) = (it["query"]["query"] for it in its["templating"]["list"] if it["name"] == "host")
+    return [it["expr"] for panel in its["panels"] for it in panel["targets"]], hosts
+
+
+def test_what_the_dashboard_and_the_alerts_read_is_there(tmp_path):
+    """Each metric is one of those that a host with a guest has, and Prometheus reads each
+    expression."""
+    collector = pytest.importorskip("bigvasta.collector").Collector
+    its = status([guest("a")], pressed=0)
+    names = {it.name for family in collector(lambda: its).collect() for it in family.samples}
+    panels, hosts = expressions_of_the_dashboard()
+    with open(os.path.join(RULES, "bigvasta.rules.yml"), encoding="utf-8") as file:
+        rules = re.findall(r"(?m)^ *expr: (.*)$", file.read())
+    read = {it for text in (*panels, *rules, hosts) for it in re.findall(r"bigvasta_\w+", text)}
+    assert len(panels) > 10 and len(rules) == 8 and read - names == set()
+    written = [
+        {"record": f"x{number}", "expr": it.replace("$host", "h").replace("$__rate_interval", "1m")}
+        for number, it in enumerate(panels)
+    ]
+    (tmp_path / "rules").write_text(json.dumps({"groups": [{"name": "x", "rules": written}]}))
+    promtool("check", "rules", str(tmp_path / "rules"))
 
 
 def test_metrics_without_a_remark(host, arrive):
