@@ -38,7 +38,7 @@ def lines(plan, limit):
     first = plan.answers[0]
     budget = next(iter(first.hosts.values())).budget
     head = f"{first.total.guests + first.away} guests, hosts of {tables.in_mib(budget)} MiB"
-    legend = [LEGEND.strip(), *tables.LEGEND.splitlines()[1:]]
+    legend = [*LEGEND.splitlines(), *tables.LEGEND.splitlines()[1:]]
     return [
         head,
         "",

@@ -140,6 +140,7 @@ def test_the_largest_promise_serves(shared, tmp_path):
         "0",
     )
     lines = run(*words, "--promises", "1..1.2", "--steps", "20").splitlines()
+    assert not any("\\" in it for it in lines)
     assert [it.split()[:4] for it in lines[3:5]] == [
         ["1.20", "1", "0", "0.000%"],
         ["1.19", "1", "0", "0.000%"],
