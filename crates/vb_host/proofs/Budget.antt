@@ -60,7 +60,7 @@ overdraw_room h n e = and_right (is_first (seats h.guests) n && list_all is_done
 overdraws_owe : (h : Host) (n : ℕ) → may_overdraw (lending h) n ≡ true → lent_all (each_at n lets h.guests) ≤ most h
 overdraws_owe h n e = turn_owes h n (most h) (draws_first h n e) (overdraw_room h n e)
 
-may_waits : (h : Host) (n : ℕ) → may_grant (lending h) n ≡ true → test_at waits (seats h.guests) n ≡ true
+pub may_waits : (h : Host) (n : ℕ) → may_grant (lending h) n ≡ true → test_at waits (seats h.guests) n ≡ true
 may_waits h n e = or_either (test_at covers (seats h.guests) n) _ e (λ c. test_implies covers waits n (seats h.guests) covered_waits c)
     (λ t. first_waits h n (and_left (is_first (seats h.guests) n) _ t))
 

@@ -31,7 +31,7 @@ ordered_known : (p : Process) (s : Seat) → IsKnown p s → IsKnown (ordered p 
 ordered_known p s k = let a = (obeys_moves s p (Target s.target_number s.target) (sends_target p s k) k).known in
     (obeys_moves s (obeys (Target s.target_number s.target) p) (Grant s.granted) (sends_grant (obeys (Target s.target_number s.target) p) s) a).known
 
-then_known : (pages : ℕ) (p : Process) (s : Seat) → IsKnown p s → IsKnown (process_then pages p s) s
+pub then_known : (pages : ℕ) (p : Process) (s : Seat) → IsKnown p s → IsKnown (process_then pages p s) s
 then_known pages p s k = (does_moves s (does Reads (ordered p s)) (Gives pages) (does_moves s (ordered p s) Reads (ordered_known p s k)).known).known
 
 gives_more : (a b most pages : ℕ) → a ≤ b → b ≤ most → a ≤ min (b + pages) most
@@ -95,15 +95,15 @@ limit_sure : (b : Bool) (l : Limit) (s : Seat) → b ≡ true → lent s ≤ (co
 limit_sure true l s e = omega arith
 limit_sure false l s e = absurd (cc)
 
-rounded_process : (turn pages : ℕ) (g : Guest) → g.known ≡ true → (rounded turn pages g).process ≡ process_then pages g.process g.seat
+pub rounded_process : (turn pages : ℕ) (g : Guest) → g.known ≡ true → (rounded turn pages g).process ≡ process_then pages g.process g.seat
 rounded_process turn pages g e = ap (λ (os : List Order). does (Gives pages) (does Reads (obeying (order_at os 1) (obeying (order_at os 0) g.process))))
     (sends_both g.known (limited g).limit g.seat g.orders e (limit_sure g.known g.limit g.seat e))
 
-seat_by : (b : Bool) (turn : ℕ) (q : Process) (s : Seat) → b ≡ true → viewed b (changed b (hearing turn (Some (snapshot q))) s) ≡ heard turn (snapshot q) s
+pub seat_by : (b : Bool) (turn : ℕ) (q : Process) (s : Seat) → b ≡ true → viewed b (changed b (hearing turn (Some (snapshot q))) s) ≡ heard turn (snapshot q) s
 seat_by true turn q s e = refl
 seat_by false turn q s e = absurd (cc)
 
-seen_by : (b : Bool) (s : Seat) → b ≡ true → viewed b s ≡ s
+pub seen_by : (b : Bool) (s : Seat) → b ≡ true → viewed b s ≡ s
 seen_by true s e = refl
 seen_by false s e = absurd (cc)
 

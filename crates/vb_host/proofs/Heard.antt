@@ -1,34 +1,18 @@
 -- What a report leaves as it is, and what counts as left in a balloon after it.
-use Rattle.std.proofs.Common.{◌≡◌, ℕ, ◌+◌, ◌-◌, ◌≤◌, Bool, true, false, ◌&&◌, ◌==◌, nat_lt, nat_le, refl, ◌∙◌, arith}
+use Rattle.std.proofs.Common.{◌≡◌, ℕ, ◌+◌, ◌-◌, ◌≤◌, Bool, true, false, ◌==◌, nat_lt, nat_le, refl, ◌∙◌, arith}
 use Rattle.vb_host.specs.declared.report.Report.{Report}
 use Rattle.vb_host.specs.declared.seat.Seat.{Seat}
 use Rattle.vb_host.specs.Promises.{HasTold}
-use Rattle.vb_host.specs.Seats.{believed, counting, covers, granting, heard, is_stale, left, noting, queuing, raised, served}
+use Rattle.vb_host.specs.Seats.{counting, heard, is_stale, left, noting, queuing, raised, served}
 use Rattle.vb_host.specs.System.{Process, snapshot}
 use Rattle.vb_host.proofs.Changes.{hears_follow, is_fresh}
 use Rattle.vb_host.proofs.Moving.{has_told, target_same}
 use Rattle.vb_host.proofs.Processes.{reports_now}
 use Rattle.vb_host.proofs.Settling.{no_due}
-use Rattle.vb_host.proofs.Sound.{IsKnown, and_right, believes, counts, either, le_true, lt_false, lt_true, notes, queues}
-
--- what a grant leaves, another least target, and a turn
-record Stays (P : Seat → Type 0) : Type 0 where
-  granted : (s : Seat) → P s → P (granting s)
-  raised_to : (s : Seat) (least : ℕ) → P s → P (record s { least_target = least })
-  turned : (s : Seat) (turn : ℕ) → P s → P (record s { turn = turn; deferred = 0 })
-
--- what is true once the balloon is counted is true once the report is heard
-after_counting : (P : Seat → Type 0) (turn : ℕ) (r q : Report) (s : Seat) → Stays P → P (counting q s) → P (queuing turn s (raised r (served (counting q s))))
-after_counting P turn r q s t h =
-    let a : P (served (counting q s)) = either P (covers (counting q s)) _ _ (λ _. t.granted (counting q s) h) (λ _. h) in
-    let b : P (raised r (served (counting q s))) = either P ((r.target_number == (served (counting q s)).target_number) && (r.read_target == (served (counting q s)).target)) _ _ (λ _. t.raised_to (served (counting q s)) _ a) (λ _. a) in
-    queues P turn s (raised r (served (counting q s))) b (λ n. t.turned (raised r (served (counting q s))) n b)
-
-hears : (P : Seat → Type 0) (turn : ℕ) (r : Report) (s : Seat) → Stays P → P s → ((q : Report) → P (counting q s)) → P (heard turn r s)
-hears P turn r s t h c = either P (is_stale r s) _ _ (λ _. h) (λ _. after_counting P turn r (believed s r) s t (c (believed s r)))
+use Rattle.vb_host.proofs.Sound.{IsKnown, after_counting, hears, and_right, believes, counts, either, le_true, lt_false, lt_true, notes}
 
 pub heard_wanted : (turn : ℕ) (r : Report) (s : Seat) → (heard turn r s).wanted ≡ s.wanted
-heard_wanted turn r s = hears (λ (x : Seat). x.wanted ≡ s.wanted) turn r s (record { granted = λ _ e. e; raised_to = λ _ _ e. e; turned = λ _ _ e. e }) refl
+heard_wanted turn r s = hears (λ (x : Seat). x.wanted ≡ s.wanted) turn r s (record { granted = λ _ _ e. e; raised_to = λ _ e. e; turned = λ _ _ e. e }) refl
     (λ q. counts (λ (x : Seat). x.wanted ≡ s.wanted) q s (λ _ _. refl) (λ _. refl))
 
 -- ---- its pages, and those outside
@@ -38,7 +22,7 @@ pages_noted ballooned held r s = notes (λ (x : Seat). x.pages + x.outside ≤ s
     (λ e. omega (arith, le_true (left r s + r.outside + (s.ballooned - ballooned)) (s.pages + s.outside) (and_right (nat_le (s.ballooned - ballooned) (r.removed - s.removed)) _ e))) (λ _. omega arith)
 
 pub heard_pages : (turn : ℕ) (r : Report) (s : Seat) → (heard turn r s).pages + (heard turn r s).outside ≤ s.pages + s.outside
-heard_pages turn r s = hears (λ (x : Seat). x.pages + x.outside ≤ s.pages + s.outside) turn r s (record { granted = λ _ l. l; raised_to = λ _ _ l. l; turned = λ _ _ l. l }) (omega arith)
+heard_pages turn r s = hears (λ (x : Seat). x.pages + x.outside ≤ s.pages + s.outside) turn r s (record { granted = λ _ _ l. l; raised_to = λ _ l. l; turned = λ _ _ l. l }) (omega arith)
     (λ q. either (λ (x : Seat). x.pages + x.outside ≤ s.pages + s.outside) (q.deflates == s.granted) _ _ (λ _. pages_noted (q.ballooned - q.held) 0 q s) (λ _. pages_noted q.ballooned q.held q s))
 
 -- ---- what a strict guest's deflate leaves in its balloon
@@ -47,14 +31,23 @@ held_noted : (ballooned held most : ℕ) (r : Report) (s : Seat) → held ≤ mo
 held_noted ballooned held most r s l = notes (λ (x : Seat). x.held ≤ most) ballooned held r s (λ _. l) (λ _. l)
 
 -- it waits for no more than its process holds back
-heard_held : (p : Process) (turn : ℕ) (s : Seat) → IsKnown p s → (heard turn (snapshot p) s).held ≤ p.held
+pub heard_held : (p : Process) (turn : ℕ) (s : Seat) → IsKnown p s → (heard turn (snapshot p) s).held ≤ p.held
 heard_held p turn s k = either (λ (x : Seat). x.held ≤ p.held) (is_stale (snapshot p) s) _ _
     (λ e. absurd (is_fresh (snapshot p) s k.memory.granted k.memory.removed e))
     (λ _. believes (λ (q : Report). (queuing turn s (raised (snapshot p) (served (counting q s)))).held ≤ p.held) (snapshot p) s
     (λ _. after p turn (record (snapshot p) { ballooned = 0 }) s refl) (λ _. after p turn (snapshot p) s refl)) where
       after : (p : Process) (turn : ℕ) (q : Report) (s : Seat) → q.held ≡ p.held → (queuing turn s (raised (snapshot p) (served (counting q s)))).held ≤ p.held
-      after p turn q s e = after_counting (λ (x : Seat). x.held ≤ p.held) turn (snapshot p) q s (record { granted = λ _ _. omega arith; raised_to = λ _ _ l. l; turned = λ _ _ l. l })
+      after p turn q s e = after_counting (λ (x : Seat). x.held ≤ p.held) turn (snapshot p) q s (record { granted = λ _ _ _. omega arith; raised_to = λ _ l. l; turned = λ _ _ l. l })
           (either (λ (x : Seat). x.held ≤ p.held) (q.deflates == s.granted) _ _ (λ _. held_noted (q.ballooned - q.held) 0 p.held q s (omega arith)) (λ _. held_noted q.ballooned q.held p.held q s (omega (arith, e))))
+
+pub heard_deflates : (p : Process) (turn : ℕ) (s : Seat) → IsKnown p s → (heard turn (snapshot p) s).deflates ≡ p.deflates
+heard_deflates p turn s k = either (λ (x : Seat). x.deflates ≡ p.deflates) (is_stale (snapshot p) s) _ _
+    (λ e. absurd (is_fresh (snapshot p) s k.memory.granted k.memory.removed e))
+    (λ _. believes (λ (q : Report). (queuing turn s (raised (snapshot p) (served (counting q s)))).deflates ≡ p.deflates) (snapshot p) s
+    (λ _. after p turn (record (snapshot p) { ballooned = 0 }) s refl) (λ _. after p turn (snapshot p) s refl)) where
+      after : (p : Process) (turn : ℕ) (q : Report) (s : Seat) → q.deflates ≡ p.deflates → (queuing turn s (raised (snapshot p) (served (counting q s)))).deflates ≡ p.deflates
+      after p turn q s e = after_counting (λ (x : Seat). x.deflates ≡ p.deflates) turn (snapshot p) q s (record { granted = λ _ _ d. d; raised_to = λ _ d. d; turned = λ _ _ d. d })
+          (counts (λ (x : Seat). x.deflates ≡ p.deflates) q s (λ _ _. e) (λ _. e))
 
 left_by : (b : Bool) (p : Process) (s t : Seat) → nat_lt 0 t.held ≡ b → IsKnown p t → HasTold p s t → t.held ≤ p.held → s.uncounted ≡ 0 → p.balloon - p.held ≤ t.ballooned - t.held
 left_by true p s t e k h l u =

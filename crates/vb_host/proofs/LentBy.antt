@@ -3,10 +3,10 @@ use Rattle.std.proofs.Common.{◌≡◌, ℕ, zero, suc, ◌+◌, ◌-◌, ◌�
 use Rattle.std.proofs.lemmas.Bool.Decides.{nat_tests}
 use Rattle.vb_host.specs.declared.report.Report.{Report}
 use Rattle.vb_host.specs.declared.seat.Seat.{Seat}
-use Rattle.vb_host.specs.Seats.{asked, believed, counting, covers, granting, heard, is_stale, lent, noting, possible_target, queuing, raised, served, waits}
+use Rattle.vb_host.specs.Seats.{asked, counting, covers, granting, heard, lent, noting, possible_target, waits}
 use Rattle.vb_host.specs.Seats.{left, reclaimed, retargeted, needs_grant}
 use Rattle.vb_host.specs.System.{changed, hearing, report_at, viewed}
-use Rattle.vb_host.proofs.Sound.{and_right, either, le_true, notes, queues}
+use Rattle.vb_host.proofs.Sound.{and_right, either, hears, le_true, notes}
 
 -- ---- no report lends anything, whatever numbers it has
 
@@ -23,19 +23,9 @@ counts_lend r s = either (λ (x : Seat). lent x ≤ lent s) (r.deflates == s.gra
 pub covered_lends : (s : Seat) → covers s ≡ true → lent (granting s) ≤ lent s
 covered_lends s e = grind (arith, nat_tests)
 
-serves_lend : (s : Seat) → lent (served s) ≤ lent s
-serves_lend s = either (λ (x : Seat). lent x ≤ lent s) (covers s) _ _ (λ e. covered_lends s e) (λ _. omega arith)
-
-raises_lend : (r : Report) (s : Seat) → lent (raised r s) ≤ lent s
-raises_lend r s = either (λ (x : Seat). lent x ≤ lent s) ((r.target_number == s.target_number) && (r.read_target == s.target)) _ _ (λ _. omega arith) (λ _. omega arith)
-
-queues_lend : (turn : ℕ) (old s : Seat) → lent (queuing turn old s) ≤ lent s
-queues_lend turn old s = queues (λ (x : Seat). lent x ≤ lent s) turn old s (omega arith) (λ _. omega arith)
-
 pub hears_lend : (turn : ℕ) (r : Report) (s : Seat) → lent (heard turn r s) ≤ lent s
-hears_lend turn r s = either (λ (x : Seat). lent x ≤ lent s) (is_stale r s) _ _ (λ _. omega arith)
-    (λ _. let q = believed s r in
-    omega (arith, counts_lend q s, serves_lend (counting q s), raises_lend r (served (counting q s)), queues_lend turn s (raised r (served (counting q s)))))
+hears_lend turn r s = hears (λ (x : Seat). lent x ≤ lent s) turn r s
+    (record { granted = λ x e l. omega (arith, covered_lends x e, l); raised_to = λ _ l. omega (arith, l); turned = λ _ _ l. omega (arith, l) }) (omega arith) (λ q. counts_lend q s)
 
 pub hearing_lends : (turn : ℕ) (reports : List Report) (i : ℕ) (s : Seat) → lent (hearing turn (report_at reports i) s) ≤ lent s
 hearing_lends turn [] i s = omega arith

@@ -23,6 +23,7 @@ pub mod Settling
 pub mod Heard
 pub mod Giving
 pub mod Serving
+pub mod Receiving
 pub mod Possible
 pub mod Outcome
 pub mod Events

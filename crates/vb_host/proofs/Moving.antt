@@ -16,7 +16,7 @@ use Rattle.vb_host.proofs.Changes.{is_fresh}
 use Rattle.vb_host.proofs.Lines.{by_waits}
 use Rattle.vb_host.proofs.Lists.{waits_at, all_get, some_is}
 use Rattle.vb_host.proofs.Shown.{IsSeen, news, news_held, seen_all, seen_empty}
-use Rattle.vb_host.proofs.Sound.{believes, counts, either, notes, IsKnown, and_left, eq_false, eq_true, lt_false, queues, IsTrusty}
+use Rattle.vb_host.proofs.Sound.{believes, counts, either, notes, IsKnown, and_left, eq_false, eq_true, hears, lt_false, queues, IsTrusty}
 use Rattle.vb_host.proofs.Toward.{waits_by}
 
 both_false : (a b c d : ℕ) → ((a == b) && (c == d)) ≡ false → a ≡ b → c ≡ d → ⊥
@@ -41,7 +41,7 @@ queued_least turn old s = queues (λ (x : Seat). x.least_target ≡ s.least_targ
 abbrev SameTargets : Seat → Seat → Type 0
 SameTargets s t = (t.target ≡ s.target) × (t.target_number ≡ s.target_number) × (t.least_target ≡ s.least_target)
 
-pub targets_stay : (r : Report) (s : Seat) → SameTargets s (served (counting r s))
+targets_stay : (r : Report) (s : Seat) → SameTargets s (served (counting r s))
 targets_stay r s = either (λ (x : Seat). SameTargets s x) (covers (counting r s)) _ _ (λ _. counting_stays r s) (λ _. counting_stays r s) where
   counting_stays : (r : Report) (s : Seat) → SameTargets s (counting r s)
   counting_stays r s = counts (λ (x : Seat). SameTargets s x) r s (λ _ _. (refl, refl, refl)) (λ _. (refl, refl, refl))
@@ -138,7 +138,7 @@ none_waits frames overdraft sizes steps n q h l g = elim g.no_room [
   | inr first ↦ absurd (omega (arith, first.2, has_room frames overdraft sizes steps first.0 q h l (by_waits _ first.1.waits)))
 ]
 
-held_there : (xs : List Guest) (n : ℕ) (g : Guest) → slice_get xs n ≡ Some g → held_at (seats xs) n ≡ (view g).held
+pub held_there : (xs : List Guest) (n : ℕ) (g : Guest) → slice_get xs n ≡ Some g → held_at (seats xs) n ≡ (view g).held
 held_there [] n g e = absurd (cc)
 held_there (x ∷ xs) zero g e = ap (λ (y : Guest). (view y).held) (some_is x g e)
 held_there (x ∷ xs) (suc n) g e = held_there xs n g e
@@ -218,13 +218,8 @@ believed_balloon : (r : Report) (s : Seat) → s.uncounted ≡ 0 → (believed s
 believed_balloon r s e = believes (λ (q : Report). q.ballooned ≡ r.ballooned) r s (λ u. absurd (omega (arith, e, u))) (λ _. refl)
 
 pub target_same : (turn : ℕ) (r : Report) (s : Seat) → (heard turn r s).target ≡ s.target
-target_same turn r s = let q = believed s r in let t = targets_stay q s in either (λ (x : Seat). x.target ≡ s.target) (is_stale r s) _ _ (λ _. refl)
-    (λ _. queued_target turn s (raised r (served (counting q s))) ∙ (raised_target r (served (counting q s)) ∙ t.0)) where
-      queued_target : (turn : ℕ) (old s : Seat) → (queuing turn old s).target ≡ s.target
-      queued_target turn old s = queues (λ (x : Seat). x.target ≡ s.target) turn old s refl (λ _. refl)
-
-      raised_target : (r : Report) (s : Seat) → (raised r s).target ≡ s.target
-      raised_target r s = either (λ (x : Seat). x.target ≡ s.target) ((r.target_number == s.target_number) && (r.read_target == s.target)) _ _ (λ _. refl) (λ _. refl)
+target_same turn r s = hears (λ (x : Seat). x.target ≡ s.target) turn r s (record { granted = λ _ _ e. e; raised_to = λ _ e. e; turned = λ _ _ e. e }) refl
+    (λ q. counts (λ (x : Seat). x.target ≡ s.target) q s (λ _ _. refl) (λ _. refl))
 
 pub has_told : (p : Process) (turn : ℕ) (s : Seat) → IsKnown p s → HasTold p s (heard turn (snapshot p) s)
 has_told p turn s k = let h = hears_hold p turn s k in record {

@@ -1,11 +1,11 @@
 -- Worked facts of what is outstanding: two guests of 4 pages on 6 frames, of which first the one is to give 2 pages, and then the other is to give 1.
-use Rattle.std.proofs.Common.{◌≡◌, ℕ, zero, suc, ◌≤◌, Bool, true, false, List, [], ◌∷◌, map, inl, get_or, Some, refl, subst, arith}
+use Rattle.std.proofs.Common.{◌≡◌, ℕ, zero, suc, ◌+◌, ◌≤◌, ◌<◌, Bool, true, false, List, [], ◌∷◌, map, inl, inr, get_or, Some, refl, subst, arith}
 use Rattle.std.specs.List.{AllByRecursion}
-use Rattle.vb_host.specs.Lending.{held_at, may_grant, test_at}
+use Rattle.vb_host.specs.Lending.{held_at, may_grant, owed, test_at, value_at}
 use Rattle.vb_host.specs.Line.{GrantsNone}
-use Rattle.vb_host.specs.Outstanding.{AllGiveEnough, GivesEnough, HasEnough, HasRound, IsAimed, IsAsBefore, IsGranted, IsTargeted, Move}
-use Rattle.vb_host.specs.Outstanding.{all_need, all_outstanding, by_moves, has_round, is_counted, moved, needs, outstanding, staying}
-use Rattle.vb_host.specs.Seats.{covers}
+use Rattle.vb_host.specs.Outstanding.{AllGiveEnough, GivesEnough, HadRounds, HasEnough, HasRound, IsAimed, IsAsBefore, IsGranted, IsTargeted, Move}
+use Rattle.vb_host.specs.Outstanding.{all_need, all_outstanding, by_moves, has_round, is_counted, moved, needs, outstanding, outstanding_at, staying}
+use Rattle.vb_host.specs.Seats.{asked, covers}
 use Rattle.vb_host.specs.System.{Budget, Confirms, Does, Drops, Grants, Guest, Hears, Holds, Host, Limits, Obeys, Reads, Reports, Sends, Step, Targets, Wants}
 use Rattle.vb_host.specs.System.{arriving, lending, opened, seats, through}
 use Rattle.vb_host.proofs.Lists.{some_is}
@@ -94,6 +94,34 @@ none_left = record { none_covered = covered; no_room = inl nobody } where
   nobody zero = refl
   nobody (suc zero) = refl
   nobody (suc (suc n)) = refl
+
+had_rounds : HadRounds both moves
+had_rounds = record { aimed = are_aimed; enough = give_enough; each = rounds_of; granted = none_left } where
+  rounds_of : (k : ℕ) → 0 < outstanding_at both k → has_round k moves ≡ true
+  rounds_of zero w = refl
+  rounds_of (suc zero) w = refl
+  rounds_of (suc (suc k)) w = let e : 0 < 0 = w in absurd (omega (arith, e))
+
+-- the second had no round, the first had one of too few pages, and the first may be granted
+had_not : (HadRounds both (HasRound 0 0 ∷ []) → ⊥) × (HadRounds before (HasRound 0 1 ∷ []) → ⊥) × (HadRounds both (HasRound 0 0 ∷ HasRound 1 1 ∷ []) → ⊥)
+had_not = (
+  λ r. let e : false ≡ true = r.each 1 (omega arith) in absurd (cc),
+  λ r. too_few.0 r.enough.0,
+  λ r. elim r.granted.no_room [
+    | inl none ↦ let e : 1 ≡ 0 = none 0 in absurd (omega (arith, e))
+    | inr first ↦ none_first first.0 first.1.waits first.2
+  ],
+) where
+  none_first : (n : ℕ) → 0 < held_at (seats (by_moves (HasRound 0 0 ∷ HasRound 1 1 ∷ []) both).guests) n
+      → 6 < owed (seats (by_moves (HasRound 0 0 ∷ HasRound 1 1 ∷ []) both).guests) + value_at asked (seats (by_moves (HasRound 0 0 ∷ HasRound 1 1 ∷ []) both).guests) n → ⊥
+  none_first zero w l = let e : 6 < 6 = l in omega (arith, e)
+  none_first (suc zero) w l = let e : 0 < 0 = w in omega (arith, e)
+  none_first (suc (suc n)) w l = let e : 0 < 0 = w in omega (arith, e)
+
+-- the first still holds back what was granted, until its next round
+receives : (of_each (λ g. g.process.held) (by_moves moves both) ≡ 1 ∷ 0 ∷ []) × (of_each (λ g. g.process.held) (by_moves (HasRound 1 0 ∷ []) (by_moves moves both)) ≡ 1 ∷ 0 ∷ [])
+    × (of_each (λ g. g.process.held) (by_moves (HasRound 0 0 ∷ []) (by_moves moves both)) ≡ 0 ∷ 0 ∷ [])
+receives = (refl, refl, refl)
 
 -- on 5 frames the host is short: all have given, and the first waits on
 abbrev short : Host

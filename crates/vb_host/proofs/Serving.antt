@@ -6,7 +6,7 @@ use Rattle.std.specs.List.{AllByRecursion}
 use Rattle.vb_host.specs.declared.seat.Seat.{Seat}
 use Rattle.vb_host.specs.Lending.{each_at, held_at, may_grant, owed, room, value_at, waited}
 use Rattle.vb_host.specs.Line.{GrantsNone}
-use Rattle.vb_host.specs.Outstanding.{AllGiveEnough, GivesEnough, HasRound, InEachState, IsAimed, IsAsBefore, IsGranted, IsTargeted, Move}
+use Rattle.vb_host.specs.Outstanding.{AllGiveEnough, GivesEnough, HadRounds, HasRound, InEachState, IsAimed, IsAsBefore, IsGranted, IsTargeted, Move}
 use Rattle.vb_host.specs.Outstanding.{all_need, all_outstanding, by_moves, has_round, moved, needs, outstanding, outstanding_at, staying}
 use Rattle.vb_host.specs.Rounds.{round}
 use Rattle.vb_host.specs.Seats.{asked, granting, lent, reclaimed, retargeted, waits}
@@ -62,7 +62,7 @@ sum_of_none value (x ∷ xs) h = omega (arith, h 0, sum_of_none value xs (λ k. 
 
 -- ---- a round
 
-abbrev turn_of : ℕ → ℕ → Host → ℕ
+abbrev pub turn_of : ℕ → ℕ → Host → ℕ
 turn_of n pages h = last_turn_of n pages (through (Confirms n ∷ Limits n ∷ Confirms n ∷ []) h)
 
 abbrev confirmed : Guest → Guest
@@ -71,7 +71,7 @@ confirmed g = record g { limit = confirms g.limit }
 abbrev asked_for : Guest → Guest
 asked_for g = record g { limit = limiting g.known g.seat g.limit }
 
-round_is : (h : Host) (n pages : ℕ) → (moved h (HasRound n pages)).guests ≡ each_at n (rounded (turn_of n pages h) pages) h.guests
+pub round_is : (h : Host) (n pages : ℕ) → (moved h (HasRound n pages)).guests ≡ each_at n (rounded (turn_of n pages h) pages) h.guests
 round_is h n pages =
     let xs = h.guests in
     let a = twice n asked_for confirmed xs _ refl in
@@ -243,17 +243,15 @@ none_or_round : (h : Host) (moves : List Move) (i : ℕ) (b : Bool) → nat_lt 0
 none_or_round h moves i true f t a e r = moves_none h moves i t a e (r (lt_true 0 (outstanding_at h i) f))
 none_or_round h moves i false f t a e r = omega (arith, lt_false 0 (outstanding_at h i) f, (moves_keep h moves t a e).each i)
 
-serves : (h : Host) (moves : List Move) (n : ℕ) → AllByRecursion IsTrusty h.guests → AllByRecursion IsAimed h.guests → AllGiveEnough moves h
-    → ((k : ℕ) → 0 < outstanding_at h k → has_round k moves ≡ true) → GrantsNone (lending (by_moves moves h)) → 0 < held_at (seats (by_moves moves h).guests) n → h.frames < all_need h
-serves h moves n t a e r g w = let k = moves_keep h moves t a e in omega (
+pub serves : (h : Host) (moves : List Move) (n : ℕ) → AllByRecursion IsTrusty h.guests → HadRounds h moves → 0 < held_at (seats (by_moves moves h).guests) n → h.frames < all_need h
+serves h moves n t r w = let k = moves_keep h moves t r.aimed r.enough in omega (
   arith,
   k.frames,
   k.need,
-  waits_for_pages (by_moves moves h) n g w,
-  sum_of_none outstanding (by_moves moves h).guests (λ i. none_or_round h moves i _ refl t a e (r i)),
+  waits_for_pages (by_moves moves h) n r.granted w,
+  sum_of_none outstanding (by_moves moves h).guests (λ i. none_or_round h moves i _ refl t r.aimed r.enough (r.each i)),
 )
 
-pub one_round_each : InEachState (λ h. (moves : List Move) (n : ℕ) → AllByRecursion IsAimed h.guests → AllGiveEnough moves h
-    → ((k : ℕ) → 0 < outstanding_at h k → has_round k moves ≡ true) → GrantsNone (lending (by_moves moves h)) → 0 < held_at (seats (by_moves moves h).guests) n → h.frames < all_need h)
-one_round_each frames overdraft sizes steps moves n a e r g w =
-    serves (through steps (opened frames overdraft sizes)) moves n (run_true (opened frames overdraft sizes) steps (opened_safe frames overdraft sizes).each) a e r g w
+pub one_round_each : InEachState (λ h. (moves : List Move) (n : ℕ) → HadRounds h moves → 0 < held_at (seats (by_moves moves h).guests) n → h.frames < all_need h)
+one_round_each frames overdraft sizes steps moves n r w =
+    serves (through steps (opened frames overdraft sizes)) moves n (run_true (opened frames overdraft sizes) steps (opened_safe frames overdraft sizes).each) r w

@@ -8,16 +8,16 @@ use Rattle.vb_host.specs.Lending.{each_at, next_turn}
 use Rattle.vb_host.specs.Promises.{HasGiven, HasTold, IsQuiet}
 use Rattle.std.specs.List.{AllByRecursion}
 use Rattle.vb_host.specs.Rounds.{IsRegular, IsSettled, round}
-use Rattle.vb_host.specs.Seats.{believed, counting, covers, due_grant, due_target, heard, is_stale, lent, raised, served, waits}
+use Rattle.vb_host.specs.Seats.{due_grant, due_target, heard, lent, waits}
 use Rattle.vb_host.specs.System.{Gives, Grant, Guest, Host, Limit, Order, Process, Reads, Step, Target, by_lender, changed, does, hearing, obeying, obeys, opened}
 use Rattle.vb_host.specs.System.{order_at, report_at, seats, sending, snapshot, through}
 use Rattle.vb_host.proofs.Budget.{opened_safe, run_true}
 use Rattle.vb_host.proofs.Changes.{sends_grant, sends_target}
 use Rattle.vb_host.proofs.Lists.{all_get, some_is}
-use Rattle.vb_host.proofs.Moving.{has_told, target_same, targets_stay}
+use Rattle.vb_host.proofs.Moving.{has_told, target_same}
 use Rattle.vb_host.proofs.Processes.{does_moves, obeys_moves}
 use Rattle.vb_host.proofs.LentBy.{hears_lend}
-use Rattle.vb_host.proofs.Sound.{IsKnown, IsTrusty, and_left, and_right, counts, either, eq_false, eq_true, lt_false, lt_true, queues}
+use Rattle.vb_host.proofs.Sound.{IsKnown, IsTrusty, and_left, and_right, counts, either, eq_false, eq_true, hears, lt_false, lt_true}
 
 -- ---- what the process is then
 
@@ -59,24 +59,12 @@ has_pages p q s r l = omega (arith, r.pages, l)
 -- ---- what a report leaves of the seat
 
 heard_number : (turn : ℕ) (r : Report) (s : Seat) → (heard turn r s).target_number ≡ s.target_number
-heard_number turn r s = let q = believed s r in let t = targets_stay q s in either (λ (x : Seat). x.target_number ≡ s.target_number) (is_stale r s) _ _ (λ _. refl)
-    (λ _. let x = raised r (served (counting q s)) in
-    let e : x.target_number ≡ s.target_number = raised_number r (served (counting q s)) ∙ t.1 in queues (λ (y : Seat). y.target_number ≡ s.target_number) turn s x e (λ _. e)) where
-      raised_number : (r : Report) (s : Seat) → (raised r s).target_number ≡ s.target_number
-      raised_number r s = either (λ (x : Seat). x.target_number ≡ s.target_number) ((r.target_number == s.target_number) && (r.read_target == s.target)) _ _ (λ _. refl) (λ _. refl)
+heard_number turn r s = hears (λ (x : Seat). x.target_number ≡ s.target_number) turn r s (record { granted = λ _ _ e. e; raised_to = λ _ e. e; turned = λ _ _ e. e }) refl
+    (λ q. counts (λ (x : Seat). x.target_number ≡ s.target_number) q s (λ _ _. refl) (λ _. refl))
 
 pub heard_uncounted : (turn : ℕ) (r : Report) (s : Seat) → (heard turn r s).uncounted ≡ s.uncounted
-heard_uncounted turn r s = let q = believed s r in either (λ (x : Seat). x.uncounted ≡ s.uncounted) (is_stale r s) _ _ (λ _. refl)
-    (λ _. let e = raised_same r (served (counting q s)) ∙ (served_same (counting q s) ∙ counted_same q s) in
-    queues (λ (y : Seat). y.uncounted ≡ s.uncounted) turn s (raised r (served (counting q s))) e (λ _. e)) where
-      raised_same : (r : Report) (s : Seat) → (raised r s).uncounted ≡ s.uncounted
-      raised_same r s = either (λ (x : Seat). x.uncounted ≡ s.uncounted) ((r.target_number == s.target_number) && (r.read_target == s.target)) _ _ (λ _. refl) (λ _. refl)
-
-      served_same : (s : Seat) → (served s).uncounted ≡ s.uncounted
-      served_same s = either (λ (x : Seat). x.uncounted ≡ s.uncounted) (covers s) _ _ (λ _. refl) (λ _. refl)
-
-      counted_same : (r : Report) (s : Seat) → (counting r s).uncounted ≡ s.uncounted
-      counted_same r s = counts (λ (x : Seat). x.uncounted ≡ s.uncounted) r s (λ _ _. refl) (λ _. refl)
+heard_uncounted turn r s = hears (λ (x : Seat). x.uncounted ≡ s.uncounted) turn r s (record { granted = λ _ _ e. e; raised_to = λ _ e. e; turned = λ _ _ e. e }) refl
+    (λ q. counts (λ (x : Seat). x.uncounted ≡ s.uncounted) q s (λ _ _. refl) (λ _. refl))
 
 -- ---- nothing is on its way
 
@@ -255,7 +243,7 @@ regular_after turn g r h =
       less_is a b c d e l m = omega (arith, e, l, m)
 
 -- what was granted isn't held back any longer
-granted_drops : (p : Process) (s : Seat) → p.deflates ≡ s.granted → (ordered p s).held ≡ 0
+pub granted_drops : (p : Process) (s : Seat) → p.deflates ≡ s.granted → (ordered p s).held ≡ 0
 granted_drops p s e = either (λ (x : Process). x.held ≡ 0) ((obeys (Target s.target_number s.target) p).deflates == s.granted) _ _
     (λ _. refl) (λ f. absurd (eq_false _ _ f (target_keeps p s ∙ e))) where
       target_keeps : (p : Process) (s : Seat) → (obeys (Target s.target_number s.target) p).deflates ≡ p.deflates

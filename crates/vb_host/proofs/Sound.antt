@@ -1,10 +1,11 @@
 -- What is true of each guest, its process, its messages and what the lender knows of it, in each state.
-use Rattle.std.proofs.Common.{◌≡◌, ◌≢◌, ℕ, ◌+◌, ◌-◌, ◌<◌, ◌≤◌, Bool, true, false, ◌&&◌, ◌||◌, ◌==◌, nat_lt, nat_le, if◌then◌else◌, List, [], ◌∷◌, refl, arith}
+use Rattle.std.proofs.Common.{◌≡◌, ◌≢◌, ℕ, ◌+◌, ◌-◌, ◌<◌, ◌≤◌, Bool, true, false, ◌&&◌, ◌||◌, ◌==◌, nat_lt, nat_le, if◌then◌else◌, List, [], ◌∷◌, max, refl, arith}
 use Rattle.std.proofs.lemmas.Bool.Decides.{nat_tests}
 use Rattle.std.specs.List.{AllByRecursion}
 use Rattle.vb_host.specs.declared.report.Report.{Report}
 use Rattle.vb_host.specs.declared.seat.Seat.{Seat}
-use Rattle.vb_host.specs.Seats.{believed, counting, holding, is_news, is_uncounted, keeps_turn, noting, queuing, remembered, waits}
+use Rattle.vb_host.specs.Seats.{believed, counting, covers, granting, heard, holding, is_news, is_stale, is_uncounted, keeps_turn, noting, queuing, raised, remembered}
+use Rattle.vb_host.specs.Seats.{served, waits}
 use Rattle.vb_host.specs.System.{Grant, Guest, Order, Process, Target}
 
 -- Of a guest's pages P, its balloon b, the deflate that its process holds h, the number of that one d, the pages that were taken away x and those outside o,
@@ -122,6 +123,22 @@ notes P ballooned held r s h k = either (λ (x : Seat). P (holding held r x)) (i
 pub counts : (P : Seat → Type 0) (r : Report) (s : Seat) → ((ballooned held : ℕ) → P (holding held r (remembered ballooned r s))) → ((held : ℕ) → P (holding held r s)) → P (counting r s)
 counts P r s h k = either P (r.deflates == s.granted) _ _ (λ _. notes P (r.ballooned - r.held) 0 r s (λ _. h (r.ballooned - r.held) 0) (λ _. k 0))
     (λ _. notes P r.ballooned r.held r s (λ _. h r.ballooned r.held) (λ _. k r.held))
+
+-- What a report leaves true, whatever numbers it has: what its count, the grant of a covered deflate, a raised target and a turn do.
+pub record Stays (P : Seat → Type 0) : Type 0 where
+  pub granted : (s : Seat) → covers s ≡ true → P s → P (granting s)
+  pub raised_to : (s : Seat) → P s → P (record s { least_target = max s.least_target s.target })
+  pub turned : (s : Seat) (turn : ℕ) → P s → P (record s { turn = turn; deferred = 0 })
+
+pub after_counting : (P : Seat → Type 0) (turn : ℕ) (r q : Report) (s : Seat) → Stays P → P (counting q s) → P (queuing turn s (raised r (served (counting q s))))
+after_counting P turn r q s t h =
+    let x = served (counting q s) in
+    let a : P x = either P (covers (counting q s)) _ _ (λ e. t.granted (counting q s) e h) (λ _. h) in
+    let b : P (raised r x) = either P ((r.target_number == x.target_number) && (r.read_target == x.target)) _ _ (λ _. t.raised_to x a) (λ _. a) in
+    queues P turn s (raised r x) b (λ n. t.turned (raised r x) n b)
+
+pub hears : (P : Seat → Type 0) (turn : ℕ) (r : Report) (s : Seat) → Stays P → P s → ((q : Report) → P (counting q s)) → P (heard turn r s)
+hears P turn r s t h c = either P (is_stale r s) _ _ (λ _. h) (λ _. after_counting P turn r (believed s r) s t (c (believed s r)))
 
 -- what a report shows
 pub believes : (P : Report → Type 0) (r : Report) (s : Seat) → (0 < s.uncounted → P (record r { ballooned = 0 })) → (s.uncounted ≡ 0 → P r) → P (believed s r)

@@ -115,13 +115,24 @@ WaitsForPages =
     (h : Host) (n : ℕ) → GrantsNone (lending h) → 0 < held_at (seats h.guests) n
     → h.frames < all_need h + all_outstanding h
 
--- So once each guest that has something to give had one round, whatever the lender granted and
--- which targets it set meanwhile, a guest waits after the next step only if the host is short: if
--- all need more than the frames.
+-- Each guest that has something to give had a round, whatever the lender granted and which targets
+-- it set meanwhile; and it can grant no guest now, as after a step.
+pub record HadRounds (h : Host) (moves : List Move) : Type 0 where
+  pub aimed : AllByRecursion IsAimed h.guests
+  pub enough : AllGiveEnough moves h
+  pub each : (k : ℕ) → 0 < outstanding_at h k → has_round k moves ≡ true
+  pub granted : GrantsNone (lending (by_moves moves h))
+
+-- Then a guest waits only if the host is short: if all need more than the frames.
 abbrev pub OneRoundEach : Type 0
-OneRoundEach = InEachState (λ h. (moves : List Move) (n : ℕ)
-    → AllByRecursion IsAimed h.guests → AllGiveEnough moves h
-    → ((k : ℕ) → 0 < outstanding_at h k → has_round k moves ≡ true)
-    → GrantsNone (lending (by_moves moves h))
-    → 0 < held_at (seats (by_moves moves h).guests) n
-    → h.frames < all_need h)
+OneRoundEach = InEachState (λ h. (moves : List Move) (n : ℕ) → HadRounds h moves
+    → 0 < held_at (seats (by_moves moves h).guests) n → h.frames < all_need h)
+
+-- If it isn't short, the process of a strict guest that the lender knows holds back nothing after
+-- its next round: it has received its grant.
+abbrev pub TwoRoundsEach : Type 0
+TwoRoundsEach = InEachState (λ h. (moves later : List Move) (n : ℕ) (g : Guest)
+    → HadRounds h moves → all_need h ≤ h.frames → has_round n moves ≡ true
+    → has_round n later ≡ true
+    → slice_get (by_moves later (by_moves moves h)).guests n ≡ Some g
+    → g.strict ≡ true → g.known ≡ true → g.process.held ≡ 0)

@@ -14,7 +14,7 @@ ghost use Rattle.vb_host.specs.Patience.{NonePasses, StaysDeferred, EndsWithItsW
 ghost use Rattle.vb_host.specs.Promises.{Uncounted, StaysUncounted, UncountedHasAll};
 ghost use Rattle.vb_host.specs.Rounds.{RoundsSettle, TwoRoundsSuffice};
 ghost use Rattle.vb_host.specs.Outstanding.{RoundsPay, OwnMovesChangeNone, WaitsForPages};
-ghost use Rattle.vb_host.specs.Outstanding.{OneRoundEach};
+ghost use Rattle.vb_host.specs.Outstanding.{OneRoundEach, TwoRoundsEach};
 ghost use Rattle.vb_host.specs.System.{Host};
 ghost use Rattle.std.specs.Prelude.{ℕ};
 
@@ -118,13 +118,18 @@ pub fn one_round_settles()
 {}
 
 /// A round of a guest leaves it nothing to give, and no grant and no target changes what all still
-/// have to give; once each guest that has something to give had one, none waits after the next
-/// step, unless all need more than the frames.
-pub fn one_round_each_serves_all()
+/// have to give; where a guest waits after a step, that and what all need is more than the frames.
+pub fn a_round_leaves_nothing_to_give()
     ensures pay { RoundsPay }
     ensures own { OwnMovesChangeNone }
     ensures waits { WaitsForPages }
+{}
+
+/// Once each guest that has something to give had one round, none waits after the next step, unless
+/// all need more than the frames; and after another one no process holds back a deflate.
+pub fn one_round_each_serves_all()
     ensures serve { OneRoundEach }
+    ensures receive { TwoRoundsEach }
 {}
 
 /// A step has one outcome, and leaves nothing to grant, and no target that may be nearer to what is

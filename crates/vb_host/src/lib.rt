@@ -16,10 +16,11 @@ mod turns;
 
 pub use event::Event;
 pub use laws::{
-    a_lower_budget_takes_effect, grants_go_in_turn, never_stuck_unless_short, none_is_passed,
-    one_lets_others_pass, one_proceeds, one_round_each_serves_all, one_round_settles, reports_tell,
-    steps_settle, targets_leave_room, the_budget_holds, the_lender_is_the_systems, the_limits_hold,
-    toward_a_target_never_waits, uncounted_stays,
+    a_lower_budget_takes_effect, a_round_leaves_nothing_to_give, grants_go_in_turn,
+    never_stuck_unless_short, none_is_passed, one_lets_others_pass, one_proceeds,
+    one_round_each_serves_all, one_round_settles, reports_tell, steps_settle, targets_leave_room,
+    the_budget_holds, the_lender_is_the_systems, the_limits_hold, toward_a_target_never_waits,
+    uncounted_stays,
 };
 pub use least::{least_budget, the_least_budget_suffices};
 pub use lending::{happen, step};
