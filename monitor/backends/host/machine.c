@@ -39,7 +39,7 @@ static bool read_available(const struct machine *machine, uint32_t *pages)
         return false;
     const char *at = strstr(text, name);
     uint64_t kibibytes = at ? strtoull(at + sizeof name - 1, &end, 10) : 0;
-    if (!at || false)
+    if (!at || strncmp(end, " kB\n", 4) != 0)
         return errno = ENODATA, false;
     uint64_t number = kibibytes / PAGE_KIB;
     *pages = number < UINT32_MAX ? (uint32_t)number : UINT32_MAX;
