@@ -60,13 +60,24 @@ void seat_retell(struct seat *seat)
         tell_target(seat);
 }
 
+/* Whether a strict guest is to get pages back that others give first. */
+static bool one_lacks_pages(const struct host *host)
+{
+    for (unsigned i = 0; i < host->count; i++)
+        if (host->seats[i]->holds && host->seats[i]->target < seat_told(host->seats[i]))
+            return true;
+    return false;
+}
+
 /* What a guest may be asked for at once: all of its target, unless a step is smaller, the host is
- * within its budget, and nobody waits for pages. */
+ * within its budget, and nobody waits for pages, or is to get some that others give first. */
 static bool goes_by_steps(const struct seat *seat)
 {
     const struct host *host = seat->host;
-    bool is_calm = host_held(host) <= host->frames * UINT64_C(4) && !places_wait(host);
-    return host->step > 0 && seat->target > seat_told(seat) && is_calm;
+    if (host->step == 0 || seat->target <= seat_told(seat))
+        return false;
+    return host_held(host) <= host->frames * UINT64_C(4) && !places_wait(host) &&
+           !one_lacks_pages(host);
 }
 
 /* What is wanted of it without steps: what was decided. Of a guest whose driver isn't there nothing
