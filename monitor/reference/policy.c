@@ -2,21 +2,6 @@
 #include "reference.h"
 #include "vb_policy.h"
 
-static Sum less(Sum one, Sum other)
-{
-    return one < other ? one : other;
-}
-
-static Sum more(Sum one, Sum other)
-{
-    return one > other ? one : other;
-}
-
-static Sum beyond(Sum one, Sum other)
-{
-    return one > other ? one - other : 0;
-}
-
 /* ---- one guest, by its figures */
 
 static bool is_lent(const VbFigures *it)
@@ -293,63 +278,4 @@ VbDecision vb_policy_decide(const VbPolicyBudget *budget, const VbFigures *figur
             set(&level, lack, targets);
     }
     return decision;
-}
-
-/* ---- pressure */
-
-enum { COUNTERS = 6, KILLS = 2 }; /* in the order of a sample */
-
-static void counters_of(const VbSample *sample, VbCounter counters[COUNTERS])
-{
-    const VbCounter its[COUNTERS] = {sample->swap_in, sample->swap_out,    sample->oom_kills,
-                                     sample->stalls,  sample->direct_scan, sample->direct_reclaim};
-    for (unsigned i = 0; i < COUNTERS; i++)
-        counters[i] = its[i];
-}
-
-/* Whether the balloon inflated between two samples. */
-static bool inflated(const VbSample *last, const VbSample *sample)
-{
-    return sample->ballooned > last->ballooned || last->target > last->ballooned ||
-           sample->target > sample->ballooned;
-}
-
-VbPressure vb_policy_press(const VbPressure *pressure, const VbSample *sample, uint64_t now)
-{
-    VbCounter last[COUNTERS], its[COUNTERS];
-    Sum until = now, latest = less((Sum)now + VB_KILLED_MS, UINT64_MAX);
-    counters_of(&pressure->last, last);
-    counters_of(sample, its);
-    for (unsigned i = 0; i < COUNTERS; i++) {
-        bool rises = last[i].present && its[i].present && its[i].value > last[i].value;
-        if (rises && i == KILLS)
-            until = more(until, (Sum)now + VB_KILLED_MS);
-        else if (rises && !inflated(&pressure->last, sample))
-            until = more(until, (Sum)now + VB_PRESSED_MS);
-        its[i] = its[i].present ? its[i] : last[i];
-    }
-    return (VbPressure){
-        .last = {its[0], its[1], its[2], its[3], its[4], its[5], sample->ballooned, sample->target},
-        .until = (uint64_t)less(latest, more(until, pressure->until))};
-}
-
-uint32_t vb_policy_pressed(const VbPressure *pressure, uint64_t now)
-{
-    return now < pressure->until;
-}
-
-/* ---- a machine */
-
-uint32_t vb_policy_budget(const VbMachine *machine)
-{
-    Sum budget = machine->budget, step = machine->step,
-        all = (Sum)machine->held + machine->available;
-    Sum left = all > machine->keep ? all - machine->keep : 0,
-        next = less(budget + step, UINT32_MAX);
-    if (machine->pressed)
-        left = less(left, budget > step ? budget - step : 0);
-    if (left >= next || left >= machine->most)
-        budget = next;
-    budget = less(less(budget, left), machine->most);
-    return (uint32_t)more(budget, less(machine->least, machine->most));
 }

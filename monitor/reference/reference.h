@@ -91,6 +91,22 @@ Used use(VbDevice *device, uint32_t kind, VbQueue *queue, uint32_t head);
 
 /* targets.c: sums of any number of pages, and which guest gives before another */
 typedef unsigned __int128 Sum;
+
+static inline Sum less(Sum one, Sum other)
+{
+    return one < other ? one : other;
+}
+
+static inline Sum more(Sum one, Sum other)
+{
+    return one > other ? one : other;
+}
+
+static inline Sum beyond(Sum one, Sum other)
+{
+    return one > other ? one - other : 0;
+}
+
 Sum missing_pages(const VbNeed *needs, size_t count, uint32_t frames);
 bool gives_before(const VbNeed *needs, size_t guest, size_t other);
 Sum spared_before(const VbNeed *needs, size_t count, size_t guest);
