@@ -1,6 +1,7 @@
 """The manual of the programs: each page is well formed, what it shows happens, and it names each
 command, option and key that there is. And the completion for bash, in a bash."""
 
+import configparser
 import os
 import re
 import shlex
@@ -9,12 +10,14 @@ import subprocess
 
 import pytest
 from bigvasta.cli import parser
+from bigvasta.connection import Connection
 from hosts import Host
 from installed import CLIENT
 from linux_kit import ROOT
 from waiting import PATIENCE, patience_from_now
 
 MAN = os.path.join(ROOT, "docs", "man")
+SIZES = ("overdraft", "least", "overhead")
 PAGES = ("bigvasta.1", "bigvasta-host.conf.5", "vhost_user_host.1", "vhost_user_balloon.1")
 
 
@@ -151,6 +154,33 @@ def test_the_page_of_the_configuration_names_each_key():
     for section, key in keys:
         assert f"\n.B {key}\n" in "\n" + sections[section], (section, key)
     assert sum(it.count("\n.B ") + it.startswith(".B ") for it in sections.values()) == len(keys)
+
+
+def defaults():
+    """Yields each key of the configuration with what its page says that holds without it."""
+    sections = re.findall(
+        r"(?ms)^\.SH \[(\w+)[^\]]*\]\n(.*?)(?=^\.SH)", page("bigvasta-host.conf.5")
+    )
+    for section, text in sections:
+        for key, words in re.findall(r"(?ms)^\.B (\w+)\n(.*?)(?=^\.TP|\Z)", text):
+            found = re.search(r"\((\w+)\)", words)
+            if found and f".B {found[1]}\n" not in text:  # what another key says
+                yield (section, key), found[1]
+
+
+def test_what_is_not_said_is_as_the_page_of_the_configuration_has_it(program, folder):
+    words = [program, str(folder), "--budget", "480"]
+    with subprocess.Popen(words, stdin=subprocess.PIPE, stdout=subprocess.PIPE, text=True) as it:
+        assert it.stdout.readline() == "ready\n"
+        with Connection(f"{folder}/.control") as control:
+            control.ask("add", name="a")
+            text = control.ask("config")["config"]
+        it.communicate("quit\n", timeout=PATIENCE)
+    said = configparser.ConfigParser()
+    said.read_string(text.replace("[guest a]", "[guest]"))
+    wanted = {it: "0K" if it[1] in SIZES and value == "0" else value for it, value in defaults()}
+    found = {(section, key): said[section].get(key, "none") for section, key in wanted}
+    assert found == wanted and len(wanted) == 14, wanted
 
 
 # What is typed, and what it may become.
