@@ -39,8 +39,8 @@ def heard(host):
 class Coming(Client):
     """A guest whose memory waits for room."""
 
-    def __init__(self, host, name):
-        host.ask("add", name=name)
+    def __init__(self, host, name, **fields):
+        host.ask("add", name=name, **fields)
         super().__init__(f"{host.folder}/{name}")
         self.negotiate()
         self.thread = threading.Thread(target=self.come, daemon=True)

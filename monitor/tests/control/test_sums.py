@@ -1,0 +1,68 @@
+"""What a host counts of its guests: one waits, one is silent, one took memory back unasked, and the
+work of one waits for memory."""
+
+import struct
+
+from hosts import FREE_MEMORY, Answering
+from test_waits import GIVEN, GUEST, Coming
+from vhost_client import BUFFERS, DEFLATE, INFLATE, PAGE, STATISTICS
+from waiting import eventually
+
+# The tag of allocations that waited for reclaim (Linux 6.12).
+STALLS = 11
+
+# Of each count of a host: whether a guest is one of those, or how much of it it has.
+COUNTS = {
+    "guests": lambda it: 1,
+    "waiting": lambda it: it["waits_for"] != "nothing",
+    "silent": lambda it: it["state"] == "ready" and not it["answers"],
+    "uncooperative": lambda it: not it["cooperates"],
+    "pressed": lambda it: it["pressed"],
+    "held": lambda it: it["held"],
+    "lent": lambda it: it["loan"],
+}
+
+
+class Stalling(Answering):
+    """A guest of whose allocations one more has waited at each question."""
+
+    stalls = 0
+
+    def tell(self):
+        """Posts statistics."""
+        self.stalls += 1
+        data = struct.pack("<HQHQ", FREE_MEMORY, self.free * PAGE, STALLS, self.stalls)
+        self.client.write(BUFFERS + PAGE, data)
+        self.client.describe(STATISTICS, 0, BUFFERS + PAGE, len(data))
+        self.client.publish(STATISTICS, 0)
+        self.client.kick(STATISTICS)
+
+
+def come_all(host, arrive):
+    """Has a guest of each kind come; returns those that are to go."""
+    taker, silent = arrive("taker"), arrive("silent")
+    host.ask("add", name="stalls")
+    stalls = Stalling(host, "stalls")
+    eventually(lambda: all(it["answers"] for it in host.ask("status")["guests"]))
+    taker.client.post_pages(INFLATE, GIVEN)
+    eventually(lambda: host.guest("taker")["ballooned"] == len(GIVEN) * PAGE)
+    host.ask("guest", name="taker", target=len(GIVEN) * PAGE)
+    taker.client.post_pages(DEFLATE, GIVEN[:10])
+    eventually(lambda: not host.guest("taker")["cooperates"])
+    silent.stop()
+    host.ask("budget", bytes=3 * GUEST)
+    return stalls, Coming(host, "late", strict=True)
+
+
+def test_each_count_of_a_host_is_that_of_its_guests(host, arrive):
+    here = come_all(host, arrive)
+
+    def differ():
+        status = host.ask("status")
+        sums = {name: sum(map(of, status["guests"])) for name, of in COUNTS.items()}
+        found = {name: status["host"][name] for name in COUNTS}
+        return None if found == sums and all(found.values()) else (found, sums)
+
+    eventually(lambda: differ() is None, differ)
+    for it in here:
+        it.leave()
