@@ -1,7 +1,9 @@
 """`bigvasta fleet`: a line a host, by its socket or the URL of its server; hosts that don't answer;
 and which has room for another guest, by values worked out by hand."""
 
+import contextlib
 import json
+import socket
 import threading
 
 import pytest
@@ -160,6 +162,32 @@ def test_a_host_that_does_not_answer(capsys, monkeypatch, hosts, folder, says, s
     answer = json.loads(capsys.readouterr().out)
     assert (answer["at"], answer["ok"]) == (f"{folder}/none", False)
     away.close()
+
+
+# What a server says that is none of bigvasta's, and what is said of it.
+STRANGERS = (
+    (b"", "the host went away amid an answer"),
+    (b"SSH-2.0-x\r\n", "the host went away amid an answer"),
+    (b"HTTP/1.1 200 OK\r\n\r\n<html>\n", "the host's answer is no JSON"),
+    (b"HTTP/1.1 200 OK\r\n\r\n{}\n", "the host doesn't speak version 1 of the protocol"),
+    (b"x" * (3 << 20), "the host's answer is too long"),
+)
+
+
+def answer_one(server, says):
+    """Says these bytes to a client."""
+    client, _ = server.accept()
+    with client, contextlib.suppress(OSError):
+        client.recv(1 << 16)
+        client.sendall(says)
+
+
+@pytest.mark.parametrize("says, said", STRANGERS, ids=("none", "ssh", "page", "object", "long"))
+def test_a_server_of_another_kind(capsys, says, said):
+    with socket.create_server(("127.0.0.1", 0)) as server:
+        threading.Thread(target=answer_one, args=(server, says), daemon=True).start()
+        code, lines = cells(capsys, f"http://127.0.0.1:{server.getsockname()[1]}")
+    assert code == 3 and " ".join(lines[1]).endswith(said), lines
 
 
 def test_nobody_waits_for_one_that_is_stuck(capsys, monkeypatch, hosts):
