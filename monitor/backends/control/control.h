@@ -97,4 +97,7 @@ void control_serve(struct control *control, struct host *host);
 /* Once in each turn of the host's loop: tells followers what has happened since the last call. */
 void control_look(struct control *control, struct host *host);
 
+/* Whether anybody is there for whom to look, or couldn't be taken. */
+bool control_has_clients(const struct control *control);
+
 #endif

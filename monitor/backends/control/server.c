@@ -241,6 +241,14 @@ static void look(struct control_socket *its)
             settle(its, i);
 }
 
+bool control_has_clients(const struct control *control)
+{
+    bool has = false;
+    for (unsigned i = 0; i < CONTROL_SOCKETS; i++)
+        has |= control->sockets[i].counters.clients > 0 || control->sockets[i].rests;
+    return has;
+}
+
 void control_look(struct control *control, struct host *host)
 {
     events_look(control, host);

@@ -229,7 +229,8 @@ static void waits(void *context, struct loop *loop)
     struct service *service = context;
     loop_wait_for(loop, service->control.waits, POLLIN, serve_clients, service);
     loop_wait_for(loop, service->hangup, POLLIN, take_hangup, service);
-    loop_wait_until(loop, service->look);
+    if (control_has_clients(&service->control))
+        loop_wait_until(loop, service->look);
     if (service->every > 0)
         loop_wait_until(loop, service->word);
 }

@@ -92,6 +92,15 @@ def test_calls_of_a_lender_that_asks(lend, come):
         assert fewest(ask(it) for it in range(ROUNDS)) == {"sendto": 1, "recvmsg": 1}
 
 
+def test_a_lender_sleeps_where_nobody_follows(lend, come):
+    """Once a line is answered, until its guests are to be looked at."""
+    lender = lend(1, *SELDOM)
+    come(lender, "a", {FREE: 100})
+    with calls_of(lender.process.pid) as calls:
+        lender.counters()
+        calls.until_it_sleeps()
+
+
 def part_with_two_orders(calls):
     """Returns which part of the turns with orders have two, of the next TURNS at least."""
     calls.forget()
