@@ -65,6 +65,16 @@ def test_the_lender_has_no_file_of_a_client(lend, come):
         assert "memfd" not in maps.read()
 
 
+def test_a_lender_allows_itself_files_for_all_guests_and_clients(plain, tmp_path):
+    """Four for each of 64 guests, and one for each of 256 clients of two control sockets."""
+    words = ["sh", "-c", 'ulimit -S -n 50; exec "$0" "$@"', plain, str(tmp_path), "--budget", "5"]
+    with subprocess.Popen(words, stdin=subprocess.PIPE, stdout=subprocess.PIPE, text=True) as host:
+        assert host.stdout.readline() == "ready\n"
+        most, _ = resource.prlimit(host.pid, resource.RLIMIT_NOFILE)
+        host.communicate("quit\n", timeout=PATIENCE)
+    assert host.returncode == 0 and most >= 4 * 64 + 2 * 256
+
+
 # Files that a lender opens as a client comes, before it closes any: the ends of a channel, a socket
 # for a later lender, and three that it hands on.
 FILES_OF_COMING = 6
