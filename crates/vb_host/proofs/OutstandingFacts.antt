@@ -1,9 +1,10 @@
 -- Worked facts of what is outstanding: two guests of 4 pages on 6 frames, of which first the one is to give 2 pages, and then the other is to give 1.
-use Rattle.std.proofs.Common.{◌≡◌, ℕ, zero, suc, ◌+◌, ◌≤◌, ◌<◌, Bool, true, false, List, [], ◌∷◌, map, inl, inr, get_or, Some, refl, subst, arith}
+use Rattle.std.proofs.Common.{◌≡◌, ℕ, zero, suc, ◌+◌, ◌-◌, ◌≤◌, ◌<◌, Bool, true, false, List, [], ◌∷◌, map, inl, inr, get_or, Some, refl, subst, arith}
 use Rattle.std.specs.List.{AllByRecursion}
-use Rattle.vb_host.specs.Lending.{held_at, may_grant, owed, test_at, value_at}
-use Rattle.vb_host.specs.Line.{GrantsNone}
-use Rattle.vb_host.specs.Outstanding.{AllGiveEnough, GivesEnough, HadRounds, HasEnough, HasRound, IsAimed, IsAsBefore, IsGranted, IsTargeted, Move}
+use Rattle.vb_host.specs.declared.seat.Seat.{Seat}
+use Rattle.vb_host.specs.Lending.{held_at, may_grant, owed, rank_at, test_at, value_at}
+use Rattle.vb_host.specs.Line.{GrantsNone, IsFirst}
+use Rattle.vb_host.specs.Outstanding.{AllGiveEnough, GivesEnough, HadRounds, HasEnough, HasRound, IsAimed, IsAsBefore, IsGranted, IsTargeted, Move, WaitsForPages}
 use Rattle.vb_host.specs.Outstanding.{all_need, all_outstanding, by_moves, has_round, is_counted, moved, needs, outstanding, outstanding_at, staying}
 use Rattle.vb_host.specs.Seats.{asked, covers}
 use Rattle.vb_host.specs.System.{Budget, Confirms, Does, Drops, Grants, Guest, Hears, Holds, Host, Limits, Obeys, Reads, Reports, Sends, Step, Targets, Wants}
@@ -95,12 +96,13 @@ none_left = record { none_covered = covered; no_room = inl nobody } where
   nobody (suc zero) = refl
   nobody (suc (suc n)) = refl
 
+rounds_of : (k : ℕ) → 0 < outstanding_at both k → has_round k moves ≡ true
+rounds_of zero w = refl
+rounds_of (suc zero) w = refl
+rounds_of (suc (suc k)) w = let e : 0 < 0 = w in absurd (omega (arith, e))
+
 had_rounds : HadRounds both moves
-had_rounds = record { aimed = are_aimed; enough = give_enough; each = rounds_of; granted = none_left } where
-  rounds_of : (k : ℕ) → 0 < outstanding_at both k → has_round k moves ≡ true
-  rounds_of zero w = refl
-  rounds_of (suc zero) w = refl
-  rounds_of (suc (suc k)) w = let e : 0 < 0 = w in absurd (omega (arith, e))
+had_rounds = record { aimed = are_aimed; enough = give_enough; each = rounds_of; granted = none_left }
 
 -- the second had no round, the first had one of too few pages, and the first may be granted
 had_not : (HadRounds both (HasRound 0 0 ∷ []) → ⊥) × (HadRounds before (HasRound 0 1 ∷ []) → ⊥) × (HadRounds both (HasRound 0 0 ∷ HasRound 1 1 ∷ []) → ⊥)
@@ -129,6 +131,28 @@ short = by_moves moves (through (Budget 5 ∷ []) both)
 
 is_short : (of_each outstanding short ≡ 0 ∷ 0 ∷ []) × (all_need short ≡ 6) × (short.frames ≡ 5) × (waits_each short ≡ 1 ∷ 0 ∷ []) × (may_each short ≡ false ∷ false ∷ [])
 is_short = (refl, refl, refl, refl, refl)
+
+-- where the first of two waits for a page, and the second doesn't wait
+first_waits : (xs : List Seat) → held_at xs 0 ≡ 1 → ((i : ℕ) → held_at xs (suc i) ≡ 0) → IsFirst xs 0
+first_waits xs e none = record { waits = omega (arith, e); before_all = after; lowest = λ i l. absurd (omega (arith, l)) } where
+  after : (i : ℕ) → 0 < held_at xs i → rank_at xs 0 ≤ rank_at xs i
+  after zero w = omega arith
+  after (suc i) w = absurd (omega (arith, w, none i))
+
+waits_on : GrantsNone (lending heard_first)
+waits_on = record { none_covered = covered; no_room = inr (0, first_waits (seats heard_first.guests) refl others, omega arith) } where
+  covered : (n : ℕ) → test_at covers (seats heard_first.guests) n ≡ false
+  covered zero = refl
+  covered (suc zero) = refl
+  covered (suc (suc n)) = refl
+
+  others : (i : ℕ) → held_at (seats heard_first.guests) (suc i) ≡ 0
+  others zero = refl
+  others (suc i) = refl
+
+-- a page is enough to wait for, and it goes deeper than the target
+one_page : (WaitsForPages → 6 < 7) × ((number 0 heard_first).seat.ballooned - (number 0 heard_first).seat.held ≡ 1) × ((number 0 heard_first).seat.target ≡ 2)
+one_page = (λ law. law heard_first 0 waits_on (omega arith), refl, refl)
 
 -- where a target is below what is wanted, a round isn't enough
 abbrev unaimed : Host

@@ -1,17 +1,20 @@
 -- Once each guest had a round, and another one, no process holds back a deflate, unless the host is short.
-use Rattle.std.proofs.Common.{◌≡◌, ◌≢◌, ℕ, zero, suc, ◌<◌, ◌≤◌, ◌⊎◌, ◌==◌, Bool, true, false, nat_lt, inl, inr, List, [], ◌∷◌, Some, refl, sym, subst, ap, ◌∙◌, arith}
+use Rattle.std.proofs.Common.{◌≡◌, ◌≢◌, ℕ, zero, suc, ◌-◌, ◌<◌, ◌≤◌, ◌⊎◌, ◌==◌, ◌&&◌, Bool, true, false, nat_lt, if◌then◌else◌, inl, inr, List, [], ◌∷◌, Some, refl, sym, subst, ap, ◌∙◌, arith}
+use Rattle.std.proofs.lemmas.Bool.Decides.{nat_tests}
 use Rattle.std.specs.Prelude.{⊤, slice_get}
 use Rattle.std.specs.List.{AllByRecursion}
 use Rattle.vb_host.specs.declared.seat.Seat.{Seat}
 use Rattle.vb_host.specs.Lending.{each_at, held_at, may_grant, room, test_at}
+use Rattle.vb_host.specs.Line.{GrantsNone}
 use Rattle.vb_host.specs.Outstanding.{HadRounds, HasRound, InEachState, IsGranted, IsTargeted, Move, all_need, by_moves, has_round, moved}
 use Rattle.vb_host.specs.Rounds.{round}
-use Rattle.vb_host.specs.Seats.{granting, heard, retargeted, waits}
+use Rattle.vb_host.specs.Seats.{covers, granting, heard, lent, retargeted, waits}
 use Rattle.vb_host.specs.System.{Confirms, Grants, Guest, Host, Limits, Process, Targets, by_lender, changed, lending, opened, seats, snapshot, through, view, viewed}
 use Rattle.vb_host.proofs.Budget.{may_waits, opened_safe, run_true, step_true}
 use Rattle.vb_host.proofs.Giving.{process_then, rounded, rounded_process, seat_by, seen_by, then_known}
 use Rattle.vb_host.proofs.Heard.{heard_deflates, heard_held}
 use Rattle.vb_host.proofs.LentBy.{retargets}
+use Rattle.vb_host.proofs.Lines.{by_waits}
 use Rattle.vb_host.proofs.Lists.{all_get, some_is}
 use Rattle.vb_host.proofs.Moving.{has_told, held_there}
 use Rattle.vb_host.proofs.Serving.{round_is, serves, turn_of}
@@ -53,16 +56,16 @@ moves_true : (h : Host) (moves : List Move) → AllByRecursion IsTrusty h.guests
 moves_true h [] t = t
 moves_true h (m ∷ moves) t = moves_true (moved h m) moves (move_true h m t)
 
-waits_there : (xs : List Guest) (n : ℕ) (g : Guest) → test_at waits (seats xs) n ≡ true → slice_get xs n ≡ Some g → waits (view g) ≡ true
-waits_there [] n g w e = absurd (cc)
-waits_there (x ∷ xs) zero g w e = subst (λ (y : Guest). waits (view y) ≡ true) (some_is x g e) w
-waits_there (x ∷ xs) (suc n) g w e = waits_there xs n g w e
+test_there : (test : Seat → Bool) (b : Bool) (xs : List Guest) (n : ℕ) (g : Guest) → test_at test (seats xs) n ≡ b → slice_get xs n ≡ Some g → test (view g) ≡ b
+test_there test b [] n g w e = absurd (cc)
+test_there test b (x ∷ xs) zero g w e = subst (λ (y : Guest). test (view y) ≡ b) (some_is x g e) w
+test_there test b (x ∷ xs) (suc n) g w e = test_there test b xs n g w e
 
 move_keeps : (P : Guest → Type 0) (n : ℕ) (h : Host) (m : Move) → IsStable P → AllByRecursion IsTrusty h.guests → At P n h.guests → At P n (moved h m).guests
 move_keeps P n h (HasRound k pages) s t a = subst (λ (xs : List Guest). At P n xs) (sym (round_is h k pages))
     (kept_at P k n (rounded (turn_of k pages h) pages) h.guests (λ g e. s.rounds (turn_of k pages h) pages g (all_get IsTrusty h.guests k g t e)) a)
 move_keeps P n h (IsGranted k) s t a = either (λ (x : Host). At P n x.guests) (may_grant (lending h) k) _ _
-    (λ e. kept_at P k n (by_lender granting) h.guests (λ g there. s.grants g (all_get IsTrusty h.guests k g t there) (waits_there h.guests k g (may_waits h k e) there)) a) (λ _. a)
+    (λ e. kept_at P k n (by_lender granting) h.guests (λ g there. s.grants g (all_get IsTrusty h.guests k g t there) (test_there waits true h.guests k g (may_waits h k e) there)) a) (λ _. a)
 move_keeps P n h (IsTargeted k) s t a = kept_at P k n (by_lender (retargeted (room (lending h)))) h.guests (λ g _. s.targets (room (lending h)) g) a
 
 moves_keep : (P : Guest → Type 0) (n : ℕ) (h : Host) (moves : List Move) → IsStable P → AllByRecursion IsTrusty h.guests → At P n h.guests → At P n (by_moves moves h).guests
@@ -186,6 +189,25 @@ none_stays = record {
 
 round_gives : IsMade (Ours IsServed) (Ours HoldsNone)
 round_gives turn pages g t h strict known = round_is_ours HoldsNone turn pages g known (served_none g.process g.seat pages (t strict).known (h strict known))
+
+-- ---- who waits
+
+not_none : (n : ℕ) → (n == 0) ≡ false → 0 < n
+not_none n e = grind (arith, nat_tests)
+
+asks_for : (b : Bool) (n : ℕ) → b ≡ true → (b && ((if b then n else 0) == 0)) ≡ false → 0 < n
+asks_for true n e f = not_none n f
+asks_for false n e f = absurd (cc)
+
+goes_deeper : (s : Seat) → 0 < s.held → covers s ≡ false → s.least_target ≤ s.target → s.ballooned - s.held < s.target
+goes_deeper s w c l = omega (arith, asks_for (waits s) (lent (granting s) - lent s) (by_waits s.held w) c, l)
+
+pub waiters_go_deeper : InEachState (λ h. (n : ℕ) (g : Guest) → GrantsNone (lending h) → slice_get h.guests n ≡ Some g → g.strict ≡ true → g.known ≡ true → 0 < g.seat.held
+    → g.seat.ballooned - g.seat.held < g.seat.target)
+waiters_go_deeper frames overdraft sizes steps n g none there strict known w =
+    let h = through steps (opened frames overdraft sizes) in
+    goes_deeper g.seat w (ap (λ (s : Seat). covers s) (sym (seen_by g.known g.seat known)) ∙ test_there covers false h.guests n g (none.none_covered n) there)
+    (all_get IsTrusty h.guests n g (run_true (opened frames overdraft sizes) steps (opened_safe frames overdraft sizes).each) there strict).known.targets.least_given
 
 -- ---- both
 

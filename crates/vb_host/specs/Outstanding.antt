@@ -115,6 +115,13 @@ WaitsForPages =
     (h : Host) (n : ℕ) → GrantsNone (lending h) → 0 < held_at (seats h.guests) n
     → h.frames < all_need h + all_outstanding h
 
+-- A strict guest that waits after a step, as it comes, is reset or is out of memory, holds back a
+-- deflate that goes deeper than its target.
+abbrev pub WaitersGoDeeper : Type 0
+WaitersGoDeeper = InEachState (λ h. (n : ℕ) (g : Guest) → GrantsNone (lending h)
+    → slice_get h.guests n ≡ Some g → g.strict ≡ true → g.known ≡ true → 0 < g.seat.held
+    → g.seat.ballooned - g.seat.held < g.seat.target)
+
 -- Each guest that has something to give had a round, whatever the lender granted and which targets
 -- it set meanwhile; and it can grant no guest now, as after a step.
 pub record HadRounds (h : Host) (moves : List Move) : Type 0 where

@@ -14,7 +14,7 @@ ghost use Rattle.vb_host.specs.Patience.{NonePasses, StaysDeferred, EndsWithItsW
 ghost use Rattle.vb_host.specs.Promises.{Uncounted, StaysUncounted, UncountedHasAll};
 ghost use Rattle.vb_host.specs.Rounds.{RoundsSettle, TwoRoundsSuffice};
 ghost use Rattle.vb_host.specs.Outstanding.{RoundsPay, OwnMovesChangeNone, WaitsForPages};
-ghost use Rattle.vb_host.specs.Outstanding.{OneRoundEach, TwoRoundsEach};
+ghost use Rattle.vb_host.specs.Outstanding.{OneRoundEach, TwoRoundsEach, WaitersGoDeeper};
 ghost use Rattle.vb_host.specs.System.{Host};
 ghost use Rattle.std.specs.Prelude.{ℕ};
 
@@ -118,11 +118,13 @@ pub fn one_round_settles()
 {}
 
 /// A round of a guest leaves it nothing to give, and no grant and no target changes what all still
-/// have to give; where a guest waits after a step, that and what all need is more than the frames.
+/// have to give; where a guest waits after a step, that and what all need is more than the frames,
+/// and the deflate that it holds back goes deeper than its target.
 pub fn a_round_leaves_nothing_to_give()
     ensures pay { RoundsPay }
     ensures own { OwnMovesChangeNone }
     ensures waits { WaitsForPages }
+    ensures deeper { WaitersGoDeeper }
 {}
 
 /// Once each guest that has something to give had one round, none waits after the next step, unless
