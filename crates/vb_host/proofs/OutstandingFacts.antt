@@ -1,11 +1,12 @@
 -- Worked facts of what is outstanding: two guests of 4 pages on 6 frames, of which first the one is to give 2 pages, and then the other is to give 1.
-use Rattle.std.proofs.Common.{◌≡◌, ℕ, zero, suc, ◌+◌, ◌-◌, ◌≤◌, ◌<◌, Bool, true, false, List, [], ◌∷◌, map, inl, inr, get_or, Some, refl, subst, arith}
+use Rattle.std.proofs.Common.{◌≡◌, ℕ, zero, suc, ◌+◌, ◌-◌, ◌≤◌, ◌<◌, Bool, true, false, List, [], ◌∷◌, map, ◌++◌, inl, inr, get_or, Some, refl, subst, arith}
 use Rattle.std.specs.List.{AllByRecursion}
 use Rattle.vb_host.specs.declared.seat.Seat.{Seat}
 use Rattle.vb_host.specs.Lending.{held_at, may_grant, owed, rank_at, test_at, value_at}
 use Rattle.vb_host.specs.Line.{GrantsNone, IsFirst}
-use Rattle.vb_host.specs.Outstanding.{AllGiveEnough, GivesEnough, HadRounds, HasEnough, HasRound, IsAimed, IsAsBefore, IsGranted, IsTargeted, Move, WaitsForPages}
+use Rattle.vb_host.specs.Outstanding.{AllGiveEnough, GivesEnough, HadRounds, HasEnough, HasRound, IsAimed, IsAsBefore, IsGranted, IsTargeted, Move, OneRoundEach, WaitsForPages}
 use Rattle.vb_host.specs.Outstanding.{all_need, all_outstanding, by_moves, has_round, is_counted, moved, needs, outstanding, outstanding_at, staying}
+use Rattle.vb_host.specs.Rounds.{round}
 use Rattle.vb_host.specs.Seats.{asked, covers}
 use Rattle.vb_host.specs.System.{Budget, Confirms, Does, Drops, Grants, Guest, Hears, Holds, Host, Limits, Obeys, Reads, Reports, Sends, Step, Targets, Wants}
 use Rattle.vb_host.specs.System.{arriving, lending, opened, seats, through}
@@ -126,8 +127,11 @@ receives : (of_each (λ g. g.process.held) (by_moves moves both) ≡ 1 ∷ 0 ∷
 receives = (refl, refl, refl)
 
 -- on 5 frames the host is short: all have given, and the first waits on
+abbrev shortened : Host
+shortened = through (Budget 5 ∷ []) both
+
 abbrev short : Host
-short = by_moves moves (through (Budget 5 ∷ []) both)
+short = by_moves moves shortened
 
 is_short : (of_each outstanding short ≡ 0 ∷ 0 ∷ []) × (all_need short ≡ 6) × (short.frames ≡ 5) × (waits_each short ≡ 1 ∷ 0 ∷ []) × (may_each short ≡ false ∷ false ∷ [])
 is_short = (refl, refl, refl, refl, refl)
@@ -153,6 +157,34 @@ waits_on = record { none_covered = covered; no_room = inr (0, first_waits (seats
 -- a page is enough to wait for, and it goes deeper than the target
 one_page : (WaitsForPages → 6 < 7) × ((number 0 heard_first).seat.ballooned - (number 0 heard_first).seat.held ≡ 1) × ((number 0 heard_first).seat.target ≡ 2)
 one_page = (λ law. law heard_first 0 waits_on (omega arith), refl, refl)
+
+-- so the law says of that host that it is short: that run, with its steps one by one
+abbrev all_steps : List Step
+all_steps = let_in ++ (Reports 1 ∷ Hears 1 0 ∷ Wants 0 2 ∷ Targets 0 ∷ Confirms 0 ∷ Limits 0 ∷ Confirms 0 ∷ round 0 2) ++ (Grants 1 ∷ Confirms 1 ∷ Limits 1 ∷ Confirms 1 ∷ round 1 0)
+    ++ (Wants 1 1 ∷ Targets 1 ∷ Does 0 (Holds 0 1) ∷ Budget 5 ∷ [])
+
+is_reached : through all_steps (opened 6 0 (4 ∷ 4 ∷ [])) ≡ shortened
+is_reached = refl
+
+short_enough : AllGiveEnough moves shortened
+short_enough = (
+  λ g e. there (number 0 (moved shortened (HasRound 0 0))) g (λ w. let f : 1 ≡ 0 = w in absurd (omega (arith, f))) e,
+  (tt, (tt, (λ g e. there (number 1 (by_moves (HasRound 0 0 ∷ IsGranted 0 ∷ IsTargeted 1 ∷ HasRound 1 1 ∷ []) shortened)) g (λ _. omega arith) e, (tt, (tt, (tt, tt)))))),
+)
+
+short_rounds : HadRounds shortened moves
+short_rounds = record { aimed = are_aimed; enough = short_enough; each = rounds_of; granted = record { none_covered = covered; no_room = inr (0, first_waits (seats short.guests) refl others, omega arith) } } where
+  covered : (n : ℕ) → test_at covers (seats short.guests) n ≡ false
+  covered zero = refl
+  covered (suc zero) = refl
+  covered (suc (suc n)) = refl
+
+  others : (i : ℕ) → held_at (seats short.guests) (suc i) ≡ 0
+  others zero = refl
+  others (suc i) = refl
+
+says_short : OneRoundEach → 5 < 6
+says_short law = law 6 0 (4 ∷ 4 ∷ []) all_steps moves 0 short_rounds (omega arith)
 
 -- where a target is below what is wanted, a round isn't enough
 abbrev unaimed : Host
