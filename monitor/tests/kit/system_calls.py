@@ -11,6 +11,7 @@ import subprocess
 import sys
 import tempfile
 
+import pytest
 from waiting import eventually
 
 HEADER = "/usr/include/x86_64-linux-gnu/asm/unistd_64.h"
@@ -102,7 +103,10 @@ def as_int(word):
 
 @contextlib.contextmanager
 def calls_of(pid):
-    """Looks at a process, whose calls are those from its next ones on."""
+    """Looks at a process, whose calls are those from its next ones on. Others than root may not,
+    and the test is skipped."""
+    if os.geteuid() != 0:
+        pytest.skip("the system calls of another process: root alone may look at them")
     with tempfile.NamedTemporaryFile("w") as file:
         with subprocess.Popen([sys.executable, __file__, str(pid)], stdout=file) as tracer:
             try:
