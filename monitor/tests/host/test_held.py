@@ -155,10 +155,15 @@ def test_what_a_file_holds_outside_of_its_slots_counts(lend, come):
     lender.become("a", lent=ALL, cooperates=0)
 
 
+def hand_over(a, slots):
+    """Has a guest have this many slots of its file."""
+    with a.lock:
+        a.client.hand_over_memory(slots)
+
+
 def remove_slot(a):
     """Takes the second of two slots of one file away from a guest."""
-    with a.lock:
-        a.client.hand_over_memory(1)
+    hand_over(a, 1)
 
 
 def test_a_guest_that_holds_pages_in_a_removed_slot_is_lent_them(lend, come):
@@ -178,6 +183,21 @@ def test_a_guest_that_holds_pages_in_a_removed_slot_is_lent_them(lend, come):
     comes.ends()
     lender.become("a", lent=PAGES_OF_REGION, cooperates=1)
     b.leave()
+
+
+def test_a_slot_that_comes_back_waits_for_room_and_is_lent_once(lend, come):
+    lender = lend(1, *STRICT)
+    lender.set_budget(ALL + PAGES_OF_REGION - 1)
+    a = come(lender, "a", {FREE: 100}, "overhead=0", client=OneFile)
+    lender.become("a", pages=ALL, held_kib=4 * ALL)
+    remove_slot(a)
+    lender.become("a", pages=PAGES_OF_REGION, lent=ALL)
+    comes = Later(lambda: hand_over(a, 2))
+    lender.become("a", waits="room", lent=ALL)
+    assert comes.waits(LOOKED)
+    lender.set_budget(ALL + PAGES_OF_REGION)
+    comes.ends()
+    lender.become("a", pages=ALL, lent=ALL, cooperates=1)
 
 
 @pytest.mark.parametrize("changes", (next_process, next_lender))
