@@ -61,8 +61,9 @@ struct made_status {
 
 /* The events of a look, on their way to those who follow the host. */
 struct followers {
-    char *lines; /* NULL: there are none, or there was no memory for them */
+    char *lines;
     size_t length;
+    bool is_cut;          /* a line is missing after these, as there was no memory for it */
     uint64_t first;       /* the number of the first of them */
     unsigned count, next; /* how many there are; whose turn it is, by the places of all sockets */
 };

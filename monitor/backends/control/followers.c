@@ -25,15 +25,12 @@ static bool append(struct followers *followers, const char *text, size_t length)
 void followers_add(struct followers *followers, uint64_t number, json_t *line)
 {
     size_t length;
-    bool is_first = followers->count == 0, is_lost = !is_first && !followers->lines;
     char *text = client_text(line, NULL, &length);
     json_decref(line);
-    followers->first = is_first ? number : followers->first;
+    followers->first = followers->count == 0 ? number : followers->first;
     followers->count++;
-    if (is_lost || !text || !append(followers, text, length)) {
-        free(followers->lines);
-        followers->lines = NULL;
-    }
+    if (!followers->is_cut)
+        followers->is_cut = !text || !append(followers, text, length);
     free(text);
 }
 
@@ -43,14 +40,19 @@ void followers_forget(struct followers *followers)
     *followers = (struct followers){0};
 }
 
-/* Sends the lines to the client of a place, unless it follows later events alone. */
+/* Sends the lines to the client of a place, unless it follows later events alone; it is dropped
+ * where a line is missing after them. */
 static void send_to(struct control *control, unsigned place)
 {
     const struct followers *its = &control->followers;
     struct control_client *client =
         control->sockets[place / MOST_CONTROL_CLIENTS].clients[place % MOST_CONTROL_CLIENTS];
-    if (client && client->follows <= its->first)
+    if (!client || client->follows > its->first)
+        return;
+    if (its->length > 0)
         client_send_text(client, its->lines, its->length);
+    if (its->is_cut)
+        client_send_text(client, NULL, 0);
 }
 
 bool followers_send(struct control *control, double until)

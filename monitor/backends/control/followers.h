@@ -7,7 +7,7 @@
 #include <jansson.h>
 
 /* Adds an event by its number. Takes its line, which is NULL where there was no memory for it: the
- * followers are dropped then. */
+ * followers are dropped then, after the lines before it. */
 void followers_add(struct followers *followers, uint64_t number, json_t *line);
 
 /* Sends the lines to one follower after another until this time, to some at least; whether each has

@@ -109,6 +109,8 @@ def test_what_a_file_changes_is_noted(program, folder):
 VALUES = {
     "host": {
         "budget": ("480M", "300M"),
+        "keep": ("1M", "2M"),
+        "lowest_budget": ("4M", "5M"),
         "floor": ("8M", "3M"),
         "reserve": ("20", "7"),
         "overdraft": ("1M", "2M"),

@@ -17,7 +17,7 @@ from linux_kit import ROOT
 from waiting import PATIENCE, patience_from_now
 
 MAN = os.path.join(ROOT, "docs", "man")
-SIZES = ("overdraft", "least", "overhead")
+SIZES = ("keep", "lowest_budget", "overdraft", "least", "overhead")
 PAGES = ("bigvasta.1", "bigvasta-host.conf.5", "vhost_user_host.1", "vhost_user_balloon.1")
 
 
@@ -180,7 +180,7 @@ def test_what_is_not_said_is_as_the_page_of_the_configuration_has_it(program, fo
     said.read_string(text.replace("[guest a]", "[guest]"))
     wanted = {it: "0K" if it[1] in SIZES and value == "0" else value for it, value in defaults()}
     found = {(section, key): said[section].get(key, "none") for section, key in wanted}
-    assert found == wanted and len(wanted) == 14, wanted
+    assert found == wanted and len(wanted) == 16, wanted
 
 
 # What is typed, and what it may become.
