@@ -11,11 +11,11 @@ use Rattle.vb_host.specs.System.{Guest, Host, seats, lending, arriving, taken_up
 use Rattle.vb_host.specs.System.{changed, by_lender, limiting, lands, confirms, fails, joined, may_join, joining, Step, Does, Reports, Obeys, Hears}
 use Rattle.vb_host.specs.System.{Grants, Overdraws, Wants, Sends, Limits, Lands, Confirms, Fails, Uncounts, Arrives, Joins, TakesOver, Forgets}
 use Rattle.vb_host.specs.System.{Budget, Prefers, Defers, Targets, Deviates}
-use Rattle.vb_host.proofs.Grants.{covered_waits}
+use Rattle.vb_host.proofs.Grants.{may_waits}
 use Rattle.vb_host.proofs.Guests.{deed_true, report_true, obey_true, hear_true, grant_true, target_true, send_true, limit_true, uncount_true}
 use Rattle.vb_host.proofs.Guests.{forget_true, arriving_true, taken_true, taken_lends, joined_true, joined_lends, join_facts, defer_true, prefer_true, want_true}
 use Rattle.vb_host.proofs.LentBy.{asks_lend, changed_lends, covered_lends, hearing_lends, targets_lend}
-use Rattle.vb_host.proofs.Lists.{all_at, all_where, all_map, its_lent, lent_all, lends_at, lent_map, lent_where, lent_seen, seen_at, test_implies}
+use Rattle.vb_host.proofs.Lists.{all_at, all_where, all_map, its_lent, lent_all, lends_at, lent_map, lent_where, lent_seen, seen_at}
 use Rattle.vb_host.proofs.Lists.{waits_at, join_lends, all_get, strictly_by}
 use Rattle.vb_host.proofs.Sound.{either, and_left, and_right, or_either, IsTrusty, le_true}
 
@@ -59,10 +59,6 @@ overdraw_room h n e = and_right (is_first (seats h.guests) n && list_all is_done
 
 overdraws_owe : (h : Host) (n : ℕ) → may_overdraw (lending h) n ≡ true → lent_all (each_at n lets h.guests) ≤ most h
 overdraws_owe h n e = turn_owes h n (most h) (draws_first h n e) (overdraw_room h n e)
-
-pub may_waits : (h : Host) (n : ℕ) → may_grant (lending h) n ≡ true → test_at waits (seats h.guests) n ≡ true
-may_waits h n e = or_either (test_at covers (seats h.guests) n) _ e (λ c. test_implies covers waits n (seats h.guests) covered_waits c)
-    (λ t. first_waits h n (and_left (is_first (seats h.guests) n) _ t))
 
 -- ---- a target
 
@@ -119,7 +115,7 @@ step_true h (Deviates n p reports) a = all_at IsTrusty n _ h.guests (λ g t e. a
 step_true h (Reports n) a = all_at IsTrusty n _ h.guests (λ g t e. report_true g (t e)) a
 step_true h (Obeys n k) a = all_at IsTrusty n _ h.guests (λ g t e. obey_true k g (t e)) a
 step_true h (Hears n k) a = all_at IsTrusty n _ h.guests (λ g t e. hear_true (next_turn (seats h.guests)) k g (t e)) a
-step_true h (Grants n) a = either_guests (may_grant (lending h) n) h _ (λ e. all_where IsTrusty waits n lets h.guests (λ g w t s. grant_true g w (t s)) (may_waits h n e) a) a
+step_true h (Grants n) a = either_guests (may_grant (lending h) n) h _ (λ e. all_where IsTrusty waits n lets h.guests (λ g w t s. grant_true g w (t s)) (may_waits (lending h) n e) a) a
 step_true h (Overdraws n) a = either_guests (may_overdraw (lending h) n) h _ (λ e. all_where IsTrusty waits n lets h.guests (λ g w t s. grant_true g w (t s)) (first_waits h n (draws_first h n e)) a) a
 step_true h (Prefers n) a = all_at IsTrusty n (by_lender (preferring 1)) (map (by_lender (preferring 0)) h.guests) (λ g t e. prefer_true 1 g (t e)) (prefers_true h a)
 step_true h (Defers n) a = all_at IsTrusty n _ h.guests (λ g t e. defer_true (next_turn (seats h.guests)) g (t e)) a

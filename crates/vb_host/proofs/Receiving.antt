@@ -10,8 +10,9 @@ use Rattle.vb_host.specs.Outstanding.{HadRounds, HasRound, InEachState, IsGrante
 use Rattle.vb_host.specs.Rounds.{round}
 use Rattle.vb_host.specs.Seats.{covers, granting, heard, lent, retargeted, waits}
 use Rattle.vb_host.specs.System.{Confirms, Grants, Guest, Host, Limits, Process, Targets, by_lender, changed, lending, opened, seats, snapshot, through, view, viewed}
-use Rattle.vb_host.proofs.Budget.{may_waits, opened_safe, run_true, step_true}
+use Rattle.vb_host.proofs.Budget.{opened_safe, run_true, step_true}
 use Rattle.vb_host.proofs.Giving.{process_then, rounded, rounded_process, seat_by, seen_by, then_known}
+use Rattle.vb_host.proofs.Grants.{may_waits}
 use Rattle.vb_host.proofs.Heard.{heard_deflates, heard_held}
 use Rattle.vb_host.proofs.LentBy.{retargets}
 use Rattle.vb_host.proofs.Lines.{by_waits}
@@ -65,7 +66,7 @@ move_keeps : (P : Guest → Type 0) (n : ℕ) (h : Host) (m : Move) → IsStable
 move_keeps P n h (HasRound k pages) s t a = subst (λ (xs : List Guest). At P n xs) (sym (round_is h k pages))
     (kept_at P k n (rounded (turn_of k pages h) pages) h.guests (λ g e. s.rounds (turn_of k pages h) pages g (all_get IsTrusty h.guests k g t e)) a)
 move_keeps P n h (IsGranted k) s t a = either (λ (x : Host). At P n x.guests) (may_grant (lending h) k) _ _
-    (λ e. kept_at P k n (by_lender granting) h.guests (λ g there. s.grants g (all_get IsTrusty h.guests k g t there) (test_there waits true h.guests k g (may_waits h k e) there)) a) (λ _. a)
+    (λ e. kept_at P k n (by_lender granting) h.guests (λ g there. s.grants g (all_get IsTrusty h.guests k g t there) (test_there waits true h.guests k g (may_waits (lending h) k e) there)) a) (λ _. a)
 move_keeps P n h (IsTargeted k) s t a = kept_at P k n (by_lender (retargeted (room (lending h)))) h.guests (λ g _. s.targets (room (lending h)) g) a
 
 moves_keep : (P : Guest → Type 0) (n : ℕ) (h : Host) (moves : List Move) → IsStable P → AllByRecursion IsTrusty h.guests → At P n h.guests → At P n (by_moves moves h).guests
