@@ -10,6 +10,7 @@ import re
 import socket
 import time
 from concurrent.futures import ThreadPoolExecutor
+from ipaddress import ip_address
 from typing import NamedTuple
 
 from bigvasta.addresses import parse_address, why
@@ -32,6 +33,7 @@ METRICS = "text/plain; version=0.0.4; charset=utf-8"
 REASONS = {
     200: "OK",
     400: "Bad Request",
+    403: "Forbidden",
     404: "Not Found",
     405: "Method Not Allowed",
     431: "Request Header Fields Too Large",
@@ -79,11 +81,20 @@ def refusal(status, why):
 
 
 def asked_by(request):
-    """Returns the method and the path of a request; None where it is none."""
-    words = request.split(b"\r\n", 1)[0].split(b" ")
+    """Returns the method and the path of a request, and the name by which its client calls this
+    server; None where it is none."""
+    first, *headers = request.split(b"\r\n")
+    words = first.split(b" ")
     if len(words) != 3 or not words[2].startswith(b"HTTP/1."):
         return None
-    return words[0], words[1].partition(b"?")[0]
+    names = [it[5:].strip() for it in headers if it[:5].lower() == b"host:"]
+    return words[0], words[1].partition(b"?")[0], b"".join(names)
+
+
+def is_own_name(name):
+    """Whether a name, perhaps with a port, is of this machine alone: a page of a browser that leads
+    another name here is a stranger's."""
+    return re.fullmatch(rb"|(localhost|[\d.]+|\[[\da-fA-F:]+\])(:\d+)?", name) is not None
 
 
 def listener_at(text):
@@ -101,9 +112,11 @@ def listener_at(text):
 
 class Server:
     """The host, its last hour, and the clients, of which the oldest is the first. `metrics_of`
-    makes metrics of a status; None: there is no library for them."""
+    makes metrics of a status; None: there is no library for them. `is_local`: no other machine
+    reaches it."""
 
-    def __init__(self, path, metrics_of):
+    def __init__(self, path, metrics_of, is_local):
+        self.is_local = is_local
         self.source, self.hour, self.metrics_of, self.clients = Source(path), Hour(), metrics_of, {}
         self.looked, self.status = None, None
         # One at a time looks at the host, and the clients wait for that together.
@@ -141,7 +154,9 @@ class Server:
         """Answers a request."""
         if asked is None:
             return refusal(400, "this is no request of HTTP/1")
-        method, path = asked
+        method, path, name = asked
+        if self.is_local and not is_own_name(name):
+            return refusal(403, "this server is localhost alone")
         if method not in (b"GET", b"HEAD"):
             return refusal(405, "all is read by GET or HEAD")
         pages = {b"/": self.page, b"/status": self.facts, b"/metrics": self.metrics}
@@ -194,6 +209,7 @@ def serve(path, text, metrics_of):
     listener = listener_at(text)
 
     async def begin():
-        await Server(path, metrics_of).run(listener)
+        is_local = ip_address(listener.getsockname()[0]).is_loopback
+        await Server(path, metrics_of, is_local).run(listener)
 
     asyncio.run(begin())

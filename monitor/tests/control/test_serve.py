@@ -36,7 +36,12 @@ def port(host):
 # A request, and the status of its answer.
 REQUESTS = (
     (b"GET / HTTP/1.1\r\n\r\n", 200),
-    (b"GET /status HTTP/1.0\r\nHost: x\r\n\r\n", 200),
+    (b"GET /status HTTP/1.0\r\nhost:  localhost:9750\r\n\r\n", 200),
+    (b"GET /status HTTP/1.1\r\nHost: 127.0.0.1\r\n\r\n", 200),
+    (b"GET /status HTTP/1.1\r\nHost: [::1]:9750\r\n\r\n", 200),
+    (b"GET /status HTTP/1.1\r\nHost: stranger.example:9750\r\n\r\n", 403),
+    (b"GET / HTTP/1.1\r\nHost: localhost.example\r\n\r\n", 403),
+    (b"GET /metrics HTTP/1.1\r\nHost: localhost\r\nHost: x\r\n\r\n", 403),
     (b"GET /status?x=1 HTTP/1.1\r\n\r\n", 200),
     (b"HEAD /status HTTP/1.1\r\n\r\n", 200),
     (b"GET /metrics HTTP/1.1\r\n\r\n", 200),
