@@ -21,11 +21,13 @@ static bool admit(struct backend *backend)
     if (end > MOST_SET || pages > UINT32_MAX)
         return refuse("its memory ends above %llu GiB",
                       (unsigned long long)MOST_SET * BALLOON_PAGE >> 30);
+    if (pages > before)
+        lent->notes.pages += outside_returns(lent, (uint32_t)pages - before);
     if (pages > lent->notes.pages && !lent_await(lent, WAIT_ROOM, (uint32_t)pages))
         return false;
     if (!marks_follow(backend, &lent->marks, end))
         return refuse("there is no room for the set of its pages");
-    lent->news |= pages != lent->notes.pages;
+    lent->news |= pages != before;
     lent->notes.pages = (uint32_t)pages;
     awaited_note(lent);
     outside_note(lent, before, ballooned);

@@ -67,9 +67,12 @@ void awaited_leave(struct lent *lent, uint32_t pages);
  * away, and isn't of the balloon, may be held outside of its slots. */
 void outside_note(struct lent *lent, uint32_t pages, uint32_t ballooned);
 
-/* The pages that may have frames outside of its slots. Those that come back into a slot stay among
- * them until there is room for that. */
+/* The pages that may have frames outside of its slots. */
 uint32_t lent_outside(struct lent *lent);
+
+/* Of `added` pages that its memory has from now on, those that had their frames outside: they are
+ * lent already, and don't count there any longer. */
+uint32_t outside_returns(struct lent *lent, uint32_t added);
 
 /* ---- lent_channel.c */
 

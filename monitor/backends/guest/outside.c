@@ -104,11 +104,24 @@ void outside_note(struct lent *lent, uint32_t pages, uint32_t ballooned)
     lent->outside += taken > gave ? taken - gave : 0;
 }
 
+static uint32_t smaller(uint64_t one, uint32_t other)
+{
+    return one < other ? (uint32_t)one : other;
+}
+
 uint32_t lent_outside(struct lent *lent)
 {
-    if (lent->outside == 0 || lent->waits == WAIT_ROOM)
-        return lent->outside;
-    uint64_t most = all_outside(&lent->backend.memory);
-    lent->outside = most < lent->outside ? (uint32_t)most : lent->outside;
+    if (lent->outside > 0)
+        lent->outside = smaller(all_outside(&lent->backend.memory), lent->outside);
     return lent->outside;
+}
+
+uint32_t outside_returns(struct lent *lent, uint32_t added)
+{
+    if (lent->outside == 0)
+        return 0;
+    uint32_t stays = smaller(all_outside(&lent->backend.memory), lent->outside);
+    uint32_t returns = smaller(lent->outside - stays, added);
+    lent->outside -= returns;
+    return returns;
 }

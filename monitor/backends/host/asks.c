@@ -110,6 +110,14 @@ uint32_t ask_outside(const struct seat *seat)
     return says > keeps ? says : keeps;
 }
 
+uint32_t ask_returned(const struct seat *seat, const struct lending_message *report)
+{
+    const VbSeat *its = place_of(seat);
+    uint32_t says = report->has_terms ? 0 : report->outside;
+    uint32_t left = its->outside - smaller(its->outside, says);
+    return smaller(report->pages - smaller(report->pages, its->pages), left);
+}
+
 /* What is outside of its memory's slots, as far as a report may say it: where more is, that was in
  * no slot, and its process deviates. */
 static uint32_t taken_outside(const VbSeat *its, const VbReport *report, uint32_t outside)

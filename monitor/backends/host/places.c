@@ -3,8 +3,6 @@
 
 #include <stdlib.h>
 
-enum { STANDS = 1000 }; /* milliseconds in which nothing moves, and a host stands still */
-
 /* The seat of this number, of those that are leaving after all others; NULL after these. */
 static struct seat *seat_at(const struct host *host, unsigned number)
 {
@@ -64,8 +62,7 @@ static void follow_step(struct seat *seat, uint32_t before)
 
 static void join(struct seat *seat);
 
-/* Something happens. */
-static void happens(struct host *host, VbHostEvent event)
+void places_step(struct host *host, VbHostEvent event)
 {
     uint32_t before[2 * MOST_GUESTS] = {0};
     struct seat *seat;
@@ -84,7 +81,7 @@ static void happens(struct host *host, VbHostEvent event)
 
 static void arrive(struct seat *seat, size_t place, uint32_t pages, uint32_t without)
 {
-    happens(
+    places_step(
         seat->host,
         (VbHostEvent){.kind = VB_ARRIVES, .guest = place, .pages = pages, .ballooned = without});
 }
@@ -93,65 +90,7 @@ void places_follow_budget(struct host *host)
 {
     uint32_t frames = host_awaits(host) ? 0 : host->frames;
     if (frames != host->lends.frames)
-        happens(host, (VbHostEvent){.kind = VB_BUDGET, .frames = frames});
-}
-
-/* The place of the guest that is preferred; SIZE_MAX where none is. */
-static size_t preferred(const struct host *host)
-{
-    for (size_t i = 0; i < host->place_count; i++)
-        if (host->places[i].preferred)
-            return i;
-    return SIZE_MAX;
-}
-
-/* Whether nothing has moved for a while: who waits first, and what is lent. */
-static bool stands_still(struct host *host, size_t first)
-{
-    uint64_t lent = places_owed(host);
-    if (first != host->stand.first || lent != host->stand.lent)
-        host->stand = (struct stand){first, lent, loop_now()};
-    return !host_awaits(host) && loop_now() - host->stand.since >= STANDS;
-}
-
-void places_relieve(struct host *host)
-{
-    size_t first = vb_host_first(host->places, host->place_count);
-    size_t alone = host->missing > 0 ? first : SIZE_MAX;
-    if (!stands_still(host, first))
-        return;
-    if (preferred(host) != alone)
-        happens(host, (VbHostEvent){.kind = VB_PREFERS, .guest = alone});
-    if (first != SIZE_MAX)
-        happens(host, (VbHostEvent){.kind = VB_OVERDRAWS, .guest = first});
-}
-
-/* Who waits first of those that restart or come, but for one; SIZE_MAX where nobody does. */
-static size_t first_beside(const struct host *host, size_t except)
-{
-    static VbSeat others[MOST_PLACES];
-    for (size_t i = 0; i < host->place_count; i++) {
-        bool counts = host->places[i].line != VB_LINE_DEFLATES && i != except;
-        others[i] = counts ? host->places[i] : (VbSeat){0};
-    }
-    return vb_host_first(others, host->place_count);
-}
-
-void places_defer(struct host *host)
-{
-    enum { SECOND = 1000 };
-    struct head *head = &host->head;
-    size_t first = first_beside(host, SIZE_MAX);
-    uint64_t turn = first == SIZE_MAX ? 0 : host->places[first].turn;
-    if (first != head->first || turn != head->turn)
-        *head = (struct head){first, turn, loop_now()};
-    bool is_patient =
-        host_awaits(host) || loop_now() - head->since < (int64_t)host->patience * SECOND;
-    if (is_patient || first == SIZE_MAX || first_beside(host, first) == SIZE_MAX)
-        return;
-    if (host->places[first].preferred)
-        happens(host, (VbHostEvent){.kind = VB_PREFERS, .guest = SIZE_MAX});
-    happens(host, (VbHostEvent){.kind = VB_DEFERS, .guest = first});
+        places_step(host, (VbHostEvent){.kind = VB_BUDGET, .frames = frames});
 }
 
 /* ---- memory that is added to a guest at work */
@@ -172,7 +111,7 @@ static void join(struct seat *seat)
     if (added == NO_PLACE || host->places[added].granted == 0)
         return;
     host->counters.grants++;
-    happens(host, (VbHostEvent){.kind = VB_JOINS, .guest = seat->place, .added = added});
+    places_step(host, (VbHostEvent){.kind = VB_JOINS, .guest = seat->place, .added = added});
     if (host->places[added].pages > 0)
         complain("its added memory of %u pages can't join it", host->places[added].pages);
     drop_added(seat);
@@ -194,7 +133,23 @@ static void hear_of_added(struct seat *seat, uint32_t pages)
         arrive(seat, seat->added, pages, 0);
         host_changed(seat->host, BY_GUESTS);
     }
-    happens(seat->host, (VbHostEvent){.kind = VB_HEARS, .guest = seat->added, .report = report});
+    places_step(seat->host,
+                (VbHostEvent){.kind = VB_HEARS, .guest = seat->added, .report = report});
+}
+
+/* Pages that were outside of its memory's slots are in them once more: they are lent already, and
+ * join it whether or not there is room. */
+static void take_back(struct seat *seat)
+{
+    struct host *host = seat->host;
+    uint32_t pages = ask_returned(seat, &seat->report);
+    if (pages == 0)
+        return;
+    size_t place = free_place(host);
+    VbReport all = {.deflates = 1};
+    places_step(
+        host, (VbHostEvent){.kind = VB_TAKES_OVER, .guest = place, .pages = pages, .report = all});
+    places_step(host, (VbHostEvent){.kind = VB_JOINS, .guest = seat->place, .added = place});
 }
 
 /* ---- a guest */
@@ -210,8 +165,8 @@ static uint32_t room_wanted(const struct seat *seat)
 
 static void hear(struct seat *seat)
 {
-    happens(seat->host,
-            (VbHostEvent){.kind = VB_HEARS, .guest = seat->place, .report = ask_report(seat)});
+    places_step(seat->host,
+                (VbHostEvent){.kind = VB_HEARS, .guest = seat->place, .report = ask_report(seat)});
 }
 
 /* A guest that isn't let in yet. */
@@ -226,9 +181,9 @@ static void hear_newcomer(struct seat *seat)
 
 static void take_over(struct seat *seat, uint32_t pages, VbReport report)
 {
-    happens(seat->host,
-            (VbHostEvent){
-                .kind = VB_TAKES_OVER, .guest = seat->place, .pages = pages, .report = report});
+    places_step(seat->host,
+                (VbHostEvent){
+                    .kind = VB_TAKES_OVER, .guest = seat->place, .pages = pages, .report = report});
 }
 
 /* A guest whose process holds nothing back: it has what its report says, and any target at once. */
@@ -244,7 +199,7 @@ static void follow(struct seat *seat, uint32_t pages, uint32_t target)
                        .deflates = 1};
     take_over(seat, pages, report);
     if (is_uncounted)
-        happens(seat->host, (VbHostEvent){.kind = VB_UNCOUNTS, .guest = seat->place});
+        places_step(seat->host, (VbHostEvent){.kind = VB_UNCOUNTS, .guest = seat->place});
 }
 
 void place_hears(struct seat *seat)
@@ -256,6 +211,7 @@ void place_hears(struct seat *seat)
     } else if (its->granted == 0) {
         hear_newcomer(seat);
     } else {
+        take_back(seat);
         hear(seat);
         hear_of_added(seat, room_wanted(seat));
     }
@@ -313,7 +269,7 @@ void place_uncounts(struct seat *seat)
     drop_added(seat);
     if (place_of(seat)->granted > 0) {
         lend_beyond(seat);
-        happens(seat->host, (VbHostEvent){.kind = VB_UNCOUNTS, .guest = seat->place});
+        places_step(seat->host, (VbHostEvent){.kind = VB_UNCOUNTS, .guest = seat->place});
     }
     seat->granted = granted;
     host_changed(seat->host, BY_GUESTS);
@@ -342,5 +298,6 @@ void place_wants(struct seat *seat, uint32_t pages)
     if (!seat->holds)
         follow(seat, its->pages, pages);
     else
-        happens(seat->host, (VbHostEvent){.kind = VB_WANTS, .guest = seat->place, .pages = pages});
+        places_step(seat->host,
+                    (VbHostEvent){.kind = VB_WANTS, .guest = seat->place, .pages = pages});
 }

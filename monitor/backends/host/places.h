@@ -38,6 +38,9 @@ void ask_note(struct seat *seat);
  * those that are lent to it, as long as it holds as many. */
 uint32_t ask_outside(const struct seat *seat);
 
+/* Of a report, the pages that were outside and are in slots once more. */
+uint32_t ask_returned(const struct seat *seat, const struct lending_message *report);
+
 /* Its last report, as the step takes it. */
 VbReport ask_report(const struct seat *seat);
 
@@ -76,8 +79,13 @@ void place_leaves(struct seat *seat);
 /* `pages` of it are wanted in its balloon. */
 void place_wants(struct seat *seat, uint32_t pages);
 
+/* Something happens: the step, and what is sent by what comes of it. */
+void places_step(struct host *host, VbHostEvent event);
+
 /* What may be lent is the budget, once all guests of an earlier lender have reported. */
 void places_follow_budget(struct host *host);
+
+/* ---- relief.c */
 
 /* Once nothing has moved for a while, the first that waits is granted from the overdraft, and on a
  * short host proceeds alone: it comes before all others of its line until it asks no more. */
@@ -86,6 +94,8 @@ void places_relieve(struct host *host);
 /* Once the first of those that restart or come has waited for as long as the host is patient, it
  * lets others pass, if there are any. */
 void places_defer(struct host *host);
+
+/* ---- seats.c */
 
 /* The pages of its memory that has room; those with what is outside of it; and its last target, 0
  * where it was sent none. */

@@ -26,7 +26,7 @@ static const char *report_fault(const struct seat *seat, const struct lending_me
     const char *fault = number_fault(report);
     if (fault || (seat->adopts && !seat->reserves))
         return fault;
-    if (report->waits != WAIT_ROOM && report->pages > seat_pages(seat))
+    if (report->waits != WAIT_ROOM && report->pages > seat_pages(seat) + ask_returned(seat, report))
         return "pages that nobody has granted";
     if (seat->adopts || (report->holds != 0) == seat->holds)
         return NULL;

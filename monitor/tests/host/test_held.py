@@ -185,17 +185,37 @@ def test_a_guest_that_holds_pages_in_a_removed_slot_is_lent_them(lend, come):
     b.leave()
 
 
-def test_a_slot_that_comes_back_waits_for_room_and_is_lent_once(lend, come):
+@pytest.fixture
+def full(lend, come):
+    """A host whose budget is all lent to a guest that has lost its second slot, and the guest."""
     lender = lend(1, *STRICT)
-    lender.set_budget(ALL + PAGES_OF_REGION - 1)
+    lender.set_budget(ALL)
     a = come(lender, "a", {FREE: 100}, "overhead=0", client=OneFile)
     lender.become("a", pages=ALL, held_kib=4 * ALL)
     remove_slot(a)
     lender.become("a", pages=PAGES_OF_REGION, lent=ALL)
+    return lender, a
+
+
+def test_a_slot_that_comes_back_is_lent_already(full):
+    lender, a = full
+    hand_over(a, 2)
+    lender.become("a", pages=ALL, lent=ALL, cooperates=1, waits="nothing")
+    time.sleep(LOOKED)
+    lender.become("a", pages=ALL, lent=ALL, cooperates=1)
+
+
+def test_a_slot_that_comes_back_with_holes_waits_for_these(full, come):
+    lender, a = full
+    size = ctypes.c_long((PAGES_OF_REGION + 10) * PAGE), ctypes.c_long(10 * PAGE)
+    assert ctypes.CDLL(None).fallocate(a.client.files[0], PUNCHES_HOLE, *size) == 0
+    lender.become("a", lent=ALL - 10)
+    lender.set_budget(2 * ALL - 1)
+    come(lender, "b", {FREE: 0})
     comes = Later(lambda: hand_over(a, 2))
-    lender.become("a", waits="room", lent=ALL)
+    lender.become("a", waits="room", pages=ALL - 10, lent=ALL - 10)
     assert comes.waits(LOOKED)
-    lender.set_budget(ALL + PAGES_OF_REGION)
+    lender.set_budget(2 * ALL)
     comes.ends()
     lender.become("a", pages=ALL, lent=ALL, cooperates=1)
 
