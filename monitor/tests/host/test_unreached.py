@@ -4,10 +4,12 @@ as lent until it reports or has ended."""
 import contextlib
 import os
 import signal
+import time
 
 import pytest
 from played import TELL_REPORT, VERSION, Listens, Message, Played
 from tenants import FREE, eventually, go_on, process_of, status_of, stop
+from test_held import LOOKED, OUTSIDE, Larger, OneFile, remove_slot
 from test_strict import GIVEN, STRICT, Later, lent, used
 from vhost_client import DEFLATE, Client
 from waiting import PATIENCE
@@ -58,6 +60,28 @@ def test_a_process_that_does_not_report_counts_with_all_its_pages(lend, stuck):
     newcomer.socket.shutdown(2)
     comes.join(PATIENCE)
     newcomer.leave()
+
+
+@pytest.mark.parametrize(
+    "client, act, frames",
+    ((OneFile, remove_slot, ALL), (Larger, lambda a: a.client.fill_outside(), ALL + OUTSIDE)),
+    ids=("removed", "filled"),
+)
+def test_what_is_outside_of_its_slots_counts_too(lend, come, client, act, frames):
+    """The folder keeps it, and is written to once."""
+    first = lend(1, *STRICT)
+    act(come(first, "a", {FREE: 100}, "overhead=0", client=client))
+    first.become("a", held_kib=4 * frames, lent=frames)
+    kept = lambda: os.lstat(f"{first.folder}/=a").st_ino
+    time.sleep(LOOKED)
+    before = kept()
+    time.sleep(LOOKED)
+    assert kept() == before
+    process = process_of(first, "a")
+    stop(process)
+    lender = later(lend, first)
+    lender.become("a", here=1, lent=frames)
+    go_on(process)
 
 
 def test_a_process_for_which_lenders_wait_counts_until_it_has_ended(lend, stuck):
