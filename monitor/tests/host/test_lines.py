@@ -5,6 +5,7 @@ import time
 
 import pytest
 from bigvasta.connection import Connection
+from played import WAIT_RESET, Played
 from tenants import FREE, eventually
 from test_strict import GIVEN, STRICT, Later, lent, used, waits_of
 from vhost_client import DEFLATE, PAGE
@@ -66,6 +67,23 @@ def test_a_deflate_passes_a_new_life(given):
     begins.ends()
     lender.become("a", waits="nothing", ballooned=0, lent=128)
     assert lent(lender) == 160
+
+
+def test_a_new_life_takes_the_place_of_its_own_deflate(lend):
+    """Room for the deflate is none for the new life."""
+    lender = lend(1, *STRICT)
+    lender.set_budget(78)
+    guest = Played(lender, "a", pages=128, ballooned=50, target=50)
+    guest.deflates(10)
+    lender.become("a", waits="deflate", lent=78)
+    guest.report(waits=WAIT_RESET, wait=1, wanted=50)
+    lender.become("a", waits="reset", lent=78)
+    lender.set_budget(88)
+    time.sleep(0.5)
+    assert not guest.is_granted() and lent(lender) == 78
+    lender.set_budget(128)
+    lender.become("a", lent=128)
+    guest.leave()
 
 
 def test_who_waits_for_pages_that_nobody_can_give_is_named_once(given):
