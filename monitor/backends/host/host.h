@@ -377,9 +377,9 @@ void seat_renew(struct seat *seat);
 void seat_repeat(struct seat *seat);
 
 /* Sends its last target, and an order to look after it: what answers that has received the target.
- * Sends it again where its process hasn't received it. */
+ * Sends the order again, and before it the target where its process hasn't received that. */
 void seat_tell(struct seat *seat);
-void seat_retell(struct seat *seat);
+void seat_look_again(struct seat *seat, bool asks);
 
 /* ---- reports.c */
 

@@ -78,8 +78,7 @@ static void look(struct host *host)
         if (!seat_is_due(host->seats[i]))
             continue;
         host->seats[i]->silent++;
-        seat_retell(host->seats[i]);
-        seat_look(host->seats[i], true);
+        seat_look_again(host->seats[i], true);
     }
 }
 
@@ -89,9 +88,8 @@ static void remind(struct host *host)
     for (unsigned i = 0; i < host->count; i++) {
         if (seat_rests(host->seats[i]))
             continue;
-        seat_retell(host->seats[i]);
         seat_remind(host->seats[i]);
-        seat_look(host->seats[i], false);
+        seat_look_again(host->seats[i], false);
     }
 }
 

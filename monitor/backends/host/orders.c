@@ -54,10 +54,11 @@ void seat_tell(struct seat *seat)
     seat->received_at = 0;
 }
 
-void seat_retell(struct seat *seat)
+void seat_look_again(struct seat *seat, bool asks)
 {
     if (seat->told > 0 && !target_is_received(seat))
         tell_target(seat);
+    seat_look(seat, asks);
 }
 
 /* Whether a strict guest is to get pages back that others give first. */

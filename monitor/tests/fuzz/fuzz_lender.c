@@ -102,14 +102,13 @@ static void look(unsigned number)
     unsigned seconds = next_byte();
     now.tv_sec += seconds > 240 ? seconds - 240 : 0;
     if (seat_is_due(seat)) {
-        seat_look(seat, true);
+        seat_look_again(seat, true);
         seat->silent += seconds % 2;
     }
     bool comes = seat->holds && place_of(seat)->granted == 0;
     demand(!seat_is_taken(seat) || comes || seat_is_behind(seat) ||
            seat->target <= place_of(seat)->wanted);
     seat_step(seat, STEP_MS);
-    seat_retell(seat);
     places_relieve(&host), places_defer(&host);
     if (!seat_rests(seat))
         seat_remind(seat);

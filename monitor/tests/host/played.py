@@ -120,6 +120,7 @@ class Played(threading.Thread):
         self.hears = hears
         self.lender, self.name_of, self.its = lender, name, {"holds": 1, "ready": 1, **its}
         self.granted, self.told_to_leave, self.lock = 0, 0, threading.Lock()
+        self.targets = []
         self.listens = listens or Listens(lender.folder, name)
         if not listens:
             lender.demand(f"add {name} strict=1")
@@ -153,6 +154,8 @@ class Played(threading.Thread):
                 order = Message.from_buffer_copy(got)
                 if order.kind == ORDER_LOOK:
                     self.report(order.number)
+                if order.kind == ORDER_TARGET:
+                    self.targets.append(order.target)
                 if order.kind == ORDER_TARGET and self.hears:
                     self.report(target=order.target)
                 if order.kind == ORDER_GRANT:

@@ -4,8 +4,10 @@ process does that nobody looks at."""
 import os
 import time
 
+from played import Played
 from tenants import FREE, PAGES, eventually, process_of
 from test_later_lender import QUICK
+from test_strict import STRICT
 
 # Pages of a guest, KiB of a page, and the seconds for which nobody is asked who took pages back.
 ALL, KIB, PAUSE = 128, 4, 2
@@ -49,6 +51,19 @@ def test_who_has_taken_pages_back_is_asked_for_none_for_a_while(lend, come):
     lender.become("a", ballooned=0, taken=50, spare=0)
     lender.become("a", asked=50)
     assert time.monotonic() - begin >= PAUSE
+
+
+def test_a_process_that_has_not_received_a_target_is_sent_it_at_each_look(lend):
+    lender = lend(1, *STRICT)
+    guest = Played(lender, "a", pages=ALL, ballooned=50)
+    lender.set_budget(ALL - 50)
+    eventually(lambda: guest.targets.count(50) >= 5, lambda: guest.targets)
+    guest.report(target=50)
+    lender.become("a", target=50)
+    before, looks = len(guest.targets), lender.counters()["looks"]
+    eventually(lambda: lender.counters()["looks"] > looks + 3)
+    assert len(guest.targets) - before <= 1
+    guest.leave()
 
 
 def test_a_process_whose_lender_has_gone_takes_no_processor(lend, come):
