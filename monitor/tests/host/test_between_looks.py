@@ -3,16 +3,19 @@
 import time
 
 import pytest
-from played import ORDER_LOOK, TELL_REPORT, VERSION, Message, Played
+from played import ORDER_GRANT, ORDER_LOOK, TELL_REPORT, VERSION, Message, Played
 from tenants import FREE, eventually
 from test_channels import channel
 from test_strict import GIVEN, STRICT, used
-from vhost_client import DEFLATE, PAGE
+from vhost_client import DEFLATE, INFLATE, PAGE
 
 # A host that looks at its guests once a minute; how often a story is told again that has lasted
 # longer, as the machine is busy; and the seconds in which all that was said is heard.
 SELDOM = ("--floor", "0", "--reserve", "0", "--step", "0", "--period", "60000")
 TRIES, HEARD = 3, 0.5
+
+# Seconds between two reports that nobody asked for, and how many pages are given one by one.
+NEWS_EVERY, LAST = 0.01, 100
 
 
 def has_target(lender, name, pages):
@@ -123,6 +126,52 @@ def test_an_order_to_look_is_answered_once(lend, come):
     assert {(its.kind, its.asked) for its in reports} == {(TELL_REPORT, 0)}
     assert [its.number for its in reports if its.number] == [7, 1, 8]
     lend(1, *SELDOM, folder=lender.folder)
+
+
+def report_that(it, holds):
+    """Returns the first report for which something holds, and how many came until then."""
+    count = 1
+    while not holds(its := Message.from_buffer_copy(it.recv(1 << 16))):
+        count += 1
+    return its, count
+
+
+@pytest.fixture
+def unasked(lend, come):
+    """A guest, and the channel of a lender to its process, which asks it for nothing."""
+    lender = lend(1, *SELDOM, "--strict")
+    guest = come(lender, "a", {FREE: 100})
+    lender.kill()
+    with channel() as it:
+        it.connect(f"{lender.folder}/.channels/a")
+        yield guest, it
+    lend(1, *SELDOM, folder=lender.folder)
+
+
+def test_what_changes_at_once_is_told_together(unasked):
+    """After a report there is none for a hundredth of a second, and the next one has all."""
+    guest, it = unasked
+    begin = time.monotonic()
+    for number, page in enumerate(GIVEN[:LAST]):
+        guest.give([page])
+        used(guest, INFLATE, number + 1)
+    _, count = report_that(it, lambda its: its.ballooned == LAST)
+    assert count <= (time.monotonic() - begin) / NEWS_EVERY + 2
+
+
+def test_a_deflate_that_is_held_is_told_at_once(unasked):
+    guest, it = unasked
+    seconds = []
+    for page in GIVEN[:20]:
+        guest.give([page])
+        report_that(it, lambda its: its.ballooned == 1)
+        begin = time.monotonic()
+        guest.take([page])
+        held, _ = report_that(it, lambda its: its.held_pages == 1)
+        seconds.append(time.monotonic() - begin)
+        it.send(bytes(Message(version=VERSION, kind=ORDER_GRANT, wait=held.held_wait)))
+        report_that(it, lambda its: its.ballooned == 0)
+    assert min(seconds) < NEWS_EVERY / 2, seconds
 
 
 def test_an_overdraft_is_lent_once_nothing_has_moved_for_a_second(lend, come):

@@ -2,12 +2,14 @@
 guests' processes, which say which target a driver has read. Each of these guests is silent: it can
 spare what is in its balloon, and no more."""
 
+import os
+import signal
 import time
 
 import pytest
 from bigvasta.connection import Connection
 from played import WAIT_ROOM, Played
-from tenants import FREE, read_target
+from tenants import FREE, process_of, read_target
 from test_strict import GIVEN, STRICT, lent
 from vhost_client import PAGE
 
@@ -108,3 +110,17 @@ def test_a_process_tells_what_its_driver_has_read(lend, come, reads):
     if seconds >= LINGERS - 0.5 if reads else seconds >= 2 * LINGERS - 0.5:
         pytest.skip("the machine is too busy")
     assert reads or seconds >= LINGERS - 0.5
+
+
+def test_the_next_process_tells_what_was_read_before_for_as_long(lend, come):
+    lender = lend(1, *STRICT)
+    a, _ = (come(lender, it, {FREE: 100}, reads=False) for it in "ab")
+    a.give(GIVEN[:100])
+    lender.become("a", asked=0, ballooned=100, lent=128)
+    read_target(a.client)
+    lender.demand("budget 0")
+    lender.become("a", asked=128)
+    os.kill(process_of(lender, "a"), signal.SIGKILL)
+    begin = time.monotonic()
+    lender.become("a", target=128, lent=28)
+    assert time.monotonic() - begin >= LINGERS - 0.5

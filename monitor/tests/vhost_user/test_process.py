@@ -167,6 +167,18 @@ def target(client, pages):
     ) == ("ok", pages, pages)
 
 
+def test_a_state_that_was_read_is_closed(serve_well):
+    client = serve_well()
+    state = client.file("state")
+    client.restart("--state", state)
+    target(client, 5)
+    client.restart("--state", state)
+    assert client.counter("target") == 5
+    files = f"/proc/{client.backend.process.pid}/fd"
+    assert state not in [os.readlink(f"{files}/{it}") for it in os.listdir(files)]
+    client.connect()
+
+
 def test_a_link_in_the_place_of_a_state(serve_well):
     client = serve_well()
     state, other = client.file("state"), client.file("other")
