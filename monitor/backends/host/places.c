@@ -79,11 +79,10 @@ void places_step(struct host *host, VbHostEvent event)
         join(seat);
 }
 
-static void arrive(struct seat *seat, size_t place, uint32_t pages, uint32_t without)
+/* Nobody has any memory there any longer. */
+static void clear(struct host *host, size_t place)
 {
-    places_step(
-        seat->host,
-        (VbHostEvent){.kind = VB_ARRIVES, .guest = place, .pages = pages, .ballooned = without});
+    places_step(host, (VbHostEvent){.kind = VB_ARRIVES, .guest = place});
 }
 
 void places_follow_budget(struct host *host)
@@ -99,7 +98,7 @@ static void drop_added(struct seat *seat)
 {
     if (seat->added == NO_PLACE)
         return;
-    arrive(seat, seat->added, 0, 0);
+    clear(seat->host, seat->added);
     seat->added = NO_PLACE;
 }
 
@@ -130,7 +129,8 @@ static void hear_of_added(struct seat *seat, uint32_t pages)
         seat->added = free_place(seat->host);
     VbReport report = {.ballooned = pages, .held = pages, .line = VB_LINE_ARRIVALS, .deflates = 1};
     if (seat->host->places[seat->added].pages != pages) {
-        arrive(seat, seat->added, pages, 0);
+        places_step(seat->host,
+                    (VbHostEvent){.kind = VB_ARRIVES, .guest = seat->added, .pages = pages});
         host_changed(seat->host, BY_GUESTS);
     }
     places_step(seat->host,
@@ -174,7 +174,10 @@ static void hear_newcomer(struct seat *seat)
 {
     uint32_t wanted = room_wanted(seat), without = ask_without(seat, wanted);
     if (place_of(seat)->pages != wanted || place_of(seat)->wanted != without)
-        arrive(seat, seat->place, wanted, without);
+        places_step(seat->host, (VbHostEvent){.kind = VB_ARRIVES,
+                                              .guest = seat->place,
+                                              .pages = wanted,
+                                              .ballooned = without});
     if (wanted > 0)
         hear(seat);
 }
@@ -231,7 +234,7 @@ void place_takes_over(struct seat *seat)
 {
     const struct lending_message *message = &seat->report;
     if (message->pages == 0) {
-        arrive(seat, seat->place, 0, 0);
+        clear(seat->host, seat->place);
         return;
     }
     VbReport report = {.ballooned = message->ballooned,
@@ -289,7 +292,7 @@ void place_stays(struct seat *seat)
 void place_leaves(struct seat *seat)
 {
     drop_added(seat);
-    arrive(seat, seat->place, 0, 0);
+    clear(seat->host, seat->place);
 }
 
 void place_wants(struct seat *seat, uint32_t pages)
