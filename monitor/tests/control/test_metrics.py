@@ -1,6 +1,7 @@
 """The metrics of a host: what promtool says of them, what a real Prometheus scrapes, and that each
 alert fires there for what it is for."""
 
+import itertools
 import json
 import os
 import re
@@ -17,6 +18,7 @@ from installed import bigvasta
 from linux_kit import ROOT
 from made_status import guest, status
 from served import free_port, get, serving
+from test_made import STATISTICS
 from vhost_client import DEFLATE, INFLATE, REGIONS
 from waiting import PATIENCE, eventually
 
@@ -77,6 +79,37 @@ def test_what_the_dashboard_and_the_alerts_read_is_there(tmp_path):
     ]
     (tmp_path / "rules").write_text(json.dumps({"groups": [{"name": "x", "rules": written}]}))
     promtool("check", "rules", str(tmp_path / "rules"))
+
+
+# Numbers of a status that no metric has: they don't change by themselves, or another one says them.
+WITHOUT_METRIC = {
+    *("version", "overdraft", "process", "least", "priority", "overhead"),
+    *("free_memory", "available_memory"),
+}
+
+
+def numbered(its, numbers, named):
+    """Returns a part of a status with numbers that are all different, whose names are noted."""
+    if isinstance(its, list):
+        return [numbered(it, numbers, named) for it in its]
+    other = {}
+    for name, it in its.items():
+        if type(it) is int:
+            other[name] = next(numbers)
+            named[other[name]] = name
+        elif isinstance(it, (dict, list)) and name != "measures":
+            other[name] = numbered(it, numbers, named)
+    return its | other
+
+
+def test_each_number_of_a_status_is_a_metric():
+    collector = pytest.importorskip("bigvasta.collector").Collector
+    its = status([guest("a", statistics=dict.fromkeys(STATISTICS, 0))], pressed=0)
+    its["host"] |= {"wanted": 0, "least_budget": 0}
+    named = {}
+    its = numbered(its, itertools.count(1000), named)
+    shown = {it.value for family in collector(lambda: its).collect() for it in family.samples}
+    assert {it for number, it in named.items() if number not in shown} == WITHOUT_METRIC
 
 
 def test_metrics_without_a_remark(host, arrive):

@@ -8,9 +8,10 @@ import types
 import pytest
 from bigvasta import watching
 from bigvasta.commands.log import event_line, show
-from bigvasta.commands.status import others, summary
-from bigvasta.picture import SORTS, Shown, host_lines, ordered, state_line
+from bigvasta.commands.status import lines, others, summary
+from bigvasta.picture import SORTS, Shown, guest_bar, host_lines, ordered, state_line
 from bigvasta.watching import ESCAPE, obey
+from made_status import guest, status
 
 MIB = 1 << 20
 
@@ -155,6 +156,25 @@ def test_bars_of_a_host():
         host(budget=480, held=200, lent=300), [{"memory": 600 * MIB}], 32, Shown(blocks="#=. |")
     )
     assert bar.text == "[##########.....         |     ]"
+
+
+def test_the_bar_of_a_guest():
+    """Of 100 MiB it holds 40, of which it can spare 10 beside what is in its balloon, and is lent
+    60; the mark is where its target of 20 leaves it. It has half the memory of the largest."""
+    its = guest("a", memory=100, held=40, loan=60, spare=30, ballooned=20, target=20)
+    assert guest_bar(its, 200 * MIB, 40, "#=. |") == "######==....    |   ]"
+
+
+def test_the_lines_of_a_status():
+    guests = [
+        guest("a", memory=256, held=8, loan=64, waits_for="room", waits=3.0),
+        guest("longer", memory=1024, state="starting"),
+    ]
+    assert lines(status(guests, budget=480))[1:] == [
+        "guest   state     memory  held  loan  target  balloon  spare  waits for",
+        "a       ready        256   8.0    64       0        0      0  room, 3.0 s",
+        "longer  starting    1024     0     0       0        0      0",
+    ]
 
 
 def test_processes_of_another_version():
