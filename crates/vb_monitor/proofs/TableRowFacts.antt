@@ -1,5 +1,5 @@
 -- Rows of descriptors that are copied together, worked out.
-use Rattle.std.proofs.Common.{◌≡◌, refl, arith, ℕ, Bool, false, List, []}
+use Rattle.std.proofs.Common.{true, ◌≡◌, refl, arith, ℕ, Bool, false, List, []}
 use Rattle.std.proofs.Common.{◌∷◌, ◌++◌, length, Some, None}
 use Rattle.std.specs.Prelude.{take, replicate}
 use Rattle.vb_chain.specs.declared.pieces.Piece.{Piece}
@@ -319,6 +319,14 @@ another_row some = record {
   long = refl;
   goes_on = (refl, refl);
 }
+
+-- what comes then has all accesses, and whether the chain has come to what the device writes
+is_whole_then : EndsRow Last whole ready tally On (λ pieces log. log ≡ discard ∷ []) false (piece ∷ []) (discard ∷ [])
+is_whole_then = refl
+
+another_row_of_writes : EndsRow (Leaves 5) whole ready tally (λ r number writing pieces log. writing ≡ true) (Ended 2)
+    true (piece ∷ []) (CopyBytes (at 0x50) (with_two (writes 6)) ∷ [])
+another_row_of_writes some = record { bytes = with_two (writes 6); rest = []; asks = refl; long = refl; goes_on = refl }
 
 no_row_asked : EndsRow (Leaves 5) whole ready tally (Follows 6 whole ready tally (Ended 2)) (Ended 2)
     false (piece ∷ []) (discard ∷ []) → ⊥

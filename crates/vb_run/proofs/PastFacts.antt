@@ -7,7 +7,10 @@ use Rattle.vb_model.specs.declared.calls.Actor.TheVariants.{Starter, Processor, 
 use Rattle.vb_model.specs.declared.calls.{Call.{Call, TheVariants.{Alloc, Stats, Ask, Init}}, Claim.Claim}
 use Rattle.vb_model.specs.declared.calls.Claim.TheVariants.{GaveNoFrame}
 use Rattle.vb_model.specs.declared.replies.Reply.TheVariants.{Done}
-use Rattle.vb_model.specs.{Guest.Guest, GuestRun.{Entry, Called, Looked, IsHistory}}
+use Rattle.vb_model.specs.{Guest.{Guest, fresh}, GuestRun.{Entry, Called, Looked, IsHistory}}
+use Rattle.vb_virtio.specs.Limits.{is_config}
+use Rattle.vb_virtio.specs.declared.negotiation.TheConstants.{OFFERED_FEATURES}
+use Rattle.vb_run.proofs.Keeping.{kept_start}
 use Rattle.vb_ram.specs.declared.config.Config.{Config as Sizes}
 use Rattle.vb_model.specs.declared.replies.Reply.{Reply}
 use Rattle.vb_run.specs.{Rising.IsRising, Services.{services, IsTended, IsQuiet}}
@@ -15,7 +18,7 @@ use Rattle.vb_run.specs.Past.{Past, Progress, IsScript, HasEnded, NotesNext, Not
 use Rattle.vb_run.specs.Past.{IsAside, IsSame, AllEnded, AreBegun, AreScripts, Follows, Notes, noted}
 use Rattle.vb_run.specs.Past.{just_started, scripts_in, IsKept}
 use Rattle.vb_run.specs.{Made.AreMade, Plans.config_of}
-use Rattle.vb_slot.specs.Alone.{AreBehind}
+use Rattle.vb_slot.specs.Alone.{AreBehind, StepsTo}
 
 -- each above the one before it: not the same again, and not below it
 rising : IsRising [] × IsRising (1 ∷ 2 ∷ 9 ∷ [])
@@ -174,6 +177,17 @@ service : (reply : Reply) (old new : Past) → NotesService 8 reply old new
     → (call : Call) × (claims : List Claim) × (slice_get services 8 ≡ Some call)
     × (new ≡ noted (Worker old.guest) call claims reply old)
 service reply old new is = is
+
+-- what is kept of a guest that was just started, whose script has no call
+just_started_is_kept : (Is : Guest → Type 0) (sizes : Sizes) (claims : List Claim) (reply : Reply)
+    → is_config sizes.pages sizes.queue_size sizes.processors ≡ true
+    → StepsTo Is claims (fresh (config_of sizes true) 0) (Init OFFERED_FEATURES) reply
+    → ((g : Guest) → Is g → AreBehind [] g)
+    → IsKept Is [] (just_started 3 sizes true (script [] 0 ∷ []) claims reply)
+just_started_is_kept Is sizes claims reply fits s behind =
+    kept_start Is [] 3 sizes true (script [] 0 ∷ []) claims reply fits nothing_made s behind where
+      nothing_made : AreBegun (script [] 0 ∷ [])
+      nothing_made cpu s is = grind (arith, is)
 
 -- of the guest that is there: what is kept beside what calls are promised
 kept : (Is : Guest → Type 0) (own : List ℕ) (p : Past) → IsKept Is own p → (now : Guest) × Is now
