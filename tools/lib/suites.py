@@ -37,7 +37,7 @@ SUITES = {
             "client program"
         ),
         ("monitor/tests/control", "-q"),
-        more="tmux prometheus python3-prometheus-client man-db systemd chromium-headless-shell",
+        more="tmux prometheus python3-prometheus-client man-db systemd",
     ),
     "host": Suite(
         "the host with a process for each guest, by clients that aren't Linux",
