@@ -142,7 +142,7 @@ static void adopt(struct seat *seat)
                                            .user = seat->terms.user,
                                            .memory = seat->terms.memory,
                                            .start = seat->terms.start};
-    seat->asks_terms = folder_keep(seat, &seat->terms) != NULL;
+    folder_keep(seat, &seat->terms);
 }
 
 /* The version that a process says that it has; empty where it isn't one. */
