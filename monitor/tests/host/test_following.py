@@ -6,6 +6,7 @@ import time
 
 import pytest
 from tenants import FREE, PAGE, eventually
+from test_limits_that_change import files_of
 from test_refused_words import said_by
 from test_strict import Later, waits_of
 from vhost_client import Client
@@ -98,6 +99,7 @@ def test_it_is_what_is_left_from_the_start_and_falls_at_once(follow, machine):
 
 def test_it_rises_by_a_step_a_second_up_to_the_operator_s(follow, machine):
     lender = follow()
+    files = files_of(lender.process.pid)
     begin, seen, end = time.monotonic(), [budget_of(lender)], patience_from_now()
     machine.leaves(HUGE)
     while seen[-1] != MOST * MIB and time.monotonic() < end:
@@ -105,6 +107,7 @@ def test_it_rises_by_a_step_a_second_up_to_the_operator_s(follow, machine):
     steps = [after - before for before, after in zip(seen, seen[1:]) if after != before]
     assert steps == 3 * [STEP] + [4 * MIB - 3 * STEP]
     assert time.monotonic() - begin > len(steps) - 1
+    eventually(lambda: files_of(lender.process.pid) == files)
 
 
 def test_it_stays_where_a_whole_step_isn_t_left(follow, machine):

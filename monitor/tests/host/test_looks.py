@@ -66,6 +66,21 @@ def test_a_process_that_has_not_received_a_target_is_sent_it_at_each_look(lend):
     guest.leave()
 
 
+def test_a_driver_that_stays_off_its_target_is_told_it_at_each_look(lend, come):
+    lender = lend(1, *QUICK)
+    guest = come(lender, "a", {FREE: 100})
+    told = lambda: lender.status()["guests"][0]["counters"]["told"]
+    lender.set_budget(ALL - 50)
+    lender.become("a", asked=50, target=50)
+    before = told()
+    eventually(lambda: told() >= before + 5)
+    guest.give([*range(PAGES, PAGES + 50)])
+    lender.become("a", ballooned=50)
+    before, looks = told(), lender.counters()["looks"]
+    eventually(lambda: lender.counters()["looks"] > looks + 5)
+    assert told() <= before + 1
+
+
 def test_a_process_whose_lender_has_gone_takes_no_processor(lend, come):
     lender = lend(1, *QUICK)
     come(lender, "a", {FREE: 100})

@@ -13,6 +13,7 @@ OPTIONS = (
     (("--overdraft", "257"), "overdraft: an overdraft is no more than the budget"),
     (("--patience", "0"), "--patience: 0 can't be taken"),
     (("--patience", "86401"), "--patience: 86401 can't be taken"),
+    (("--program", "/nowhere"), "/nowhere: No such file or directory"),
 )
 
 
