@@ -174,10 +174,11 @@ def test_the_operator_s_budget_is_the_most(follow, machine):
     machine.leaves(1000)
     lender.set_budget(9 * MIB)
     assert budget_of(lender) == 9 * MIB
-    lender.set_budget(12 * MIB)
+    most = 9 * MIB + 64
+    lender.set_budget(most)
     seen = {budget_of(lender), lender.status()["host"]["most_budget"] // PAGE}
-    assert seen < {9 * MIB, 9 * MIB + STEP, 12 * MIB}
-    become(lender, 12 * MIB)
+    assert seen < {9 * MIB, 9 * MIB + most // 64 + 1, most}
+    become(lender, most)
 
 
 def test_without_a_word_of_it_the_budget_is_the_operator_s(lend, machine):
