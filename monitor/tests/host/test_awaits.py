@@ -1,7 +1,12 @@
 """A guest's process that waits for room, with a deflate in its hands that is granted meanwhile."""
 
-from tenants import FREE, PAGES, PAGES_OF_ALL, eventually
+import os
+import signal
+
+from tenants import FREE, PAGES, PAGES_OF_ALL, eventually, process_of
+from test_strict import STRICT, Later
 from vhost_client import ADD_MEM_REG, DEFLATE, INFLATE, OFFERED, Client
+from waiting import PATIENCE
 
 # Pages of the first region that its driver gives, after its rings; and how many it takes back.
 GIVEN, TAKEN = [*range(PAGES_OF_ALL + 20, PAGES_OF_ALL + 60)], 10
@@ -32,4 +37,18 @@ def test_a_client_that_cannot_be_told_is_not_served_on_while_it_waits(lend, come
         lambda: "refused c: the client can't be told of a used buffer" in lender.said(), lender.said
     )
     lender.become("c", here=0, lent=0)
+    client.leave()
+
+
+def test_a_process_that_waits_ends_by_a_signal(lend, come):
+    lender = lend(1, *STRICT)
+    come(lender, "b", {FREE: 0})
+    lender.set_budget(2 * 128 - 1)
+    client = Client(lender.add("c"))
+    client.negotiate()
+    comes = Later(client.hand_over_memory)
+    lender.become("c", waits="room")
+    os.kill(process_of(lender, "c"), signal.SIGTERM)
+    lender.become("c", here=0)
+    comes.join(PATIENCE)
     client.leave()

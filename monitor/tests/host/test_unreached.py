@@ -45,6 +45,7 @@ def test_a_process_that_does_not_report_counts_with_all_its_pages(lend, stuck):
     lender = later(lend, first)
     lender.become("b", ballooned=50)
     assert lent(lender) == 2 * ALL - 50
+    eventually(lambda: next(it for it in lender.status()["guests"] if it["name"] == "a")["silent"])
     newcomer = Client(lender.add("c"))
     newcomer.negotiate()
     comes = Later(newcomer.hand_over_memory)
