@@ -1,5 +1,5 @@
 """What a host counts of its guests: one waits, one is silent, one took memory back unasked, and the
-work of one waits for memory."""
+work of one lacks memory."""
 
 import struct
 
@@ -8,8 +8,9 @@ from test_waits import GIVEN, GUEST, Coming
 from vhost_client import BUFFERS, DEFLATE, INFLATE, PAGE, STATISTICS
 from waiting import eventually
 
-# The tag of allocations that waited for reclaim (Linux 6.12).
-STALLS = 11
+# The tag of processes that were killed for lack of memory (Linux 6.12), which presses a guest for
+# two minutes, whatever its balloon does.
+KILLS = 10
 
 # Of each count of a host: whether a guest is one of those, or how much of it it has.
 COUNTS = {
@@ -23,15 +24,15 @@ COUNTS = {
 }
 
 
-class Stalling(Answering):
-    """A guest of whose allocations one more has waited at each question."""
+class Killing(Answering):
+    """A guest of whose processes one more was killed at each question."""
 
-    stalls = 0
+    kills = 0
 
     def tell(self):
         """Posts statistics."""
-        self.stalls += 1
-        data = struct.pack("<HQHQ", FREE_MEMORY, self.free * PAGE, STALLS, self.stalls)
+        self.kills += 1
+        data = struct.pack("<HQHQ", FREE_MEMORY, self.free * PAGE, KILLS, self.kills)
         self.client.write(BUFFERS + PAGE, data)
         self.client.describe(STATISTICS, 0, BUFFERS + PAGE, len(data))
         self.client.publish(STATISTICS, 0)
@@ -41,8 +42,8 @@ class Stalling(Answering):
 def come_all(host, arrive):
     """Has a guest of each kind come; returns those that are to go."""
     taker, silent = arrive("taker"), arrive("silent")
-    host.ask("add", name="stalls")
-    stalls = Stalling(host, "stalls")
+    host.ask("add", name="kills")
+    kills = Killing(host, "kills")
     eventually(lambda: all(it["answers"] for it in host.ask("status")["guests"]))
     taker.client.post_pages(INFLATE, GIVEN)
     eventually(lambda: host.guest("taker")["ballooned"] == len(GIVEN) * PAGE)
@@ -51,7 +52,7 @@ def come_all(host, arrive):
     eventually(lambda: not host.guest("taker")["cooperates"])
     silent.stop()
     host.ask("budget", bytes=3 * GUEST)
-    return stalls, Coming(host, "late", strict=True)
+    return kills, Coming(host, "late", strict=True)
 
 
 def test_each_count_of_a_host_is_that_of_its_guests(host, arrive):
