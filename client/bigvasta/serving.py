@@ -94,7 +94,7 @@ def asked_by(request):
 def is_own_name(name):
     """Whether a name, perhaps with a port, is of this machine alone: a page of a browser that leads
     another name here is a stranger's."""
-    return re.fullmatch(rb"|(localhost|[\d.]+|\[[\da-fA-F:]+\])(:\d+)?", name) is not None
+    return re.fullmatch(rb"(localhost|[\d.]+|\[[\da-fA-F:]+\])?(:\d+)?", name) is not None
 
 
 def listener_at(text):

@@ -38,6 +38,7 @@ REQUESTS = (
     (b"GET / HTTP/1.1\r\n\r\n", 200),
     (b"GET /status HTTP/1.0\r\nhost:  localhost:9750\r\n\r\n", 200),
     (b"GET /status HTTP/1.1\r\nHost: 127.0.0.1\r\n\r\n", 200),
+    (b"GET /status HTTP/1.1\r\nHost: :9750\r\n\r\n", 200),
     (b"GET /status HTTP/1.1\r\nHost: [::1]:9750\r\n\r\n", 200),
     (b"GET /status HTTP/1.1\r\nHost: stranger.example:9750\r\n\r\n", 403),
     (b"GET / HTTP/1.1\r\nHost: localhost.example\r\n\r\n", 403),

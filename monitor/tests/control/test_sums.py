@@ -47,7 +47,9 @@ def come_all(host, arrive):
     eventually(lambda: all(it["answers"] for it in host.ask("status")["guests"]))
     taker.client.post_pages(INFLATE, GIVEN)
     eventually(lambda: host.guest("taker")["ballooned"] == len(GIVEN) * PAGE)
+    told = host.guest("taker")["counters"]["told"]
     host.ask("guest", name="taker", target=len(GIVEN) * PAGE)
+    eventually(lambda: host.guest("taker")["counters"]["told"] > told)
     taker.client.post_pages(DEFLATE, GIVEN[:10])
     eventually(lambda: not host.guest("taker")["cooperates"])
     silent.stop()
