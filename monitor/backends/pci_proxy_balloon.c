@@ -10,9 +10,9 @@
  * QEMU hands interrupts of such a device over to KVM alone. Without KVM the guest has to look by
  * itself: Linux does, with `irqpoll` on its command line.
  */
-#include "guest/options.h"
-#include "guest/virtio_pci.h"
-#include "guest/stream.h"
+#include "base/options.h"
+#include "base/stream.h"
+#include "pci/virtio_pci.h"
 
 #include <limits.h>
 #include <stdio.h>

@@ -31,14 +31,14 @@
  * that finds one there goes on with its target and its `actual`. --lines: what is said in a second
  * at most (20). --help, --version and --print-capabilities are answered.
  */
-#include "guest/backend.h"
-#include "guest/conventions.h"
-#include "guest/inbox.h"
-#include "guest/keeper.h"
-#include "guest/kept.h"
-#include "guest/marks.h"
-#include "guest/options.h"
-#include "guest/state.h"
+#include "balloon/backend.h"
+#include "balloon/state.h"
+#include "base/options.h"
+#include "process/keeper.h"
+#include "process/kept.h"
+#include "process/marks.h"
+#include "vhost/conventions.h"
+#include "vhost/inbox.h"
 
 #include <errno.h>
 #include <stdio.h>

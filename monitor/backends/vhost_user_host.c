@@ -63,10 +63,10 @@
  * --leave: signals end the lender alone, as the line `leave` does: a service that starts anew goes
  * on with its guests.
  */
-#include "guest/options.h"
-#include "host/host.h"
-#include "service/config_words.h"
+#include "base/options.h"
+#include "lender/host.h"
 #include "service/service.h"
+#include "settings/config_words.h"
 
 #include <signal.h>
 #include <sys/pidfd.h>
@@ -205,9 +205,9 @@ static enum command_line read_words(struct host *host, struct service *service, 
     enum command_line line = options_read(count, words, rows, &host->folder);
     if (service->checks)
         return line;
-    take_config(host, &service->config);
+    take_config(host, &service->settings.config);
     if (line == LINE_READ)
-        service_recall(service, host);
+        settings_recall(&service->settings, host);
     host->frames = host->budget;
     return line == LINE_READ && !(host->folder && host->budget > 0) ? LINE_WRONG : line;
 }
@@ -304,7 +304,7 @@ int main(int count, char **words)
     if (line != LINE_READ)
         return line == LINE_WRONG ? 2 : 0;
     if (service.checks)
-        return !service_check(&service, &host);
+        return !settings_check(&service.settings, service.checks, &host);
     process_allow_files(FILES_OF_LENDER + MOST_GUESTS * FILES_OF_SEAT +
                         CONTROL_SOCKETS * MOST_CONTROL_CLIENTS);
     if (!can_seat() || !can_overdraw(&host) || !can_be_shown(host.folder) ||

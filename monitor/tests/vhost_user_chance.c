@@ -9,8 +9,7 @@
  * messages; then it says how often it came. Its status is 1 where the backend can't be reached any
  * longer.
  */
-#define _GNU_SOURCE
-#include "../backends/guest/vhost_user.h"
+#include "../backends/vhost/vhost_user.h"
 
 #include <errno.h>
 #include <fcntl.h>

@@ -14,7 +14,7 @@ SETTINGS = source_files.ROOT
 
 # Files that aren't parted by their topics yet: no other one may be longer.
 LONGER = (
-    "monitor/backends/host/host.h",
+    "monitor/backends/lender/host.h",
     *(f"monitor/tests/control/{it}.py" for it in ("test_config", "test_made")),
     *(f"monitor/tests/host/{it}.py" for it in ("host_runs", "test_kept", "test_later_states")),
     *(f"monitor/tests/kit/{it}.py" for it in ("linux_guest", "linux_vmms", "vhost_client")),

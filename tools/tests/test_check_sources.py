@@ -60,7 +60,7 @@ def found(tmp_path, monkeypatch):
 
 @pytest.mark.parametrize("line", BARE)
 @pytest.mark.parametrize(
-    "path", ("crates/a/src/a.rt", "monitor/backends/guest/a.c", "monitor/reference/a.h")
+    "path", ("crates/a/src/a.rt", "monitor/backends/balloon/a.c", "monitor/reference/a.h")
 )
 def test_a_bare_number_is_found_in_its_place(found, path, line):
     assert found(path, f"\n    {line}\n") == [f"{path}:2: {line}"]

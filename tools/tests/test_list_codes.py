@@ -27,7 +27,7 @@ READ = (
     "crates/vb_c/vb_numbers.h",
     "docs/RULES.md",
     "docs/INTEGRATION.md",
-    "monitor/backends/guest/codes.c",
+    "monitor/backends/balloon/codes.c",
     "monitor/reference/reference.h",
     "monitor/include/ring_layout.h",
     "tools/list-codes",
@@ -42,7 +42,7 @@ READ = (
 LIMIT = 60
 
 HEADER, REFERENCE = "crates/vb_c/vb_numbers.h", "monitor/reference/reference.h: rules"
-WORDS = "monitor/backends/guest/codes.c"
+WORDS = "monitor/backends/balloon/codes.c"
 LAYOUT = "monitor/include/ring_layout.h"
 RULES, CODES = "docs/RULES.md", "docs/INTEGRATION.md"
 

@@ -99,13 +99,13 @@ def test_what_is_drawn():
 SEEN = (
     ("monitor/backends/control/answers.c", ["control", "host"], None),
     (
-        "monitor/backends/service/config.c",
+        "monitor/backends/settings/config.c",
         ["control", "host"],
         "monitor/tests/control/test_config.py",
     ),
-    ("monitor/backends/host/limits.c", ["host", "control"], "monitor/tests/host/test_limits.py"),
-    ("monitor/backends/guest/virtio_pci.c", ["pci-proxy"], None),
-    ("monitor/backends/guest/lent.c", ["vhost-user", "host", "control"], None),
+    ("monitor/backends/lender/limits.c", ["host", "control"], "monitor/tests/host/test_limits.py"),
+    ("monitor/backends/pci/virtio_pci.c", ["pci-proxy"], None),
+    ("monitor/backends/process/lent.c", ["vhost-user", "host", "control"], None),
     (
         "client/bigvasta/picture.py",
         ["control", "plan"],

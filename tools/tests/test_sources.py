@@ -88,23 +88,23 @@ OF_ALL = (
     ("unused", {"tools/a.py": "import os\n\nos.getpid()\n"}, []),
     (
         "writes",
-        {"monitor/backends/guest/a.c": WRITER % "device->status = 3"},
-        ["monitor/backends/guest/a.c:3: device->status = 3;"],
+        {"monitor/backends/balloon/a.c": WRITER % "device->status = 3"},
+        ["monitor/backends/balloon/a.c:3: device->status = 3;"],
     ),
     (
         "writes",
-        {"monitor/backends/guest/a.c": WRITER % "*device = other"},
-        ["monitor/backends/guest/a.c:3: *device = other;"],
+        {"monitor/backends/balloon/a.c": WRITER % "*device = other"},
+        ["monitor/backends/balloon/a.c:3: *device = other;"],
     ),
     (
         "writes",
-        {"monitor/backends/guest/a.c": WRITER % "memset(device, 0, 5)"},
-        ["monitor/backends/guest/a.c:3: memset(device, 0, 5);"],
+        {"monitor/backends/balloon/a.c": WRITER % "memset(device, 0, 5)"},
+        ["monitor/backends/balloon/a.c:3: memset(device, 0, 5);"],
     ),
     (
         "writes",
         {
-            "monitor/backends/guest/a.c": WRITER % "return device->status == 3",
+            "monitor/backends/balloon/a.c": WRITER % "return device->status == 3",
             "monitor/reference/a.h": WRITER % "device->status = 3",
         },
         [],
@@ -123,6 +123,15 @@ OF_ALL = (
         "floors",
         {"crates.txt": "vb_ram: vb_model\nvb_core: vb_ram\nvb_c staticlib: vb_core\n"},
         ["crates.txt: vb_ram ships, and needs vb_model"],
+    ),
+    (
+        "floors",
+        {
+            "crates.txt": "",
+            "monitor/backends/vhost/a.h": '#include "../balloon/b.h"\n',
+            "monitor/backends/balloon/b.h": '#include "../vhost/a.h"\n#include "c.h"\n',
+        },
+        ["monitor/backends/balloon/b.h: vhost is above it"],
     ),
 )
 

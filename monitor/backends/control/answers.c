@@ -1,12 +1,12 @@
 #include "answers.h"
 
 #include "parts.h"
-
-#include "../host/journal.h"
-#include "../host/measures.h"
-#include "../guest/tags.h"
-#include "../host/view.h"
 #include "vb.h"
+
+#include "../base/tags.h"
+#include "../lender/journal.h"
+#include "../lender/measures.h"
+#include "../lender/view.h"
 
 static json_t *kibibytes(uint64_t kib)
 {

@@ -1,9 +1,9 @@
 /* A request whose fields are right, and the answers to those that change the host. */
 #ifndef CONTROL_ASKED_H
 #define CONTROL_ASKED_H
-#include "audit.h"
 
-#include "../host/view.h"
+#include "../lender/view.h"
+#include "../settings/audit.h"
 
 enum { MOST_NOTES_OF_ANSWER = 16 };
 

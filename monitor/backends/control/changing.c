@@ -1,12 +1,13 @@
 #include "answers.h"
 #include "asked.h"
 #include "fields.h"
+#include "notes.h"
 #include "parts.h"
 #include "requests.h"
-
-#include "../guest/numbers.h"
-#include "../service/service.h"
 #include "vb.h"
+
+#include "../base/numbers.h"
+#include "../settings/settings.h"
 
 #include <stdlib.h>
 #include <string.h>
@@ -60,12 +61,12 @@ static uint32_t asked_terms(const json_t *fields)
 
 static struct changes *changes_of(const struct asked *asked)
 {
-    return &asked->control->service->changes;
+    return &asked->control->settings->changes;
 }
 
 static const struct config *file_of(const struct asked *asked)
 {
-    return &asked->control->service->config;
+    return &asked->control->settings->config;
 }
 
 /* For how long a change is to last. */
@@ -104,7 +105,7 @@ static void note_target(const struct asked *asked, const struct guest_view *gues
     char was[MOST_KEY_TEXT], is[MOST_KEY_TEXT];
     size_text(guest->target, was);
     size_text(field_pages(asked->fields, "target"), is);
-    audit_note(asked->control->service, &asked->author, guest->name, "target", was, is);
+    audit_note(&asked->control->settings->audit, &asked->author, guest->name, "target", was, is);
 }
 
 /* Changes what a request asks for of a guest; NULL, or why not: then it is as it was, and nothing
@@ -193,13 +194,14 @@ json_t *answer_to_upgrade(const struct asked *asked)
 {
     const char *fault = host_upgrade(asked->host);
     if (!fault)
-        audit_note(asked->control->service, &asked->author, "", "program", VB_VERSION, "upgraded");
+        audit_note(&asked->control->settings->audit, &asked->author, "", "program", VB_VERSION,
+                   "upgraded");
     return outcome(fault);
 }
 
 json_t *answer_to_reload(const struct asked *asked)
 {
-    return outcome(service_reload(asked->control->service));
+    return outcome(settings_reload(asked->control->settings));
 }
 
 json_t *answer_to_renew(const struct asked *asked)
@@ -212,7 +214,7 @@ json_t *answer_to_renew(const struct asked *asked)
     host_see_guest(asked->host, (unsigned)number, &view);
     const char *fault = host_renew(asked->host, name);
     if (!fault)
-        audit_note(asked->control->service, &asked->author, name, "process", view.version,
+        audit_note(&asked->control->settings->audit, &asked->author, name, "process", view.version,
                    "renewed");
     return fault ? outcome(fault) : guest_answer(asked, number);
 }
@@ -261,13 +263,13 @@ json_t *answer_to_changes(const struct asked *asked)
     uint64_t limit = MOST_NOTES_OF_ANSWER;
     if (field_is_there(asked->fields, "limit"))
         limit = field_number(asked->fields, "limit");
-    return answer_notes(&asked->control->service->audit, field_number(asked->fields, "since"),
+    return answer_notes(&asked->control->settings->audit, field_number(asked->fields, "since"),
                         limit);
 }
 
 json_t *answer_to_config(const struct asked *asked)
 {
-    char *text = service_text(asked->control->service);
+    char *text = settings_text(asked->control->settings);
     json_t *answer = text ? json_pack("{s:b, s:s}", "ok", 1, "config", text) : NULL;
     free(text);
     return answer;

@@ -1,7 +1,6 @@
-#define _GNU_SOURCE
 #include "client.h"
 
-#include "../guest/process.h"
+#include "../base/process.h"
 
 #include <errno.h>
 #include <stdlib.h>

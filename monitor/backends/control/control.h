@@ -2,12 +2,14 @@
  * object a line both ways, and nobody is waited for. docs/CONTROL.md is the protocol. */
 #ifndef CONTROL_H
 #define CONTROL_H
+#include "../settings/config.h"
+
 #include <stdbool.h>
 #include <stdint.h>
 #include <sys/types.h>
 
 struct host;
-struct service;
+struct settings;
 
 /* The version of the protocol; the most bytes of a request with its end of line, and of what a
  * client hasn't read; the most clients of a socket. */
@@ -20,9 +22,6 @@ enum {
 
 /* Seconds after which no more requests are answered in a turn, and no more events told. */
 #define CONTROL_SECONDS 0.001
-
-/* What the clients of a socket may do: change the host, and look at it; or look alone. */
-enum control_rights { MAY_CHANGE, MAY_LOOK, CONTROL_SOCKETS };
 
 struct control_options {
     const char *path; /* of the socket */
@@ -69,7 +68,7 @@ struct followers {
 };
 
 struct control {
-    struct service *service; /* that reads a configuration; NULL: none */
+    struct settings *settings; /* of the host */
     int waits; /* an epoll file, which is ready once there is something to serve; -1: none */
     struct control_socket sockets[CONTROL_SOCKETS];
     struct events *events; /* what the followers know */

@@ -1,9 +1,8 @@
 /* The journal of decisions, as JSON. */
-#define _GNU_SOURCE
 #include "answers.h"
 #include "parts.h"
 
-#include "../host/journal.h"
+#include "../lender/journal.h"
 
 static json_t *answer_share(const struct share *share)
 {

@@ -2,8 +2,8 @@
 
 #include "parts.h"
 
-#include "../service/config_text.h"
-#include "../service/service.h"
+#include "../settings/config_text.h"
+#include "../settings/settings.h"
 
 /* A key of the host's, or of a guest of this name. */
 static json_t *difference(const struct key *key, const char *guest, const void *files,
@@ -32,13 +32,13 @@ static json_t *differs_of_guest(json_t *found, const struct config_guest *files,
     return found;
 }
 
-json_t *answer_differs(const struct service *service)
+json_t *answer_differs(const struct settings *settings)
 {
     static struct config now;
-    const struct config *file = &service->config;
-    struct config *lasting = (struct config *)&service->changes.lasting;
+    const struct config *file = &settings->config;
+    struct config *lasting = (struct config *)&settings->changes.lasting;
     json_t *found = json_array();
-    service_see(service, &now);
+    settings_see(settings, &now);
     for (unsigned i = 0; i < CONFIG_KEYS; i++)
         if (config_says(file->says, i) && !key_is_same(&config_keys[i], file, &now))
             found = part_append(found, difference(&config_keys[i], NULL, file, &now,

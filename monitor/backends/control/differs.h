@@ -3,10 +3,10 @@
 #define CONTROL_DIFFERS_H
 #include <jansson.h>
 
-struct service;
+struct settings;
 
 /* Each key that the file says otherwise than it is, by words of the file, and whether that lasts;
  * NULL where there is no memory. */
-json_t *answer_differs(const struct service *service);
+json_t *answer_differs(const struct settings *settings);
 
 #endif

@@ -1,14 +1,14 @@
-#define _GNU_SOURCE
 #include "events.h"
 
 #include "answers.h"
 #include "followers.h"
+#include "notes.h"
 #include "parts.h"
 
-#include "../host/journal.h"
-#include "../host/view.h"
-#include "../loop/loop.h"
-#include "../service/service.h"
+#include "../base/loop.h"
+#include "../lender/journal.h"
+#include "../lender/view.h"
+#include "../settings/settings.h"
 
 #include <stdio.h>
 #include <stdlib.h>
@@ -237,7 +237,7 @@ static void look_at_guests(struct control *control, const struct host *host,
 /* Tells what was changed, and by whom. */
 static void tell_notes(struct control *control, const struct look *look)
 {
-    const struct audit *audit = &control->service->audit;
+    const struct audit *audit = &control->settings->audit;
     struct events *events = control->events;
     uint64_t kept = audit_begin(audit);
     events->notes = events->notes < kept ? kept : events->notes;
@@ -274,7 +274,7 @@ static bool look_at_host(struct control *control, const struct host *host, const
     tell_notes(control, look);
     look_at_guests(control, host, look, view.guests);
     tell_removed(control);
-    if (events->next_guest < view.guests || events->notes < control->service->audit.count)
+    if (events->next_guest < view.guests || events->notes < control->settings->audit.count)
         return false;
     events->next_guest = 0;
     tell_decisions(control, host, look, view.decisions);

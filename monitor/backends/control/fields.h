@@ -5,8 +5,8 @@
 #include <stdbool.h>
 #include <stdint.h>
 
-#include "../host/limit.h"
-#include "../host/owner.h"
+#include "../lender/limit.h"
+#include "../lender/owner.h"
 
 /* A name; bytes that are whole pages; the same or null, for no limit; a whole number; true or
  * false; words of the kernel's limit, or null for none; a user's name or number, or null for

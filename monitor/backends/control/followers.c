@@ -2,7 +2,7 @@
 
 #include "client.h"
 
-#include "../loop/loop.h"
+#include "../base/loop.h"
 
 #include <stdlib.h>
 #include <string.h>

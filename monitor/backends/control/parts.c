@@ -1,4 +1,3 @@
-#define _GNU_SOURCE
 #include "parts.h"
 
 #include <time.h>

@@ -7,7 +7,7 @@
 #include "parts.h"
 #include "status.h"
 
-#include "../service/service.h"
+#include "../settings/settings.h"
 
 #include <stdarg.h>
 #include <stdio.h>
@@ -134,9 +134,9 @@ static json_t *answer_and_note(struct asked *asked, const struct kind *kind)
     if (!changes)
         return kind->answer(asked);
     snprintf(asked->author.by, sizeof asked->author.by, "%s", by ? by : "");
-    service_see(asked->control->service, &before);
+    settings_see(asked->control->settings, &before);
     json_t *answer = kind->answer(asked);
-    audit_compare(asked->control->service, &before, &asked->author);
+    settings_note(asked->control->settings, &before, &asked->author);
     return answer;
 }
 

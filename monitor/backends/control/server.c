@@ -1,13 +1,12 @@
 /* The control sockets themselves: who comes, who goes, and whose turn it is. */
-#define _GNU_SOURCE
 #include "events.h"
 #include "followers.h"
 #include "requests.h"
 #include "socket.h"
 
-#include "../guest/process.h"
-#include "../guest/say.h"
-#include "../loop/loop.h"
+#include "../base/loop.h"
+#include "../base/process.h"
+#include "../base/say.h"
 
 #include <errno.h>
 #include <stdlib.h>

@@ -1,7 +1,6 @@
-#define _GNU_SOURCE
 #include "socket.h"
 
-#include "../guest/process.h"
+#include "../base/process.h"
 
 #include <errno.h>
 #include <string.h>

@@ -5,8 +5,8 @@
 #include "differs.h"
 #include "parts.h"
 
-#include "../loop/loop.h"
-#include "../service/service.h"
+#include "../base/loop.h"
+#include "../settings/settings.h"
 
 #include <stdlib.h>
 
@@ -25,9 +25,9 @@ static void make(struct control *control, const struct host *host)
     struct made_status *status = &control->status;
     double begin = loop_processor_seconds(), now = loop_seconds();
     size_t length;
-    const struct service *service = control->service;
-    json_t *its = part_set(answer_host(control, host), "differs", answer_differs(service));
-    its = part_set(its, "state", json_pack("s?", service->changes.path));
+    const struct settings *settings = control->settings;
+    json_t *its = part_set(answer_host(control, host), "differs", answer_differs(settings));
+    its = part_set(its, "state", json_pack("s?", settings->changes.path));
     json_t *object = json_pack("{s:o, s:o}", "host", its, "guests", answer_guests(host));
     free(status->text);
     status->text = client_text(object, NULL, &length);

@@ -93,10 +93,14 @@ class Made:
             dict.fromkeys(("most", "user", "memory", "start"), (1 << 32) - 1) if number == 0 else {}
         )
         terms = self.struct(
-            "host/view.h", "guest_terms", strict=strict, limit=LIMITS[number % len(LIMITS)], **most
+            "lender/view.h",
+            "guest_terms",
+            strict=strict,
+            limit=LIMITS[number % len(LIMITS)],
+            **most,
         )
         ended = self.struct(
-            "host/view.h",
+            "lender/view.h",
             "ended_wait",
             what=f"WAITS_FOR_{WAITS[number][0]}",
             how=f"WAS_{ENDS.get(number, 'GRANTED')}",
@@ -111,7 +115,7 @@ class Made:
             "waits_for": f"WAITS_FOR_{WAITS[number][phase]}",
         }
         return self.struct(
-            "host/view.h",
+            "lender/view.h",
             "guest_view",
             terms=terms,
             ended=ended,
@@ -137,13 +141,13 @@ class Made:
             for name, many in (("gone", 4), ("ungranted", 3))
         }
         durations = {it: self.durations() for it in ("waits", "decisions", "turns", "processor")}
-        return self.struct("host/measures.h", "measures", **counts, **durations)
+        return self.struct("lender/measures.h", "measures", **counts, **durations)
 
     def decision(self, reason):
         """Returns a decision about two guests."""
         shares = [
             self.struct(
-                "host/journal.h",
+                "lender/journal.h",
                 "share",
                 name=f"guest-{it}",
                 bound="BY_LOAN",
@@ -153,7 +157,7 @@ class Made:
             for it in range(2)
         ]
         return self.struct(
-            "host/journal.h",
+            "lender/journal.h",
             "decision",
             reason=reason,
             tier="VB_TIER_CACHE",
@@ -188,7 +192,7 @@ class MadeHost:
         made = Made()
         self.hosts = [
             made.struct(
-                "host/view.h", "host_view", guests=GUESTS, strict=True, tier=it, is_short=True
+                "lender/view.h", "host_view", guests=GUESTS, strict=True, tier=it, is_short=True
             )
             for it in ("cache", "short")
         ]

@@ -1,9 +1,9 @@
 /* A host that shows made numbers (made_values.h, which made.py writes), in each of two phases: its
  * floor, once a request has set that, is the number of the phase, in pages. */
 #include "../../backends/control/answers.h"
-#include "../../backends/host/journal.h"
-#include "../../backends/host/measures.h"
-#include "../../backends/host/view.h"
+#include "../../backends/lender/journal.h"
+#include "../../backends/lender/measures.h"
+#include "../../backends/lender/view.h"
 
 #include <stdio.h>
 #include <string.h>

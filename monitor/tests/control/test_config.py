@@ -358,7 +358,7 @@ def configured(program, folder, file):
 
 def keys_of_sources():
     """Returns each key that a file may have, after its section."""
-    with open(f"{ROOT}/monitor/backends/service/config_keys.c", encoding="utf-8") as file:
+    with open(f"{ROOT}/monitor/backends/settings/config_keys.c", encoding="utf-8") as file:
         return set(re.findall(r'\{"(\w+)", "(\w+)", WORD_', file.read()))
 
 

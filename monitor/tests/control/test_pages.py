@@ -145,7 +145,7 @@ def test_the_page_of_the_client_names_each_command_and_option():
 
 
 def test_the_page_of_the_configuration_names_each_key():
-    with open(f"{ROOT}/monitor/backends/service/config_keys.c", encoding="utf-8") as file:
+    with open(f"{ROOT}/monitor/backends/settings/config_keys.c", encoding="utf-8") as file:
         keys = re.findall(r'\{"(\w+)", "(\w+)", WORD_', file.read())
     sections = dict(
         re.findall(r"(?ms)^\.SH \[(\w+)[^\]]*\]\n(.*?)(?=^\.SH)", page("bigvasta-host.conf.5"))

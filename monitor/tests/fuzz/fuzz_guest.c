@@ -2,8 +2,7 @@
  * rings and memory, and any orders of its lender, in any order; now and then another process goes
  * on with what is kept. Or one without a lender (alone.c), whose guest may migrate. After each step
  * its count of pages in the balloon is that of its set, and in the end no file is left open. */
-#define _GNU_SOURCE
-#include "../../backends/guest/lent.c"
+#include "../../backends/process/lent.c"
 #include "alone.h"
 #include "client.h"
 #include "plans.h"

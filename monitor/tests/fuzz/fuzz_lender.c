@@ -3,8 +3,7 @@
  * within the budget, whatever others do; each that waits has its place in line or its answer;
  * nobody waits who could be granted, nor who never can; no sum wraps. In the end no file is left
  * open. */
-#define _GNU_SOURCE
-#include "../../backends/host/places.h"
+#include "../../backends/lender/places.h"
 #include "process.h"
 #include "script.h"
 

@@ -1,6 +1,6 @@
 #include "plans.h"
 
-#include "../../backends/guest/vhost_user.h"
+#include "../../backends/vhost/vhost_user.h"
 #include "client.h"
 #include "script.h"
 

@@ -2,7 +2,7 @@
  * has heard. */
 #ifndef FUZZ_PROCESS_H
 #define FUZZ_PROCESS_H
-#include "../../backends/host/message.h"
+#include "../../backends/channel/message.h"
 
 /* Orders that a process has heard and not obeyed yet, at most. */
 enum { MOST_ORDERS = 64 };

@@ -1,7 +1,7 @@
 /* The messages of a client that is fuzzed, and what is wrong with some. */
 #ifndef SENT_H
 #define SENT_H
-#include "../../backends/guest/vhost_user.h"
+#include "../../backends/vhost/vhost_user.h"
 #include "client.h"
 
 enum { PAGE = 4096, OF_QUEUE = 3 * PAGE };

@@ -1,5 +1,5 @@
-"""What a guest's process keeps for the next one (monitor/backends/guest/kept.h): its fields by the
-headers, and their values in the memfd of a process."""
+"""What a guest's process keeps for the next one (monitor/backends/process/kept.h): its fields by
+the headers, and their values in the memfd of a process."""
 
 import functools
 import glob
@@ -24,10 +24,9 @@ from vhost_client import (
     Client,
 )
 
-HEADERS = (
-    *glob.glob(f"{linux_kit.MONITOR}/backends/guest/*.h"),
-    f"{linux_kit.MONITOR}/backends/host/message.h",
-)
+# The folders of what a guest's process consists of.
+FOLDERS = ("base", "balloon", "vhost", "channel", "process")
+HEADERS = [path for it in FOLDERS for path in glob.glob(f"{linux_kit.MONITOR}/backends/{it}/*.h")]
 
 # A struct that is one field here: a client's message.
 WHOLE = ("message",)
@@ -116,7 +115,8 @@ def layout():
             "-I",
             linux_kit.HEADERS,
             "-I",
-            f"{linux_kit.MONITOR}/backends/guest",
+            f"{linux_kit.MONITOR}/backends/process",
+            "-D_GNU_SOURCE=",
         ]
         subprocess.run(
             [*words, "-x", "c", "-o", program, "-"], input=layout_program(), text=True, check=True

@@ -12,8 +12,8 @@ from tenants import eventually
 
 PAGES_PER_KIB = 4
 
-# What a lender and a process say to each other (monitor/backends/host/message.h), which stays from
-# version to version.
+# What a lender and a process say to each other (monitor/backends/channel/message.h), which stays
+# from version to version.
 VERSION, ORDER_LOOK, ORDER_TARGET, ORDER_GRANT, ORDER_LEAVE = 1, 1, 3, 7, 8
 TELL_REPORT, TELL_REFUSED, TELL_REMARK, TELL_GONE, WAIT_ROOM, WAIT_RESET = 9, 10, 11, 12, 1, 2
 COUNTERS, FIGURES, WORDS = 19, 16, 256

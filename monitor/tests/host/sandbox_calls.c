@@ -6,8 +6,8 @@
  * With a second word `confined` the sandbox has no filter, and the answer's second word is
  * `passes`, or the name of the error; with `free` there is no sandbox either. */
 #define _GNU_SOURCE
-#include "../../backends/guest/confinement.h"
-#include "../../backends/guest/sandbox.h"
+#include "../../backends/process/confinement.h"
+#include "../../backends/process/sandbox.h"
 
 #include <limits.h>
 #include <sched.h>

@@ -1,5 +1,5 @@
-"""What a guest's process keeps (monitor/backends/guest/kept.h): the process is killed right after a
-field has changed, and the next one continues with that very value. The lender stands still
+"""What a guest's process keeps (monitor/backends/process/kept.h): the process is killed right after
+a field has changed, and the next one continues with that very value. The lender stands still
 meanwhile, so that it says nothing again."""
 
 import contextlib

@@ -21,7 +21,7 @@ ALL, HALF, NOBODY = 128, 64, 65534
 
 
 def enumerators(name):
-    """Returns the names of an enum of monitor/backends/host/view.h."""
+    """Returns the names of an enum of monitor/backends/lender/view.h."""
     return re.findall(
         r"\w+",
         re.search(rf"enum {name} \{{(.*?)\}}", re.sub(r"/\*.*?\*/", "", view(), flags=re.S), re.S)[
@@ -32,7 +32,7 @@ def enumerators(name):
 
 def view():
     """Returns the text of view.h."""
-    with open(f"{linux_kit.MONITOR}/backends/host/view.h", encoding="utf-8") as header:
+    with open(f"{linux_kit.MONITOR}/backends/lender/view.h", encoding="utf-8") as header:
         return header.read()
 
 

@@ -16,8 +16,7 @@
  *     handles-twice  calls the handler of a message again that was handled
  *     no-call        tells no driver of what the process before has used
  */
-#define _GNU_SOURCE
-#include "../../backends/guest/lent.h"
+#include "../../backends/process/lent.h"
 
 #include <fcntl.h>
 #include <stdlib.h>

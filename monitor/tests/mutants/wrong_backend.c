@@ -31,8 +31,8 @@
  *     old-kernel        it isn't known of an eventfd whether it is a semaphore, as before Linux 6.5
  *     bad-disk          no file can be kept on the disk
  */
-#include "../../backends/guest/handlers.h"
-#include "../../backends/guest/hints.h"
+#include "../../backends/vhost/handlers.h"
+#include "../../backends/balloon/hints.h"
 
 #include <stdlib.h>
 #include <unistd.h>

@@ -20,19 +20,18 @@
  *     forgets-socket    nor given the control socket to keep
  *     no-utf-8          a guest's state has a name that JSON can't have
  */
-#define _GNU_SOURCE
 #include "../../backends/control/answers.h"
 #include "../../backends/control/client.h"
 #include "../../backends/control/events.h"
 #include "../../backends/control/fields.h"
 #include "../../backends/control/requests.h"
 #include "../../backends/control/socket.h"
-#include "../../backends/guest/process.h"
-#include "../../backends/host/journal.h"
-#include "../../backends/host/view.h"
-#include "../../backends/service/config.h"
-#include "../../backends/service/config_words.h"
-#include "../../backends/service/notify.h"
+#include "../../backends/base/process.h"
+#include "../../backends/lender/journal.h"
+#include "../../backends/lender/view.h"
+#include "../../backends/settings/config.h"
+#include "../../backends/settings/config_words.h"
+#include "../../backends/base/notify.h"
 
 #include <stdlib.h>
 #include <string.h>

@@ -8,7 +8,7 @@
  *     5  discards nothing of an inflate
  */
 #include "wrong_device.h"
-#include "../../backends/guest/audit.h"
+#include "../../backends/balloon/audit.h"
 
 #include <poll.h>
 #include <stdlib.h>

@@ -26,7 +26,7 @@
  *
  * 5 and 8 are wrong in guests' processes (wrong_lent.c).
  */
-#include "../../backends/host/places.h"
+#include "../../backends/lender/places.h"
 
 #include <stdlib.h>
 #include <string.h>

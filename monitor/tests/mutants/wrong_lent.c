@@ -4,7 +4,7 @@
  *     5  counts all pages of a deflate that ends below the target as taken
  *     8  a region that comes back has the pages in the balloon that the one before had there
  */
-#include "../../backends/guest/lent.h"
+#include "../../backends/process/lent.h"
 
 #include <stdlib.h>
 

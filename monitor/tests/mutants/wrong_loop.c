@@ -8,8 +8,7 @@
  *     late-removal      a file that isn't waited for any longer is waited for in one more turn
  *     old-number        what serves a file is what served the first one that had its number
  */
-#define _GNU_SOURCE
-#include "../../backends/loop/loop.h"
+#include "../../backends/base/loop.h"
 
 #include <stdlib.h>
 #include <string.h>

@@ -15,12 +15,12 @@
  *     index-0           a driver whose queue continues at index 0 counts as a new one
  *     keeps-sent        pages in a balloon that were sent before aren't given up
  */
-#include "../../backends/guest/backend.h"
-#include "../../backends/guest/dirty_log.h"
-#include "../../backends/guest/guard.h"
-#include "../../backends/guest/guest_memory.h"
-#include "../../backends/guest/process.h"
-#include "../../backends/guest/state.h"
+#include "../../backends/balloon/backend.h"
+#include "../../backends/balloon/dirty_log.h"
+#include "../../backends/balloon/guard.h"
+#include "../../backends/balloon/guest_memory.h"
+#include "../../backends/base/process.h"
+#include "../../backends/balloon/state.h"
 
 #include <stdlib.h>
 #include <unistd.h>

@@ -61,7 +61,7 @@ def send(client, name, size, files):
 
 
 def test_each_message_has_its_rule():
-    with open(f"{linux_kit.MONITOR}/backends/guest/messages.c", encoding="utf-8") as source:
+    with open(f"{linux_kit.MONITOR}/backends/vhost/messages.c", encoding="utf-8") as source:
         assert set(re.findall(r"(?m)^    \[(\w+)\] = \{", source.read())) == set(MESSAGES)
 
 

@@ -6,7 +6,7 @@
  * anew, and all that is simulated is in memory that outlives it. */
 #ifndef DAYS_H
 #define DAYS_H
-#include "../../../backends/host/message.h"
+#include "../../../backends/channel/message.h"
 
 #include <stdbool.h>
 #include <stdint.h>

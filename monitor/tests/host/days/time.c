@@ -2,7 +2,7 @@
 #define _GNU_SOURCE
 #include "days.h"
 
-#include "../../../backends/guest/process.h"
+#include "../../../backends/base/process.h"
 
 #include <stdio.h>
 #include <stdlib.h>

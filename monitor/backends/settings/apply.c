@@ -1,0 +1,122 @@
+#include "apply.h"
+
+#include "../base/say.h"
+#include "../lender/host.h"
+
+#include <stdio.h>
+#include <string.h>
+
+/* Whether guests are strict of which a configuration says nothing. */
+static bool usually_strict(const struct config *config, const struct host *host)
+{
+    return config_says(config->says, KEY_STRICT) ? config->strict : host_usual_terms(host).strict;
+}
+
+/* The terms of a guest of a configuration. */
+static struct guest_terms terms_of(const struct config_guest *guest, bool strict)
+{
+    struct guest_terms terms = guest->terms;
+    if (!config_says(guest->says, TERM_STRICT))
+        terms.strict = strict;
+    return terms;
+}
+
+bool apply_guests(const char *file, const struct config *config, const struct config *files,
+                  struct host *host)
+{
+    bool good = true, strict = host_usual_terms(host).strict;
+    for (unsigned i = 0; i < config->count; i++) {
+        const struct config_guest *guest = &config->guests[i];
+        struct guest_terms terms = terms_of(guest, strict);
+        const char *fault = host_find(host, guest->name) < 0
+                                ? host_add(host, guest->name, &terms)
+                                : host_set_terms(host, guest->name, &terms);
+        if (fault)
+            say_fault("%s: guest %s: %s", file, guest->name, fault);
+        good &= !fault || !config_guest_of((struct config *)files, guest->name);
+    }
+    return good;
+}
+
+bool apply_fits(const char *file, const struct config *config, const struct host *host)
+{
+    bool good = config->count <= MOST_CONFIG_GUESTS ||
+                say_fault("%s: with what was changed there are too many guests", file);
+    bool strict = usually_strict(config, host);
+    if (config->overdraft != UINT32_MAX && config->overdraft > config->budget)
+        good = say_fault("%s: overdraft: more than the budget that was set", file);
+    for (unsigned i = 0; i < config->count; i++) {
+        const struct config_guest *guest = &config->guests[i];
+        struct guest_terms terms = terms_of(guest, strict);
+        const char *fault = host_refuses(host, guest->name, &terms);
+        if (fault)
+            say_fault("%s: guest %s: %s", file, guest->name, fault);
+        good &= !fault;
+    }
+    return good;
+}
+
+void apply_sizes(const char *file, struct host *host, const struct config *config)
+{
+    const char *fault = NULL;
+    if (config->overdraft != UINT32_MAX)
+        host_set_overdraft(host, 0);
+    if (config->budget != UINT32_MAX)
+        fault = host_set_budget(host, config->budget);
+    if (config->overdraft != UINT32_MAX && !fault)
+        fault = host_set_overdraft(host, config->overdraft);
+    if (config->keep != UINT32_MAX)
+        host_set_keep(host, config->keep);
+    if (config->lowest_budget != UINT32_MAX)
+        host_set_lowest_budget(host, config->lowest_budget);
+    if (config->floor != UINT32_MAX)
+        host_set_floor(host, config->floor);
+    if (config->patience != UINT32_MAX)
+        host_set_patience(host, config->patience);
+    if (config_says(config->says, KEY_STRICT))
+        host_set_strict(host, config->strict);
+    if (config->on_short[0])
+        host->on_short = config->on_short;
+    if (config->reserve != UINT32_MAX)
+        host_set_reserve(host, config->reserve);
+    if (config->step != UINT32_MAX)
+        host_set_step(host, config->step);
+    if (fault)
+        say_fault("%s: %s", file, fault);
+}
+
+/* A guest as there is one, with all its terms. */
+static void see_guest(const struct guest_view *view, struct config *config)
+{
+    struct config_guest *guest = config_new_guest(config, MOST_CHANGED_GUESTS, view->name);
+    if (!guest)
+        return;
+    guest->terms = view->terms;
+    guest->says = (UINT32_C(1) << GUEST_KEYS) - 1;
+}
+
+void apply_see(const struct host *host, struct config *config)
+{
+    static const enum config_key keys[] = {
+        KEY_FOLDER, KEY_BUDGET, KEY_KEEP,     KEY_LOWEST_BUDGET, KEY_FLOOR, KEY_RESERVE,
+        KEY_STRICT, KEY_STEP,   KEY_PATIENCE, KEY_OVERDRAFT,     KEY_PERIOD};
+    struct host_view view;
+    host_see(host, &view);
+    *config = config_empty();
+    snprintf(config->fixed.folder, MOST_CONFIG_WORD, "%s", view.folder);
+    snprintf(config->on_short, MOST_CONFIG_WORD, "%s", view.on_short ? view.on_short : "");
+    config->budget = view.most_budget, config->keep = view.keep;
+    config->lowest_budget = view.lowest_budget;
+    config->floor = view.floor, config->overdraft = view.overdraft;
+    config->reserve = view.reserve, config->strict = view.strict, config->step = view.step;
+    config->patience = view.patience, config->fixed.period = (uint32_t)view.period;
+    for (unsigned i = 0; i < sizeof keys / sizeof keys[0]; i++)
+        config->says |= UINT32_C(1) << keys[i];
+    if (view.on_short)
+        config->says |= UINT32_C(1) << KEY_ON_SHORT;
+    for (unsigned i = 0; i < view.guests; i++) {
+        struct guest_view guest;
+        host_see_guest(host, i, &guest);
+        see_guest(&guest, config);
+    }
+}

@@ -1,0 +1,187 @@
+#include "settings.h"
+
+#include "apply.h"
+#include "config_text.h"
+
+#include "../base/levels.h"
+#include "../base/notify.h"
+#include "../base/say.h"
+#include "../lender/host.h"
+
+#include <stdio.h>
+#include <string.h>
+
+/* Bytes of a fault in an answer. */
+enum { MOST_FAULT = 256 };
+
+void settings_defaults(struct settings *settings)
+{
+    *settings = (struct settings){.config = config_empty()};
+    for (unsigned i = 0; i < CONTROL_SOCKETS; i++)
+        settings->sockets[i].mode = 0660;
+}
+
+/* What the file says of a control socket. */
+static void take_socket(const struct config_socket *its, struct config_socket *socket)
+{
+    if (its->path[0])
+        strcpy(socket->path, its->path);
+    if (its->group[0])
+        strcpy(socket->group, its->group);
+    if (its->mode != UINT32_MAX)
+        socket->mode = its->mode;
+}
+
+/* What the file says of the control sockets and of what is said. */
+static void take_config(struct settings *settings)
+{
+    const struct config *config = &settings->config;
+    for (unsigned i = 0; i < CONTROL_SOCKETS; i++)
+        take_socket(&config->fixed.sockets[i], &settings->sockets[i]);
+    if (config->lines != UINT32_MAX)
+        most_lines = config->lines;
+    if (config->level != UINT32_MAX)
+        say_level((int)config->level);
+}
+
+bool settings_read(struct settings *settings, const char *file)
+{
+    settings->file = file;
+    bool good = config_read(file, &settings->config);
+    if (good)
+        take_config(settings);
+    return good;
+}
+
+/* The first fault that is said while the configuration is read. */
+static char first_fault[MOST_FAULT];
+
+static void keep_first(enum saying saying, const char *words)
+{
+    say_through = NULL;
+    if (saying == SAY_FAULT && !*first_fault)
+        snprintf(first_fault, sizeof first_fault, "%s", words);
+    if (saying == SAY_FAULT)
+        say_fault("%s", words);
+    else
+        say_news("%s", words);
+    say_through = keep_first;
+}
+
+/* Whether a configuration can take the place of the old one; else says why not. */
+static bool can_replace(const struct settings *settings, const struct config *config)
+{
+    const char *section, *key;
+    static struct config whole;
+    whole = *config;
+    changes_put_over(&settings->changes, &whole);
+    if (!apply_fits(settings->file, &whole, settings->host))
+        return false;
+    return config_stays(&settings->config, config, &section, &key) ||
+           say_fault("%s: %s of [%s] can't change while the host runs: the old configuration stays",
+                     settings->file, key, section);
+}
+
+static void take_again(struct settings *settings)
+{
+    static struct config config, whole;
+    if (!config_read(settings->file, &config) || !can_replace(settings, &config)) {
+        say_fault("%s: the old configuration stays", settings->file);
+        return;
+    }
+    settings->config = whole = config;
+    take_config(settings);
+    changes_put_over(&settings->changes, &whole);
+    apply_sizes(settings->file, settings->host, &whole);
+    apply_guests(settings->file, &whole, &config, settings->host);
+    say_news("%s: read again", settings->file);
+}
+
+const char *settings_reload(struct settings *settings)
+{
+    if (!settings->file)
+        return "the host has no configuration file (--config)";
+    notify_reloads();
+    *first_fault = 0;
+    say_through = keep_first;
+    take_again(settings);
+    say_through = NULL;
+    notify_ready();
+    return *first_fault ? first_fault : NULL;
+}
+
+/* Whether a file says what a host can't do without, where that wasn't said before. */
+static bool is_enough(const char *file, const struct config *config, const struct host *host)
+{
+    bool good = host->folder || config->fixed.folder[0] ||
+                say_fault("%s: folder of [host]: it isn't said: where the sockets are", file);
+    return (host->budget > 0 || config->budget != UINT32_MAX ||
+            say_fault("%s: budget of [host]: it isn't said: what all guests may hold together, as "
+                      "budget = 8G",
+                      file)) &&
+           good;
+}
+
+bool settings_check(const struct settings *settings, const char *file, const struct host *host)
+{
+    static struct config config;
+    static struct changes changes;
+    if (!config_read(file, &config))
+        return false;
+    changes_open(&changes, settings->state, false);
+    changes_put_over(&changes, &config);
+    return is_enough(file, &config, host) && apply_fits(file, &config, host);
+}
+
+/* The configuration with what was changed. */
+static const struct config *whole(const struct settings *settings)
+{
+    static struct config all;
+    all = settings->config;
+    changes_put_over(&settings->changes, &all);
+    return &all;
+}
+
+void settings_see(const struct settings *settings, struct config *seen)
+{
+    struct config *all = seen;
+    const struct config *said = whole(settings);
+    apply_see(settings->host, all);
+    memcpy(all->fixed.sockets, settings->sockets, sizeof settings->sockets);
+    all->lines = most_lines;
+    all->level = said->level != UINT32_MAX ? said->level : LEVEL_INFO;
+    all->says |= UINT32_C(1) << KEY_CONTROL_SOCKET | UINT32_C(1) << KEY_CONTROL_MODE |
+                 UINT32_C(1) << KEY_STATUS_SOCKET | UINT32_C(1) << KEY_STATUS_MODE |
+                 UINT32_C(1) << KEY_LEVEL | UINT32_C(1) << KEY_LINES | said->says;
+}
+
+char *settings_text(const struct settings *settings)
+{
+    static struct config seen;
+    settings_see(settings, &seen);
+    return config_text(&seen);
+}
+
+void settings_recall(struct settings *settings, struct host *host)
+{
+    changes_open(&settings->changes, settings->state, true);
+    const struct config *lasting = &settings->changes.lasting;
+    if (config_says(lasting->says, KEY_BUDGET))
+        host->budget = lasting->budget;
+    if (config_says(lasting->says, KEY_FLOOR))
+        host->floor = lasting->floor;
+}
+
+bool settings_apply(struct settings *settings, struct host *host)
+{
+    settings->host = host;
+    return apply_guests(settings->file, whole(settings), &settings->config, host);
+}
+
+void settings_note(struct settings *settings, const struct config *before,
+                   const struct author *author)
+{
+    static struct config after;
+    settings_see(settings, &after);
+    audit_compare(&settings->audit, before, &after, author);
+}
