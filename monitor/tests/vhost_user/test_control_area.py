@@ -45,6 +45,32 @@ def test_what_the_area_says(start_by_events):
     assert said[68:] == bytes(256 - 68)
 
 
+# Of how many figures the area has room, and where the first one is.
+MOST_FIGURES, FIGURES_AT = 16, 48
+
+
+def figures(client):
+    """Returns how many figures the area says it has, and all that is in the room of figures."""
+    said = area(client)
+    count = struct.unpack_from("<I", said, FIGURES_AT - 4)[0]
+    return count, [struct.unpack_from("<HQ", said, at) for at in range(FIGURES_AT, 208, 10)]
+
+
+def test_figures_of_the_last_report_alone(start_by_events):
+    """Of more than there is room for, the first ones; and of an earlier report that had more,
+    none."""
+    client = start_by_events()
+    for count, reports in ((MOST_FIGURES + 2, 1), (MOST_FIGURES, 2), (3, 3), (1, 4), (0, 5)):
+        values = [reports * 1000 + it for it in range(count)]
+        post_statistics(client, *values)
+        eventually(lambda: client.backend.statistics()[0] == reports, client.why)
+        shown = [(tag, it) for tag, it in enumerate(values[:MOST_FIGURES], 4)]
+        rest = [(0, 0)] * (MOST_FIGURES - len(shown))
+        assert figures(client) == (len(shown), shown + rest)
+        assert area(client)[208:] == bytes(256 - 208)
+        command(client, ASK_STATISTICS)
+
+
 @pytest.mark.parametrize("size", (4, 16, 17, 20, 47, 58, 255))
 def test_a_part_of_the_area(start_by_events, size):
     client = start_by_events()

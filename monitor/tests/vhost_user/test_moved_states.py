@@ -6,7 +6,7 @@ import os
 import struct
 
 import pytest
-from vhost_client import CHECK_DEVICE_STATE, INFLATE
+from vhost_client import CHECK_DEVICE_STATE, INFLATE, PAGE, STATE_BYTES
 from vhost_demands import FIRST, demand_served
 from vhost_moves import (
     BADLY,
@@ -101,6 +101,39 @@ def test_states_that_are_none(ready, serve):
         assert other.counter("target") == 3
     assert load(other, data)
     assert other.counter("target") == 1
+
+
+# Where the state of a device has the end of its memory, and its own sum (docs/INTEGRATION.md), and
+# how many pages a word of the set has.
+END_AT, STATE_SUM_AT, WORD = HEAD - STATE_BYTES + 16, HEAD - SUM, 64
+
+
+def with_end(data, pages, word):
+    """Returns a device's bytes whose memory ends after these pages, with this last word of the set
+    in place of its own."""
+    data = data[:END_AT] + struct.pack("<Q", pages * PAGE) + data[END_AT + 8 :]
+    data = data[:STATE_SUM_AT] + sum_of(data[HEAD - STATE_BYTES : STATE_SUM_AT]) + data[HEAD:]
+    return edited(data, len(data) - SUM - 8, struct.pack("<Q", word))
+
+
+def test_states_at_their_bounds(ready, serve):
+    """The most that each word may be, and a page at each place of the last word of the set: the
+    last one of memory is the last one that may be in the balloon."""
+    client = ready()
+    with_pages(client, [FIRST], 1)
+    stopped(client)
+    data = saved(client)
+    other = serve("--lines", "100000")
+    other.begin(PROTOCOL)
+    for at, most in ((16, 0), (16, 1), (20, 0), (20, 0xFFFF)):
+        assert load(other, edited(data, at, struct.pack("<I", most))), (at, most)
+    (words,) = struct.unpack_from("<I", data, 24)
+    for pages in (1, 2, 63, 64):
+        for at in range(WORD):
+            of_memory = at < pages
+            wrong = with_end(data, (words - 1) * WORD + pages, 1 << at)
+            assert load(other, wrong) == of_memory, (pages, at)
+            assert of_memory or "aren't memory" in other.why()
 
 
 def test_each_byte_that_is_changed(ready, serve):
