@@ -91,7 +91,6 @@ void machine_follow(struct host *host)
         return;
     }
     machine->fails = false;
-    host->news |= budget != host->frames;
     host->frames = budget;
 }
 

@@ -303,6 +303,17 @@ def test_messages_that_are_not_negotiated(seats, number):
     client.leave()
 
 
+@pytest.mark.parametrize("number", [it for it in WELL if it != SET_PROTOCOL_FEATURES])
+def test_messages_that_need_no_other_feature(seats, number):
+    """Of the protocol's features that of a message is enough, or none where it has none."""
+    client, (body, names) = seats.prepared(number), WELL[number]
+    needed = 1 << NEGOTIATED[number] if number in NEGOTIATED else 0
+    client.send(SET_PROTOCOL_FEATURES, struct.pack("<Q", needed), flags=1)
+    served = is_served(client, number, body, [seats.file(client, it) for it in names])
+    client.leave()
+    assert served, seats.host.why_of("seat0")
+
+
 @pytest.mark.parametrize("first", WELL)
 def test_each_message_before_and_after_each_other(seats, first):
     for second in WELL:

@@ -105,6 +105,16 @@ def test_a_flood_of_words_hides_none_of_the_lenders(lend):
     a.channel.close()
 
 
+def test_words_of_a_process_have_nothing_that_a_terminal_obeys(lend):
+    """All that is printed in ASCII stays, from the blank to the tilde."""
+    lender = lend(1, *STRICT)
+    a, stays = Played(lender, "a", pages=ALL), bytes((*range(0x20, 0x30), *range(0x70, 0x7F)))
+    a.say(TELL_REMARK, stays + bytes((0x01, 0x1F, 0x7F, 0x80, 0x9B, 0xFF)))
+    words = f"a: {stays.decode('ascii')}??????"
+    eventually(lambda: lender.hear() or words in lender.said(), lender.said)
+    a.channel.close()
+
+
 def test_a_process_answers_for_its_own_guest_alone(lend, come):
     lender = lend(1, *STRICT)
     come(lender, "b", {FREE: 100})
@@ -161,7 +171,7 @@ def terms_after(lend, lender, kept=None):
     found = {
         name: it
         for name, it in seen(later)["terms"].items()
-        if name in ("least", "most", "priority", "strict")
+        if name in ("least", "most", "priority", "strict", "overhead")
     }
     a.leave()
     later.become("a", here=0)
@@ -170,12 +180,24 @@ def terms_after(lend, lender, kept=None):
 
 def test_a_process_tells_no_terms_of_its_own(lend):
     lender = lend(1, *STRICT)
-    lender.demand("add a least=0 most=1 priority=2 strict=1")
+    lender.demand("add a least=0 most=1 priority=2 strict=1 overhead=5")
     later, found = terms_after(lend, lender)
-    assert found == {"least": 0, "most": 1 << 20, "priority": 2, "strict": True}
+    assert found == {
+        "least": 0,
+        "most": 1 << 20,
+        "priority": 2,
+        "strict": True,
+        "overhead": 5 << 20,
+    }
     # Of a process of 0.3.0 they count once, as that kept two terms in the folder.
-    later, found = terms_after(lend, later, "0 none")
-    assert found == {"least": 7 * PAGE, "most": 9 * PAGE, "priority": 8, "strict": False}
+    later, found = terms_after(lend, later, "3 none")
+    assert found == {
+        "least": 7 * PAGE,
+        "most": 9 * PAGE,
+        "priority": 8,
+        "strict": False,
+        "overhead": 3 * PAGE,
+    }
     os.unlink(f"{later.folder}/=a"), os.symlink(
         f"terms 0 256 3 1 0 {HUGE} {HUGE} {HUGE} 1 {ALL} none", f"{later.folder}/=a"
     )
@@ -184,4 +206,5 @@ def test_a_process_tells_no_terms_of_its_own(lend):
         "most": 1 << 20,
         "priority": 3,
         "strict": True,
+        "overhead": 0,
     }

@@ -4,6 +4,7 @@ as lent until it reports or has ended."""
 import contextlib
 import os
 import signal
+import socket
 import time
 
 import pytest
@@ -86,11 +87,16 @@ def test_what_is_outside_of_its_slots_counts_too(lend, come, client, act, frames
 
 
 def test_a_process_for_which_lenders_wait_counts_until_it_has_ended(lend, stuck):
+    """It is waited for where it listens: where 0.3.0 had its socket nobody is looked for."""
     lender, _, process = stuck
+    earlier = f"{lender.folder}/+a"
+    with socket.socket(socket.AF_UNIX, socket.SOCK_SEQPACKET) as it:
+        it.bind(earlier)
     for _ in range(LENDERS):
         lender = later(lend, lender)
         lender.become("b", ready=1)
         lender.become("a", here=1, pages=ALL, lent=ALL)
+    assert os.path.exists(earlier)
     os.kill(int(status_of(process)["PPid"]), signal.SIGKILL)
     lender.become("a", here=0, pages=0, lent=0)
     assert lent(lender) <= ALL
