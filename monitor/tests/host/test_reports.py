@@ -1,7 +1,9 @@
 """What a guest's process reports: each field of a report, with numbers that differ."""
 
+import select
 import struct
 
+import pytest
 from bigvasta import __version__
 from played import NUMBERS, ORDER_LOOK, ORDER_TARGET, TELL_REPORT, VERSION, Message
 from tenants import AVAILABLE, FREE, eventually
@@ -39,6 +41,10 @@ WANTED = {
     "ballooned_then": GAVE,
     "figure_count": 2,
 }
+
+
+# Seconds in which a report would come, and pages that are given.
+HEARD, MORE = 0.5, 5
 
 
 def order(channel, kind, **its):
@@ -81,4 +87,29 @@ def test_each_field_of_a_report(lend, come):
         (FREE, 100 * PAGE),
         (AVAILABLE, 90 * PAGE),
     ]
+    lend(1, *STRICT, folder=lender.folder)
+
+
+def unasked(channel):
+    """Returns the reports that come for a while, though nobody asks for one."""
+    found = []
+    while select.select([channel], [], [], HEARD)[0]:
+        found.append(Message.from_buffer_copy(channel.recv(1 << 16)))
+        assert len(found) < ALL, "reports come without an end"
+    return found
+
+
+@pytest.mark.parametrize("strict", (0, 1))
+def test_pages_that_are_given_are_news_of_a_strict_guest_alone(lend, come, strict):
+    """Of another one they are known by the next answer. Of a guest at rest there is no news."""
+    lender = lend(1, *STRICT)
+    guest = come(lender, "a", {FREE: 100}, f"strict={strict}")
+    lender.kill()
+    with channel() as it:
+        it.connect(f"{lender.folder}/.channels/a")
+        reported(it), unasked(it)
+        assert not unasked(it)
+        guest.give(GIVEN[:MORE])
+        assert [its.ballooned for its in unasked(it)] == [MORE] * strict
+        assert reported(it).ballooned == MORE
     lend(1, *STRICT, folder=lender.folder)
