@@ -45,34 +45,37 @@ void files_take(struct files *files)
             keep_files(files, it);
 }
 
-ssize_t stream_part(int socket, void *to, size_t length, struct files *files)
+enum stream_state stream_some(int socket, struct iovec parts[], size_t count, struct beside *beside,
+                              size_t *came)
 {
-    struct beside *beside = &files->beside;
-    struct iovec part = {to, length};
-    beside->header = (struct msghdr){.msg_iov = &part,
-                                     .msg_iovlen = 1,
-                                     .msg_control = beside->control,
-                                     .msg_controllen = sizeof beside->control};
-    ssize_t got = recvmsg(socket, &beside->header, MSG_CMSG_CLOEXEC | MSG_DONTWAIT);
-    if (got < 0)
-        return errno == ECONNRESET ? 0 : -1;
-    files_take(files);
-    return got;
+    ssize_t got;
+    do {
+        beside->header = (struct msghdr){.msg_iov = parts,
+                                         .msg_iovlen = count,
+                                         .msg_control = beside->control,
+                                         .msg_controllen = sizeof beside->control};
+        got = recvmsg(socket, &beside->header, MSG_CMSG_CLOEXEC | MSG_DONTWAIT);
+    } while (got < 0 && errno == EINTR);
+    *came = got > 0 ? (size_t)got : 0;
+    if (got > 0)
+        return STREAM_WHOLE;
+    if (got == 0 || errno == ECONNRESET)
+        return STREAM_GONE;
+    return errno == EAGAIN || errno == EWOULDBLOCK ? STREAM_WAITS : STREAM_WRONG;
 }
 
 enum stream_state stream_fill(int socket, void *to, size_t length, size_t *got, struct files *files)
 {
-    while (*got < length) {
-        ssize_t part = stream_part(socket, (uint8_t *)to + *got, length - *got, files);
-        if (part < 0 && errno == EINTR)
-            continue;
-        if (part < 0)
-            return errno == EAGAIN || errno == EWOULDBLOCK ? STREAM_WAITS : STREAM_WRONG;
-        if (part == 0)
-            return STREAM_GONE;
-        *got += (size_t)part;
+    enum stream_state state = STREAM_WHOLE;
+    while (*got < length && state == STREAM_WHOLE) {
+        struct iovec part = {(uint8_t *)to + *got, length - *got};
+        size_t came;
+        state = stream_some(socket, &part, 1, &files->beside, &came);
+        if (state == STREAM_WHOLE)
+            files_take(files);
+        *got += came;
     }
-    return STREAM_WHOLE;
+    return state;
 }
 
 void files_close(struct files *files)

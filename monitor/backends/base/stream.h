@@ -5,7 +5,7 @@
 #include <stddef.h>
 #include <stdint.h>
 #include <sys/socket.h>
-#include <sys/types.h>
+#include <sys/uio.h>
 
 enum { MOST_FILES = 8 };
 
@@ -24,17 +24,18 @@ struct files {
 
 enum stream_state { STREAM_WRONG = -1, STREAM_GONE, STREAM_WHOLE, STREAM_WAITS };
 
-/* Reads some of these bytes, and adds the files that come beside them: how many bytes; 0 where the
- * stream has ended; -1, with errno. It waits for nobody. */
-ssize_t stream_part(int socket, void *to, size_t length, struct files *files);
+/* Reads what has come into these parts, one after the other, and into `beside` what comes beside
+ * it: WHOLE where something has, `*came` bytes. It waits for nobody. */
+enum stream_state stream_some(int socket, struct iovec parts[], size_t count, struct beside *beside,
+                              size_t *came);
 
 /* Reads on until this many bytes are there, of which there are `got` already; WAITS where the rest
  * hasn't come yet. */
 enum stream_state stream_fill(int socket, void *to, size_t length, size_t *got,
                               struct files *files);
 
-/* Adds the files that came beside the last read, as stream_part has done, unless they are there
- * already: for a process that goes on where another one ended after it had read. */
+/* Adds the files that came beside the last read, unless they are there already: another process may
+ * have ended after it had added them. */
 void files_take(struct files *files);
 
 /* Closes the files that nobody took. */

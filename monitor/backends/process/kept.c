@@ -33,6 +33,13 @@ static void save_memory(const struct backend *backend, struct kept_state *state)
     state->set_words = backend->balloon.ballooned_words;
 }
 
+/* A message that counts as served leaves the inbox. */
+static void leave_served(struct lent *lent)
+{
+    if (lent->kept->inbox.number != lent->messages)
+        inbox_next(&lent->kept->inbox);
+}
+
 void kept_save(struct lent *lent)
 {
     const struct backend *backend = &lent->backend;
@@ -61,6 +68,13 @@ void kept_save(struct lent *lent)
     state->bytes = lent->bytes;
     __atomic_store_n(&lent->kept->counts, other, __ATOMIC_RELEASE);
     files_let_go();
+    leave_served(lent);
+}
+
+void kept_leave(struct lent *lent)
+{
+    leave_served(lent);
+    inbox_close(&lent->kept->inbox);
 }
 
 static bool restore_memory(struct lent *lent, const struct kept_state *state)
@@ -124,7 +138,7 @@ bool kept_restore(struct lent *lent)
 uint64_t kept_bytes(const struct kept *kept)
 {
     const struct kept_state *state = kept_state(kept);
-    return state->bytes + (kept->inbox.number == state->messages ? inbox_length(&kept->inbox) : 0);
+    return state->bytes + (kept->inbox.number == state->messages ? inbox_bytes(&kept->inbox) : 0);
 }
 
 uint64_t kept_unnoted(const struct kept *kept)
@@ -149,11 +163,22 @@ static void add(int files[MOST_KEPT_FILES], unsigned *count, int file)
         files[(*count)++] = file;
 }
 
+/* The files of messages that weren't handled. */
+static void add_of_messages(const struct kept *kept, int files[MOST_KEPT_FILES], unsigned *count)
+{
+    const struct kept_state *state = kept_state(kept);
+    const struct files *beside = &kept->inbox.message.files, behind = inbox_behind(&kept->inbox);
+    if (kept->inbox.number != state->messages)
+        return;
+    for (unsigned i = 0; state->outcome == UNHANDLED && i < beside->count && i < MOST_FILES; i++)
+        add(files, count, beside->numbers[i]);
+    for (unsigned i = 0; i < behind.count; i++)
+        add(files, count, behind.numbers[i]);
+}
+
 unsigned kept_files(const struct kept *kept, int files[MOST_KEPT_FILES])
 {
     const struct kept_state *state = kept_state(kept);
-    const struct files *beside = &kept->inbox.message.files;
-    bool is_to_be_handled = kept->inbox.number == state->messages && state->outcome == UNHANDLED;
     const int others[] = {state->socket,       state->channel,   state->notes.channel,
                           state->notes.later,  state->notes.end, kept->outbox.ends[0],
                           kept->outbox.ends[1]};
@@ -162,8 +187,7 @@ unsigned kept_files(const struct kept *kept, int files[MOST_KEPT_FILES])
         add(files, &count, others[i]);
     for (unsigned i = 0; i < state->region_count && i < MOST_REGIONS; i++)
         add(files, &count, state->regions[i].file);
-    for (unsigned i = 0; is_to_be_handled && i < beside->count && i < MOST_FILES; i++)
-        add(files, &count, beside->numbers[i]);
+    add_of_messages(kept, files, &count);
     for (unsigned number = 0; number < QUEUES; number++) {
         const struct ring *ring = &state->rings[number];
         add(files, &count, ring->kick.file), add(files, &count, ring->call.file),

@@ -87,9 +87,13 @@ const struct kept_state *kept_state(const struct kept *kept);
 /* What begins with no client's word: all is zero, and there is no file. */
 void kept_clear(struct kept *kept);
 
-/* What a process is now counts from now on. Files that it has closed since the last time are closed
- * then. */
+/* What a process is now counts from now on: once in a turn, at its end, and before what the process
+ * says to its lender, or can't do twice. Files that it has closed since the last time are closed
+ * then, and a message that it has served leaves the inbox. */
 void kept_save(struct lent *lent);
+
+/* The client's service has ended: its messages' files are closed. */
+void kept_leave(struct lent *lent);
 
 /* Makes the inbox and the outbox what they were as the process before ended, whatever it was doing;
  * false where no message has as many bytes as were read. */
@@ -107,7 +111,7 @@ uint64_t kept_bytes(const struct kept *kept);
 uint64_t kept_unnoted(const struct kept *kept);
 void kept_count_anew(struct kept *kept);
 
-enum { MOST_KEPT_FILES = MOST_REGIONS + 3 * QUEUES + MOST_FILES + 16 };
+enum { MOST_KEPT_FILES = MOST_REGIONS + 3 * QUEUES + 2 * MOST_FILES + 16 };
 
 /* The files that another process needs; how many there are. */
 unsigned kept_files(const struct kept *kept, int files[MOST_KEPT_FILES]);

@@ -60,19 +60,18 @@ static void keep(struct backend *backend)
     kept_save((struct lent *)backend);
 }
 
-/* Serves the message that is whole in the inbox, whose files stay named there until it was served.
- * Another process goes on with the next one where the count of bytes is half used up. */
+/* Serves the message that is whole in the inbox, which leaves that as this is kept, at the end of the
+ * turn: until then another process finds what is left to do of it. Another process goes on with the
+ * next message where the count of bytes is half used up. */
 static bool serve_message(struct lent *lent)
 {
     struct inbox *inbox = &lent->kept->inbox;
     struct message message = inbox->message;
     bool served = message_serve(&lent->backend, &message);
     lent->messages++;
+    uint64_t read = lent->bytes + inbox_bytes(inbox);
     lent->bytes += inbox_length(inbox);
-    if (served)
-        kept_save(lent);
-    inbox_next(inbox);
-    lent->ends_anew |= lent->bytes - lent->kept->counted_from > COUNT_BEGINS / 2;
+    lent->ends_anew |= read - lent->kept->counted_from > COUNT_BEGINS / 2;
     return served;
 }
 
@@ -158,9 +157,9 @@ static int turn(void *context)
     if (!rings_look(&lent->backend) || !give_unasked(lent) ||
         !backend_serve_pending(&lent->backend))
         return LOOP_FAULT;
-    kept_save(lent);
+    if (!lent_note(lent))
+        kept_save(lent);
     lent->kept->turns++;
-    lent_note(lent);
     if (lent->notes.channel < 0 && loop_now() >= lent->look) {
         lent->look = loop_now() + LOOK_EVERY;
         backend_look(&lent->backend);
@@ -229,7 +228,10 @@ static int go_on(void *what)
         !lent_give(lent))
         return -1;
     lent->news = true;
-    return inbox_is_whole(&lent->kept->inbox) ? serve_client(lent) : 1;
+    int served = inbox_is_whole(&lent->kept->inbox) ? serve_client(lent) : 1;
+    if (served > 0)
+        kept_save(lent);
+    return served;
 }
 
 /* Makes the process of what its client hasn't said anything to; false where it can't, which is
@@ -268,7 +270,7 @@ static void end(struct lent *lent)
     if (lent->backend.socket >= 0)
         file_close(lent->backend.socket);
     backend_leave(&lent->backend);
-    files_close(&lent->kept->inbox.message.files);
+    kept_leave(lent);
     say_gone();
 }
 

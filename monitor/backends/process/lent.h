@@ -79,9 +79,9 @@ uint32_t outside_returns(struct lent *lent, uint32_t added);
 /* Reports at once; `number` is that of the order which asks for it. */
 void lent_report(struct lent *lent, uint64_t number, bool asked);
 
-/* Notes what was served since the last time, and reports news, or to a question, where it is
-  * time. */
-void lent_note(struct lent *lent);
+/* Notes what was served since the last time, and reports news, or to a question, where it is time;
+ * whether it has, and so has kept what it says. */
+bool lent_note(struct lent *lent);
 
 /* Obeys what the lender has sent; false where the client can't be served any longer. */
 bool lent_obey(struct lent *lent);

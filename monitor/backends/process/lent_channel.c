@@ -105,7 +105,7 @@ static bool answer_question(struct lent *lent)
     return number != 0;
 }
 
-void lent_note(struct lent *lent)
+bool lent_note(struct lent *lent)
 {
     struct backend *backend = &lent->backend;
     const struct counters *counters = &backend->counters;
@@ -127,9 +127,11 @@ void lent_note(struct lent *lent)
     lent->notes.taken = counters->taken;
     lent->notes.ready_then = ready;
     if ((heard || loop_now() >= lent->answers_until) && answer_question(lent))
-        return;
-    if (lent->news && loop_now() >= lent->report_at)
+        return true;
+    bool reports = lent->news && loop_now() >= lent->report_at;
+    if (reports)
         lent_report(lent, 0, false);
+    return reports;
 }
 
 /* Asks the guest for its statistics: 1; 0 where it can't be asked, or hasn't answered the last

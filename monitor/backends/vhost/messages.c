@@ -60,6 +60,11 @@ static const struct rule rules[] = {
                             DEVICE_STATE_FEATURE},
 };
 
+bool message_has_files(uint32_t request)
+{
+    return request < sizeof rules / sizeof rules[0] && rules[request].most_files > 0;
+}
+
 enum outcome answer_bytes(struct backend *backend, const struct message *message, const void *body,
                           size_t size)
 {
@@ -105,14 +110,15 @@ static bool answer_outcome(struct backend *backend, const struct message *messag
     return answer_u64(backend, message, outcome == FAILED) == ANSWERED;
 }
 
-/* Calls the handler of a message. What comes of it is kept before any ring is served by it. */
+/* Calls the handler of a message. What comes of it is kept before any ring is started by it, and
+ * before it is answered; one that was answered is kept with its turn. */
 static void handle(struct backend *backend, struct message *message)
 {
     const struct rule *rule = rule_of(backend, message);
     backend->outcome = rule ? rule->serve(backend, message) : STOP;
     files_close(&message->files);
     backend->counters.messages++;
-    if (backend->keep)
+    if (backend->keep && backend->outcome != ANSWERED)
         backend->keep(backend);
 }
 

@@ -68,6 +68,9 @@ bool message_is_request(const struct message *message);
 /* Whether the client says that it waits for an answer to a message that has none of its own. */
 bool message_wants_answer(const struct message *message);
 
+/* Whether messages of this number may have files. */
+bool message_has_files(uint32_t request);
+
 /* Words of the body; 0 after its end. */
 uint32_t message_u32(const struct message *message, unsigned at);
 uint64_t message_u64(const struct message *message, unsigned at);

@@ -128,7 +128,7 @@ void alone_runs(unsigned kind)
     is_there = true, left = 0;
     backend_run(&alone, serve);
     is_there = false;
-    files_close(&inbox.message.files);
+    inbox_close(&inbox);
     backend_leave(&alone);
     file_close(alone.socket), file_close(end_file);
     client_goes();

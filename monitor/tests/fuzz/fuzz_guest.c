@@ -161,15 +161,10 @@ static void reads(void)
     kept.unnoted = 0;
     if (next_byte() % 2 && inbox_read(fuzzed.backend.socket, inbox) == STREAM_WHOLE)
         return;
-    bool of_head = inbox->got < sizeof inbox->head;
-    uint8_t *to =
-        of_head ? (uint8_t *)inbox->head + inbox->got : inbox->message.body + inbox->got_body;
-    size_t length = of_head                       ? sizeof inbox->head - inbox->got
-                    : inbox->head[2] <= MOST_BODY ? inbox->head[2] - inbox->got_body
-                                                  : 0;
-    ssize_t got =
-        length > 0 ? stream_part(fuzzed.backend.socket, to, length, &inbox->message.files) : 0;
-    kept.unnoted = got > 0 ? (uint64_t)got : 0;
+    size_t came = 0;
+    if (inbox->got < sizeof inbox->head || inbox->message.size <= MOST_BODY)
+        inbox_take(fuzzed.backend.socket, inbox, &came);
+    kept.unnoted = came;
 }
 
 /* The guest changes a used index, which isn't the driver's. */
@@ -234,7 +229,7 @@ static void goes(void)
         memset(fuzzed.backend.balloon.deflating, 0,
                fuzzed.backend.balloon.ballooned_words * sizeof *kept.set);
     backend_leave(&fuzzed.backend);
-    files_close(&kept.inbox.message.files);
+    kept_leave(&fuzzed);
     close(kept.outbox.ends[0]), close(kept.outbox.ends[1]);
     file_close(fuzzed.backend.socket);
     if (fuzzed.notes.channel >= 0)

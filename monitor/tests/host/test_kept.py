@@ -69,6 +69,7 @@ ELSEWHERE = {
     "awaited": ("test_start.py", "test_another_process_and_another_lender_know_of_it"),
     "outside": ("test_held.py", "test_what_a_removed_slot_holds_stays_lent_over_a_change"),
     "kept.inbox.message": ("test_anew.py", "lost-files"),
+    "kept.inbox.ahead": ("test_between_calls.py", "test_messages_that_are_read_at_once"),
     "outcome": ("test_anew.py", "handles-twice"),
     # A lender's process offers no log of writes.
     "rings.logged": ("../vhost_user/test_logs.py", "test_each_used_ring_that_is_written"),

@@ -18,7 +18,7 @@ ROUNDS, TURNS = 20, 12
 
 # A kick in a message, which is answered; page numbers, and their discard; the call of the driver;
 # the wait for what comes next.
-KICKED = {"recvmsg": 2, "write": 1, "splice": 1}
+KICKED = {"recvmsg": 1, "write": 1, "splice": 1}
 REQUEST = {**KICKED, "pread64": 1, "fallocate": 1, "sendto": 1, "poll": 1}
 
 # What the two files of the memory hold is reported.

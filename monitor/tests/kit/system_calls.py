@@ -1,5 +1,6 @@
 """The system calls that a process makes, in their order, by ptrace: `python3 system_calls.py PID`
-writes a line of each with its first three arguments, until it is told to end."""
+writes a line of each with its first three arguments, until it is told to end. With a number behind
+it kills the process where so many calls have begun or ended."""
 
 import collections
 import contextlib
@@ -52,9 +53,10 @@ def names_of_calls():
     return {int(number): name for name, number in found}
 
 
-def write_calls(pid):
-    """Writes each call as it begins, and lets signals pass."""
-    names, info, passes = names_of_calls(), Info(), 0
+def calls(pid):
+    """Yields what the kernel says of each call as it begins and as it ends, and lets signals
+    pass."""
+    info, passes = Info(), 0
     ptrace(SEIZE, pid, 0, MARKS_CALLS)
     ptrace(INTERRUPT, pid)
     while True:
@@ -65,9 +67,20 @@ def write_calls(pid):
         if passes == CALL_STOP:
             passes = 0
             ptrace(CALL_INFO, pid, ctypes.sizeof(info), ctypes.addressof(info))
-            if info.op == 1:
-                print(names.get(info.number, info.number), *info.arguments[:3], flush=True)
+            yield info
         ptrace(SYSCALL, pid, 0, passes)
+
+
+def look(pid, left):
+    """Writes each call as it begins, and kills the process at its last place."""
+    names = names_of_calls()
+    for its in calls(pid):
+        if its.op == 1:
+            print(names.get(its.number, its.number), *its.arguments[:3], flush=True)
+        left -= 1
+        if left == 0:
+            os.kill(pid, signal.SIGKILL)
+            return
 
 
 class Calls:
@@ -102,21 +115,22 @@ def as_int(word):
 
 
 @contextlib.contextmanager
-def calls_of(pid):
-    """Looks at a process, whose calls are those from its next ones on. Others than root may not,
-    and the test is skipped."""
+def calls_of(pid, place=0):
+    """Looks at a process, whose calls are those from its next ones on, and kills it at this place,
+    if there is one. Others than root may not, and the test is skipped."""
     if os.geteuid() != 0:
         pytest.skip("the system calls of another process: root alone may look at them")
     with tempfile.NamedTemporaryFile("w") as file:
-        with subprocess.Popen([sys.executable, __file__, str(pid)], stdout=file) as tracer:
+        words = [sys.executable, __file__, str(pid), str(place)]
+        with subprocess.Popen(words, stdout=file) as tracer:
             try:
-                calls = Calls(file.name)
-                eventually(calls.all, "the process isn't looked at")
-                calls.forget()
-                yield calls
+                seen = Calls(file.name)
+                eventually(lambda: seen.all() or tracer.poll() == 0, "it isn't looked at")
+                seen.forget()
+                yield seen
             finally:
                 tracer.terminate()
 
 
 if __name__ == "__main__":
-    write_calls(int(sys.argv[1]))
+    look(*map(int, sys.argv[1:]))

@@ -125,12 +125,13 @@ REAL(void, outbox_regain, struct outbox *outbox)
     outbox->number = is("answers-twice") ? 0 : outbox->number;
 }
 
-/* The files beside what was read are noted already, as where the process before ended just then. */
+/* The files beside what was read are noted twice, as where the process before ended just then. */
 REAL(bool, inbox_regain, struct inbox *inbox, uint64_t length)
 {
-    if (length > 0)
+    bool regained = __real_inbox_regain(inbox, is("lost-bytes") ? 0 : length);
+    if (length > 0 && inbox_behind(inbox).count == 0)
         files_take(&inbox->message.files);
-    return __real_inbox_regain(inbox, is("lost-bytes") ? 0 : length);
+    return regained;
 }
 
 REAL(void, files_take, struct files *files)

@@ -31,8 +31,9 @@
  *     old-kernel        it isn't known of an eventfd whether it is a semaphore, as before Linux 6.5
  *     bad-disk          no file can be kept on the disk
  */
-#include "../../backends/vhost/handlers.h"
 #include "../../backends/balloon/hints.h"
+#include "../../backends/vhost/handlers.h"
+#include "../../backends/vhost/inbox.h"
 
 #include <stdlib.h>
 #include <unistd.h>
@@ -149,11 +150,10 @@ WRAPPED(bool, backend_start, struct backend *backend, const struct options *opti
     return started;
 }
 
-WRAPPED(enum stream_state, stream_fill, int socket, void *to, size_t length, size_t *got,
-        struct files *files)
+WRAPPED(enum stream_state, inbox_read, int socket, struct inbox *inbox)
 {
-    enum stream_state state = __real_stream_fill(socket, to, length, got, files);
-    files->lost = files->lost && !is("no-ctrunc");
+    enum stream_state state = __real_inbox_read(socket, inbox);
+    inbox->message.files.lost = inbox->message.files.lost && !is("no-ctrunc");
     return state;
 }
 
