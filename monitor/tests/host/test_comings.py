@@ -4,6 +4,8 @@ others may have to give; what a seat owes is bounded."""
 import contextlib
 import time
 
+import pytest
+from played import WAIT_ROOM, Played
 from tenants import FREE, eventually
 from test_later_lender import QUICK
 from test_strict import STRICT
@@ -13,6 +15,9 @@ from vhost_client import Client
 # Seconds: what a client costs, what memory of the budget's size does, and what a seat may owe.
 OF_CLIENT, OF_BUDGET, MOST_OWED = 2, 30, 60
 COSTS = ("--cost", "2000")
+
+# Pages of a guest, and how often it reports that it waits for them.
+ALL, REPORTS = 128, 8
 
 OFTEN = "a: its clients come too often: "
 
@@ -68,3 +73,18 @@ def test_memory_that_comes_and_goes_is_slowed_by_its_part_of_the_budget(lend):
 
     count, seconds = come_and_go(lender, act)
     assert count <= most_clients(OF_CLIENT + OF_BUDGET / 2, seconds)
+
+
+@pytest.mark.parametrize("waits", (1, REPORTS), ids=("one-wait", "a-wait-each"))
+def test_memory_is_paid_for_once_for_each_wait(lend, waits):
+    """However often a process reports that it waits still: half of the budget costs 15 s."""
+    lender = lend(1, *STRICT, *COSTS)
+    b = Played(lender, "b", pages=2 * ALL)
+    a = Played(lender, "a")
+    for number in range(REPORTS):
+        a.report(waits=WAIT_ROOM, wait=1 + number % waits, wanted=ALL)
+    lender.become("a", waits="room", pages=0)
+    a.leave()
+    lender.become("a", here=0)
+    assert any(it.startswith(OFTEN) for it in lender.said()) == (waits > 1)
+    b.leave()
