@@ -199,6 +199,8 @@ def test_a_start_above_its_pages_is_refused(small, come):
     eventually(lambda: lender.hear() or why in lender.said(), lender.said)
     lender.become("a", here=0)
     assert b.is_alive() and lent(lender) == ALL and lender.counters()["refused"] == 1
+    (its,) = (it for it in lender.status()["guests"] if it["name"] == "a")
+    assert its["refused"] == {"for": "start", "bytes": PAGE}
 
 
 REFUSED = (
