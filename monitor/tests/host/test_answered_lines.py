@@ -2,6 +2,7 @@
 differ, and those of the host as its status has them."""
 
 import re
+import time
 
 import linux_kit
 import pytest
@@ -15,8 +16,8 @@ SELDOM = ("--strict", "--floor", "12K", "--reserve", "0", "--step", "0", "--peri
 FRAMES, FLOOR = 156, 3
 
 # The guest's terms as words, and in the line `guests`, whose sizes are pages.
-WORDS = "least=8K most=1020K priority=3 weight=5 strict=1 overhead=20K memory=1016K"
-TERMS = {"least": 2, "most": 255, "priority": 3, "weight": 5, "overhead": 5}
+WORDS = "least=8K most=1020K priority=13 weight=15 strict=1 overhead=20K memory=1016K"
+TERMS = {"least": 2, "most": 255, "priority": 13, "weight": 15, "overhead": 5}
 
 # What its process reports: 200 pages, of which 40 are in its balloon; by the budget 44 are wanted
 # there.
@@ -44,7 +45,7 @@ def names_of_counters():
 @pytest.fixture
 def played(lend, checked):
     """A host with a guest that reports this, and one that is absent; and what the counters of the
-    first are."""
+    first are, and what plays its process."""
     lender, names = lend(1, *SELDOM, program=checked), names_of_counters()
     assert len(names) == COUNTERS
     counted = {it: 1001 + number for number, it in enumerate(names)}
@@ -54,12 +55,12 @@ def played(lend, checked):
     guest = Played(lender, "a", listens=listens, counters=tuple(counted.values()), **its)
     lender.set_budget(FRAMES)
     lender.become("a", target=TARGET, lent=LENT)
-    yield lender, counted
+    yield lender, counted, guest
     guest.leave()
 
 
 def test_the_line_of_each_guest(played):
-    lender, counted = played
+    lender, counted, _ = played
     lines = lender.guests()
     seen = lines["a"]
     status = {it["name"]: it for it in lender.status()["guests"]}
@@ -81,14 +82,14 @@ def test_the_line_of_each_guest(played):
 
 
 def test_the_counters_of_a_guest(played):
-    lender, counted = played
+    lender, counted, _ = played
     words = lender.ask("a counters").split()
     assert words[::2] == ["target", "actual", "status", "held_kib", "end", *counted]
     assert pairs(words) == {"target": TARGET, "held_kib": 611, **OTHERS, **counted}
 
 
 def test_the_statistics_of_a_guest(played):
-    lender, counted = played
+    lender, counted, _ = played
     told = f"statistics {counted['statistics']}"
     figures = "free_memory {} available_memory {} total_memory {}".format(
         *(it for _, it in FIGURES)
@@ -97,13 +98,16 @@ def test_the_statistics_of_a_guest(played):
 
 
 def test_the_counters_of_the_host(played):
-    lender, _ = played
+    lender, *_ = played
     line, host = lender.counters(), lender.status()["host"]
     assert {it: line[it] for it in OF_HOST} == {it: host[at] // PAGE for it, at in OF_HOST.items()}
     assert (line["frames"], line["floor"], line["lent"]) == (FRAMES, FLOOR, LENT)
     assert (line["held_kib"], line["tier"]) == (611, host["tier"])
     assert {it: line[it] for it in COUNTED} == {it: host["counters"][it] for it in COUNTED}
 
+
+# Seconds for which new reports are waited for before a line is answered by the old ones.
+NEW_REPORTS = 0.3
 
 # Lines that a host refuses, and why.
 NUMBER, NOBODY = "a number of MiB, or a size such as 8G", "nobody is there"
@@ -112,7 +116,18 @@ OF_ALL = (
     "add, remove, terms, budget, floor, guests, counters, log, leave, quit, or a guest's name and "
     "its line"
 )
+TERMS_ARE = (
+    "a name, and of least=MIB, most=MIB, priority=NUMBER, weight=NUMBER from 1 on, strict=0 or 1, "
+    "overhead=MIB, limit=cgroup:PATH or tmpfs:MOUNT, user=NAME, memory=MIB, start=MIB what is wanted"
+)
+SIZES = ("least", "most", "overhead", "memory", "start")
+NO_TERMS = (
+    *(f"{name}={it}" for name in SIZES for it in ("", "x", "1B", "16777216")),
+    *("priority=", "priority=-1", "priority=4294967296", "weight=0", "weight=4294967296"),
+    *("strict=2", "strict=", "strict=yes", "wait=1", "a", "=", "least"),
+)
 REFUSED = {
+    **{f"terms a {it}": TERMS_ARE for it in NO_TERMS},
     **{f"{word} {it}": NUMBER for word in ("budget", "floor") for it in ("x", "16777216", "-1")},
     **{f"absent {it}": NOBODY for it in ("counters", "statistics", "ask", "target 1", "x", "quit")},
     **{f"a target {it}": "target PAGES" for it in ("", "x", "4294967296", "-1", "1K")},
@@ -125,6 +140,38 @@ REFUSED = {
 @pytest.mark.parametrize("line", REFUSED)
 def test_a_line_that_is_refused(played, line):
     assert played[0].ask(line) == f"error: {REFUSED[line]}"
+
+
+def test_the_most_that_terms_take(played):
+    """A number of 32 bits, and as many MiB as pages of 32 bits are."""
+    lender = played[0]
+    lender.demand("terms a priority=4294967295 weight=4294967295 most=16777215 strict=0")
+    terms = next(it for it in lender.status()["guests"] if it["name"] == "a")["terms"]
+    assert (terms["priority"], terms["weight"], terms["strict"]) == (*2 * (2**32 - 1,), False)
+    assert terms["most"] == ((1 << 24) - 1) << 20
+
+
+def test_a_line_is_answered_by_reports_that_came_after_it(played):
+    lender, _, guest = played
+    for number in range(50, 60):
+        with guest.lock:
+            guest.its["actual"] = number
+        assert pairs(lender.ask("a counters").split())["actual"] == number
+        with guest.lock:
+            guest.its["held_kib"] = 500 + number
+        assert lender.guests()["a"]["held_kib"] == 500 + number
+        with guest.lock:
+            guest.its["held_kib"] = 400 + number
+        assert lender.counters()["held_kib"] == 400 + number
+
+
+def test_a_line_waits_for_a_report_no_longer_than_for_a_while(played):
+    """It is answered by the last one then."""
+    lender, _, guest = played
+    with guest.lock:
+        begin = time.monotonic()
+        assert pairs(lender.ask("a counters").split())["actual"] == OTHERS["actual"]
+        assert time.monotonic() - begin >= NEW_REPORTS
 
 
 def test_a_line_names_its_guest_whole(played):
