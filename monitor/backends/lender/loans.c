@@ -26,14 +26,9 @@ static void name_taker(struct seat *seat, uint32_t pages, bool is_within)
 
 void loan_audit(struct seat *seat)
 {
-    const VbSeat *its = place_of(seat);
-    const VbReport report = ask_report(seat);
-    uint32_t gone = (uint32_t)(report.removed - its->removed);
-    uint32_t had = its->ballooned - smaller(its->ballooned, gone);
-    uint32_t granted = report.deflates == its->granted ? report.held : 0;
-    uint32_t has = report.ballooned - smaller(report.ballooned, granted);
-    if (seat->holds && !its->uncounted && has < had)
-        name_taker(seat, had - has, limit_holds(seat));
+    uint32_t taken = ask_taken(seat);
+    if (taken > 0)
+        name_taker(seat, taken, limit_holds(seat));
 }
 
 /* Whether a guest holds pages that it gave, whatever its driver says, and whether it has one: more

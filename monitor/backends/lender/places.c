@@ -138,18 +138,20 @@ static void hear_of_added(struct seat *seat, uint32_t pages)
 }
 
 /* Pages that were outside of its memory's slots are in them once more: they are lent already, and
- * join it whether or not there is room. */
-static void take_back(struct seat *seat)
+ * join it whether or not there is room. The step takes a report by which the balloon has lost pages
+ * for none of what is outside: nothing returns by it. Returns how many do. */
+static uint32_t take_back(struct seat *seat)
 {
     struct host *host = seat->host;
-    uint32_t pages = ask_returned(seat, &seat->report);
+    uint32_t pages = ask_taken(seat) > 0 ? 0 : ask_returned(seat, &seat->report);
     if (pages == 0)
-        return;
+        return 0;
     size_t place = free_place(host);
     VbReport all = {.deflates = 1};
     places_step(
         host, (VbHostEvent){.kind = VB_TAKES_OVER, .guest = place, .pages = pages, .report = all});
     places_step(host, (VbHostEvent){.kind = VB_JOINS, .guest = seat->place, .added = place});
+    return pages;
 }
 
 /* ---- a guest */
@@ -163,10 +165,14 @@ static uint32_t room_wanted(const struct seat *seat)
     return waits ? message->wanted - has : 0;
 }
 
-static void hear(struct seat *seat)
+/* It has reported, and these pages have returned: as many fewer are outside, whatever it says. */
+static void hear(struct seat *seat, uint32_t returned)
 {
+    VbReport report = ask_report(seat);
+    if (returned > 0)
+        report.outside = smaller(report.outside, place_of(seat)->outside - returned);
     places_step(seat->host,
-                (VbHostEvent){.kind = VB_HEARS, .guest = seat->place, .report = ask_report(seat)});
+                (VbHostEvent){.kind = VB_HEARS, .guest = seat->place, .report = report});
 }
 
 /* A guest that isn't let in yet. */
@@ -179,7 +185,7 @@ static void hear_newcomer(struct seat *seat)
                                               .pages = wanted,
                                               .ballooned = without});
     if (wanted > 0)
-        hear(seat);
+        hear(seat, 0);
 }
 
 static void take_over(struct seat *seat, uint32_t pages, VbReport report)
@@ -189,15 +195,18 @@ static void take_over(struct seat *seat, uint32_t pages, VbReport report)
                     .kind = VB_TAKES_OVER, .guest = seat->place, .pages = pages, .report = report});
 }
 
-/* A guest whose process holds nothing back: it has what its report says, and any target at once. */
+/* A guest whose process holds nothing back: it has what its report says, and any target at once. No
+ * more is outside than was, or was taken away. */
 static void follow(struct seat *seat, uint32_t pages, uint32_t target)
 {
     const VbSeat *its = place_of(seat);
     bool is_uncounted = its->uncounted;
+    uint64_t most = (uint64_t)its->outside + its->pages - smaller(its->pages, pages);
+    uint32_t outside = ask_outside(seat);
     VbReport report = {.ballooned = is_uncounted ? 0 : seat->report.ballooned,
                        .target = target,
                        .read_target = target,
-                       .outside = ask_outside(seat),
+                       .outside = outside < most ? outside : (uint32_t)most,
                        .target_number = its->target_number + (its->target != target),
                        .deflates = 1};
     take_over(seat, pages, report);
@@ -210,12 +219,12 @@ void place_hears(struct seat *seat)
     const VbSeat *its = place_of(seat);
     bool waits = seat->report.waits == WAIT_ROOM;
     if (!seat->holds) {
-        follow(seat, waits ? its->pages : seat->report.pages, its->wanted);
+        uint32_t back = ask_returned(seat, &seat->report);
+        follow(seat, waits ? its->pages + back : seat->report.pages, its->wanted);
     } else if (its->granted == 0) {
         hear_newcomer(seat);
     } else {
-        take_back(seat);
-        hear(seat);
+        hear(seat, take_back(seat));
         hear_of_added(seat, room_wanted(seat));
     }
 }
@@ -249,12 +258,13 @@ void place_takes_over(struct seat *seat)
     host_changed(seat->host, BY_GUESTS);
 }
 
-/* What it holds beyond its memory is a loan to it. */
+/* What it holds beyond its memory is a loan to it; not where the kernel is to limit it: its limit
+ * follows the loan, and stays below what nobody has granted. */
 static void lend_beyond(struct seat *seat)
 {
     const VbSeat *its = place_of(seat);
     uint32_t beyond = pages_beyond(seat);
-    if (beyond > its->outside)
+    if (beyond > its->outside && seat->terms.limit.kind == LIMIT_NONE)
         take_over(seat, its->pages,
                   (VbReport){.target = its->target,
                              .read_target = its->target,

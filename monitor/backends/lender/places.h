@@ -41,6 +41,10 @@ uint32_t ask_outside(const struct seat *seat);
 /* Of a report, the pages that were outside and are in slots once more. */
 uint32_t ask_returned(const struct seat *seat, const struct lending_message *report);
 
+/* The pages that have left its balloon by its last report without a grant, and not with memory that
+ * was taken away. */
+uint32_t ask_taken(const struct seat *seat);
+
 /* Its last report, as the step takes it. */
 VbReport ask_report(const struct seat *seat);
 

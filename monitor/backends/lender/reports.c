@@ -19,6 +19,16 @@ static const char *number_fault(const struct lending_message *report)
     return report->waits > WAIT_RESET ? "a wait that isn't one" : NULL;
 }
 
+/* Whether a report has more pages than were granted: the first one to a later lender, with what is
+ * outside of slots, than the earlier one has kept. */
+static bool has_more(const struct seat *seat, const struct lending_message *report)
+{
+    uint32_t outside = report->has_terms ? 0 : report->outside;
+    if (seat->adopts)
+        return report->pages + outside > seat_frames(seat);
+    return report->pages > seat_pages(seat) + ask_returned(seat, report);
+}
+
 /* Why a report isn't believed, beside what was granted, and how its process was started; NULL: it
  * is. */
 static const char *report_fault(const struct seat *seat, const struct lending_message *report)
@@ -26,7 +36,7 @@ static const char *report_fault(const struct seat *seat, const struct lending_me
     const char *fault = number_fault(report);
     if (fault || (seat->adopts && !seat->reserves))
         return fault;
-    if (report->waits != WAIT_ROOM && report->pages > seat_pages(seat) + ask_returned(seat, report))
+    if (has_more(seat, report))
         return "pages that nobody has granted";
     if (seat->adopts || (report->holds != 0) == seat->holds)
         return NULL;

@@ -108,6 +108,7 @@ static void look(unsigned number)
     demand(!seat_is_taken(seat) || comes || seat_is_behind(seat) ||
            seat->target <= place_of(seat)->wanted);
     seat_step(seat, STEP_MS);
+    loans_audit(&host);
     places_relieve(&host), places_defer(&host);
     if (!seat_rests(seat))
         seat_remind(seat);

@@ -14,9 +14,11 @@ static void change_report(struct lending_message *report)
                                &report->has_terms, &report->holds, &report->status};
     unsigned what = next_below(16), value = next_byte();
     bool is_wild = value >= 250;
-    if (what == 0 && !is_wild)
+    if (what == 0 && value < 200)
         report->pages =
             report->pages > 0 ? value % report->pages : 0; /* more, and its service ends */
+    else if (what == 0 && !is_wild) /* but for what was outside of its slots */
+        report->pages += report->outside % 64, report->outside = 0;
     else if (what == 10)
         report->holds ^= is_wild;
     else if (what < 6)

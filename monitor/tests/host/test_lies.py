@@ -9,7 +9,7 @@ import threading
 import time
 
 import pytest
-from played import TELL_GONE, TELL_REMARK, WAIT_ROOM, Listens, Played
+from played import TELL_GONE, TELL_REMARK, TELL_REPORT, VERSION, WAIT_ROOM, Listens, Message, Played
 from tenants import FREE, eventually, go_on, process_of, stop
 from test_later_states import seen
 from test_strict import GIVEN, STRICT, Later, lent, used
@@ -154,14 +154,97 @@ def test_the_first_report_to_a_later_lender_is_bounded(lend):
     )
 
 
+# Pages of a guest once it has lost its second slot, which are outside then.
+LEFT = 64
+
+
+@pytest.fixture
+def limited(lend, limits):
+    """A host, the process of a guest whose limit allows what is lent to it, and the limit."""
+    lender, its = lend(1, *STRICT), limits("a")
+    a = Played(lender, "a", pages=ALL, ballooned=10)
+    lender.demand(f"terms a overhead=0 limit={its.term}")
+    lender.become("a", limit=ALL)
+    return lender, a, its
+
+
+def has_looked(lender):
+    """Waits until a lender has looked at its guests twice."""
+    looks = lender.counters()["looks"]
+    eventually(lambda: lender.counters()["looks"] >= looks + 2)
+
+
+def test_a_limit_is_not_raised_by_what_a_process_says_to_hold(limited):
+    lender, a, its = limited
+    a.report(held_kib=4 * MOST_PAGES)
+    lender.become("a", cooperates=0)
+    has_looked(lender)
+    assert (lender.guests()["a"]["lent"], its.pages(), lent(lender)) == (ALL, ALL, ALL)
+    a.leave()
+
+
+@pytest.mark.parametrize("lie", ({"ballooned": 9}, {"held_kib": 4 * MOST_PAGES}), ids=" ".join)
+def test_pages_return_once_whatever_a_process_says_besides(limited, lie):
+    lender, a, its = limited
+    a.report(pages=LEFT, outside=ALL - LEFT)
+    lender.become("a", pages=LEFT, lent=ALL)
+    for _ in range(3):
+        a.report(pages=ALL, outside=0, **lie)
+    lender.become("a", cooperates=0)
+    has_looked(lender)
+    assert (lender.guests()["a"]["lent"], its.pages()) == (ALL, ALL)
+    a.report(pages=ALL + 1)
+    eventually(lambda: ended_by(a.listens.child) == signal.SIGKILL)
+    a.channel.close()
+
+
+def test_a_guest_that_is_not_strict_has_no_more_outside_than_it_lost(lend):
+    lender = lend(1, *STRICT)
+    a = Played(lender, "a", holds=0, pages=ALL)
+    a.report(outside=MOST_PAGES)
+    has_looked(lender)
+    assert lent(lender) == ALL
+    a.report(pages=LEFT)
+    lender.become("a", pages=LEFT, lent=ALL)
+    a.leave()
+
+
+# What an earlier lender's process has beside the pages that were kept.
+MORE = {
+    "pages": {"pages": ALL + 1},
+    "outside": {"pages": ALL, "outside": 1},
+    "room": {"pages": ALL + 1, "waits": WAIT_ROOM, "wait": 1, "wanted": ALL + 2},
+}
+
+
+@pytest.mark.parametrize("more", MORE)
+def test_a_later_lender_takes_no_more_than_was_kept(lend, more):
+    lender = lend(1, *STRICT)
+    lender.demand("add a strict=1")
+    keep_pages(lender)
+    listens = Listens(lender.folder, "a")
+    later = lend(1, *STRICT, folder=lender.folder)
+    channel = listens.accept()
+    channel.send(bytes(Message(version=VERSION, kind=TELL_REPORT, holds=1, ready=1, **MORE[more])))
+    eventually(lambda: ended_by(listens.child) == signal.SIGKILL)
+    channel.close()
+    words = "refused a: its process reports pages that nobody has granted"
+    eventually(lambda: later.hear() or words in later.said(), later.said)
+
+
+def keep_pages(lender, kept=None):
+    """Kills a lender, which has kept that a guest has all its pages, or what is said."""
+    link = f"{lender.folder}/=a"
+    lender.kill()
+    os.unlink(f"{lender.folder}/.channels/a")
+    kept = kept or re.sub(r" 0 none$", f" {ALL} none", os.readlink(link))
+    os.unlink(link), os.symlink(kept, link)
+
+
 def terms_after(lend, lender, kept=None):
     """Returns a guest's terms by the next lender, to which its process tells others; where the
     folder has other ones `kept`, by these."""
-    link, channel = f"{lender.folder}/=a", f"{lender.folder}/.channels/a"
-    lender.kill()
-    os.unlink(channel)
-    kept = kept or re.sub(r" 0 none$", f" {ALL} none", os.readlink(link))
-    os.unlink(link), os.symlink(kept, link)
+    keep_pages(lender, kept)
     listens = Listens(lender.folder, "a")
     later = lend(1, *STRICT, folder=lender.folder)
     a = Played(
