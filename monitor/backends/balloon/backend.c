@@ -61,7 +61,9 @@ bool backend_start(struct backend *backend, const struct options *options)
                            .holds_deflates = options->holds,
                            .needs_must_tell = options->holds,
                            .discards_hints = options->discards_hints};
+    static struct moved_room room;
     backend->options = options;
+    backend->room = &room;
     backend->socket = backend->listener = backend->channel = -1;
     rings_clear(backend);
     if (balloon_init(&backend->balloon, backend->memory.regions, 0, settings) != VB_OK)
@@ -174,7 +176,7 @@ bool backend_finish(struct backend *backend, uint32_t kind, const struct balloon
         backend->held(backend, result->held_pages);
     if (backend->log.is_short)
         return refuse("the log of %llu bytes has no bit for a page that was written",
-                      (unsigned long long)backend->log.bytes);
+                      (unsigned long long)backend->log.place.bytes);
     if (!interrupt(backend, result))
         return false;
     if (result->code == VB_BROKEN)

@@ -16,9 +16,9 @@
 enum { MOST_TAGS = 16, MOST_REMARKS = 100, MOST_REMARK = 256, MOST_CHAINS = 64, MOST_PAGES = 1024 };
 
 /* Files that a client may have opened here: those of its memory and of a message, the events of its
- * queues, its channel, itself, the pipe of its device's state; and those of a process without
- * one. */
-enum { FILES_OF_CLIENT = MOST_REGIONS + 8 + 3 * QUEUES + 3, FILES_OF_PROCESS = 8 };
+ * queues, its channel, itself, its log, the pipe of its device's state; and those of a process
+ * without one. */
+enum { FILES_OF_CLIENT = MOST_REGIONS + 8 + 3 * QUEUES + 4, FILES_OF_PROCESS = 8 };
 
 /* What the handler of a message comes to: FAILED is for the client alone, and nothing has changed,
  * but that features that are refused leave none. UNHANDLED: it wasn't called yet. */
@@ -63,6 +63,7 @@ struct backend {
     struct dirty_log log;     /* of what the device writes, while a client migrates its guest */
     struct transfer transfer; /* of the device itself */
     struct moved moved;       /* what has come by it */
+    struct moved_room *room;  /* for both */
     /* Tells the driver of a used buffer on a queue, or of a change of the configuration (queue
       * -1). */
     bool (*tell)(struct backend *backend, int queue);

@@ -5,16 +5,22 @@
 #include <stdbool.h>
 #include <stdint.h>
 
+/* Where a log is. */
+struct log_place {
+    uint64_t bytes, offset; /* of its file; no bytes: there is none */
+    int file;
+};
+
 struct dirty_log {
+    struct log_place place;
     uint8_t *bits; /* NULL: there is none */
-    uint64_t bytes;
     bool is_short; /* a page was written that it has no bit for */
 };
 
-/* Maps `bytes` bytes of a file, in place of the log before, which stays where that fails. Takes the
+/* Maps the bytes of a log, in place of the log before, which stays where that fails. Takes the
  * file. Returns why these are no log, after the log's name, or NULL; files are those that memory of
  * the guest may have (guest_memory.h). */
-const char *dirty_log_take(struct dirty_log *log, int file, uint64_t bytes, uint64_t offset);
+const char *dirty_log_take(struct dirty_log *log, struct log_place place);
 
 /* There is no log any longer. */
 void dirty_log_forget(struct dirty_log *log);

@@ -91,18 +91,20 @@ static const char *fault_of(const uint8_t *bytes, size_t length)
 }
 
 /* Whether no page of a set lies at the end of this memory or after it. */
-static bool is_within(const struct moved *moved)
+static bool is_within(const struct moved *moved, const uint8_t *set)
 {
-    uint64_t end = moved->memory_end / BALLOON_PAGE;
-    for (uint64_t i = end / WORD_BITS; i < moved->words; i++)
-        if (i * WORD_BITS >= end ? moved->set[i] != 0 : moved->set[i] >> (end - i * WORD_BITS) != 0)
+    uint64_t end = moved->memory_end / BALLOON_PAGE, word;
+    for (uint64_t i = end / WORD_BITS; i < moved->words; i++) {
+        memcpy(&word, set + i * sizeof word, sizeof word);
+        if (i * WORD_BITS >= end ? word != 0 : word >> (end - i * WORD_BITS) != 0)
             return false;
+    }
     return true;
 }
 
 bool moved_load(struct backend *backend, const uint8_t *bytes, size_t length)
 {
-    static struct moved moved;
+    struct moved moved = {0};
     VbBalloon before = backend->balloon.state;
     const char *fault = fault_of(bytes, length);
     if (!fault && vb_restore(&before.device, &before.held, bytes + STATE_AT, VB_STATE_BYTES))
@@ -113,17 +115,19 @@ bool moved_load(struct backend *backend, const uint8_t *bytes, size_t length)
         moved.words = get_u32(bytes, WORDS_AT);
         moved.memory_end = before.device.settings.memory_end;
         moved.actual = before.device.actual;
-        memcpy(moved.set, bytes + MOVED_HEAD, moved.words * sizeof moved.set[0]);
-        if (!is_within(&moved))
+        if (!is_within(&moved, bytes + MOVED_HEAD))
             fault = "has pages in the balloon that aren't memory";
     }
     if (fault) {
         remark(backend, "the device that is to be loaded %s", fault);
         return false;
     }
+    if (backend->options->is_lent) /* its lender alone sets a target */
+        before.device.target = backend->balloon.state.device.target;
     state_take(backend, before);
     backend->told.goes_on = moved.awaits;
     backend->moved = moved;
+    memcpy(backend->room->set, bytes + MOVED_HEAD, moved.words * sizeof backend->room->set[0]);
     return true;
 }
 
@@ -151,7 +155,7 @@ static void take_set(struct backend *backend)
     bool tells = features_of_device(backend->told.features) & MUST_TELL_HOST;
     if (!balloon->ballooned || balloon->ballooned_words != moved->words)
         return;
-    memcpy(balloon->ballooned, moved->set, moved->words * sizeof moved->set[0]);
+    memcpy(balloon->ballooned, backend->room->set, moved->words * sizeof balloon->ballooned[0]);
     backend->ballooned = (uint32_t)vb_count_ballooned(balloon->ballooned, moved->words);
     backend->undiscarded = 0;
     if (tells && moved->index > 0 && !balloon->keeps_pages)

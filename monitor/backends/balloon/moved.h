@@ -23,7 +23,14 @@ struct moved {
     uint16_t index;      /* at which that continues; at another one a new driver begins */
     uint64_t memory_end; /* where the guest's memory ended */
     uint32_t actual, words;
+};
+
+/* What is large of it: the set of the pages in the balloon of a device that was loaded, and the
+ * bytes of one that goes through a pipe, with one more. */
+struct moved_room {
     uint64_t set[MOST_MOVED_PAGES / 64];
+    uint8_t bytes[MOST_MOVED + 1];
+    bool amid; /* bytes may have gone through the pipe that aren't counted yet */
 };
 
 struct backend;

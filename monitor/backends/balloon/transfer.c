@@ -7,7 +7,7 @@
 void transfer_forget(struct backend *backend)
 {
     struct transfer *transfer = &backend->transfer;
-    if (transfer->state == TRANSFER_SAVES || transfer->state == TRANSFER_LOADS)
+    if (transfer_has_file(transfer))
         file_close(transfer->file);
     transfer->state = TRANSFER_NONE;
 }
@@ -39,7 +39,8 @@ static void fail(struct backend *backend, const char *why)
 static void write_on(struct backend *backend)
 {
     struct transfer *transfer = &backend->transfer;
-    ssize_t put = pipe_write(transfer->file, transfer->bytes + transfer->done,
+    __atomic_store_n(&backend->room->amid, true, __ATOMIC_RELEASE);
+    ssize_t put = pipe_write(transfer->file, backend->room->bytes + transfer->done,
                              transfer->length - transfer->done);
     if (put < 0) {
         fail(backend, "nobody takes the device's state");
@@ -56,9 +57,11 @@ static void write_on(struct backend *backend)
 static bool read_on(struct backend *backend)
 {
     struct transfer *transfer = &backend->transfer;
+    struct moved_room *room = backend->room;
     bool ended = false;
-    ssize_t got = pipe_read(transfer->file, transfer->bytes + transfer->length,
-                            sizeof transfer->bytes - transfer->length, &ended);
+    __atomic_store_n(&room->amid, true, __ATOMIC_RELEASE);
+    ssize_t got = pipe_read(transfer->file, room->bytes + transfer->length,
+                            sizeof room->bytes - transfer->length, &ended);
     if (got > 0)
         transfer->length += (size_t)got;
     if (got < 0)
@@ -77,7 +80,7 @@ bool transfer_save(struct backend *backend, int file)
     struct transfer *transfer = &backend->transfer;
     if (!begin(backend, file, TRANSFER_SAVES))
         return false;
-    transfer->length = moved_save(backend, transfer->bytes);
+    transfer->length = moved_save(backend, backend->room->bytes);
     if (transfer->length == 0)
         transfer_forget(backend);
     return transfer->length > 0;
@@ -105,7 +108,14 @@ bool transfer_ends(struct backend *backend)
         remark(backend, "the device's state isn't loaded while queues run");
     transfer->state = TRANSFER_NONE;
     return state == TRANSFER_SAVED || (state == TRANSFER_READ && !rings_run(backend) &&
-                                       moved_load(backend, transfer->bytes, transfer->length));
+                                       moved_load(backend, backend->room->bytes, transfer->length));
+}
+
+void transfer_regain(struct backend *backend, const struct transfer *transfer)
+{
+    backend->transfer = *transfer;
+    if (transfer_has_file(transfer) && backend->room->amid)
+        fail(backend, "its process has ended amid the device's state, which has to go anew");
 }
 
 static int serve(void *context, int file)

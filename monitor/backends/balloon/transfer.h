@@ -19,10 +19,15 @@ struct transfer {
     enum transfer_state state;
     int file;            /* while it saves or loads */
     size_t length, done; /* bytes to be written, and written; or bytes that were read */
-    uint8_t bytes[MOST_MOVED + 1];
 };
 
 struct backend;
+
+/* Whether it has its file still. */
+static inline bool transfer_has_file(const struct transfer *transfer)
+{
+    return transfer->state == TRANSFER_SAVES || transfer->state == TRANSFER_LOADS;
+}
 
 /* Begins to write a device into a pipe or a stream, or to read one from it. Takes the file; false
  * where that can't be, which is said. */
@@ -32,6 +37,10 @@ bool transfer_load(struct backend *backend, int file);
 /* Whether what was begun has ended well: the device is saved whole, or the pipe has ended and what
  * came by it is loaded; else it is said why not. There is no transfer after that. */
 bool transfer_ends(struct backend *backend);
+
+/* Another process goes on with a transfer. Where the one before has ended amid a part of it, it has
+ * failed, which is said. */
+void transfer_regain(struct backend *backend, const struct transfer *transfer);
 
 /* There is no transfer any longer. */
 void transfer_forget(struct backend *backend);

@@ -52,11 +52,14 @@ static int move_up(int file, int least)
     return moved;
 }
 
-/* Maps what is kept in the memfd; NULL where it can't, or where it isn't of this program's
-  * layout. */
+/* Maps what is kept in the memfd; NULL where it can't. One that an older program has made gets room
+ * for what that doesn't know of. */
 static struct kept *map(void)
 {
-    struct kept *kept = mmap(NULL, sizeof *kept, PROT_READ | PROT_WRITE, MAP_SHARED, KEPT_FILE, 0);
+    const off_t size = sizeof(struct kept_file);
+    struct kept *kept = MAP_FAILED;
+    if (lseek(KEPT_FILE, 0, SEEK_END) >= size || !ftruncate(KEPT_FILE, size))
+        kept = mmap(NULL, (size_t)size, PROT_READ | PROT_WRITE, MAP_SHARED, KEPT_FILE, 0);
     if (kept == MAP_FAILED)
         return NULL;
     mlock(kept, offsetof(struct kept, set)); /* what the kernel writes into it as it reads a message
@@ -67,7 +70,7 @@ static struct kept *map(void)
 static struct kept *make(void)
 {
     int file = memfd_create("kept", MFD_CLOEXEC);
-    if (file < 0 || ftruncate(file, sizeof(struct kept)) || move_up(file, KEPT_FILE) != KEPT_FILE)
+    if (file < 0 || move_up(file, KEPT_FILE) != KEPT_FILE)
         return NULL;
     return map();
 }

@@ -2,6 +2,8 @@
 
 #include "lent.h"
 
+#include "../vhost/handlers.h"
+
 #include <sys/socket.h>
 
 const struct kept_state *kept_state(const struct kept *kept)
@@ -66,7 +68,10 @@ void kept_save(struct lent *lent)
     state->outside = lent->outside;
     state->messages = lent->messages;
     state->bytes = lent->bytes;
+    kept_file(lent->kept)->moves[other] = (struct kept_move){lent->notes.serial, backend->log.place,
+                                                             backend->transfer, backend->moved};
     __atomic_store_n(&lent->kept->counts, other, __ATOMIC_RELEASE);
+    __atomic_store_n(&backend->room->amid, false, __ATOMIC_RELEASE);
     files_let_go();
     leave_served(lent);
 }
@@ -75,6 +80,15 @@ void kept_leave(struct lent *lent)
 {
     leave_served(lent);
     inbox_close(&lent->kept->inbox);
+}
+
+/* What is kept with the state that counts of a guest that migrates: nothing, where another program
+ * has kept that. */
+static struct kept_move move_of(const struct kept *kept)
+{
+    const struct kept_move *move = &kept_file(kept)->moves[kept->counts & 1];
+    bool is_its = move->serial == kept_state(kept)->notes.serial;
+    return is_its ? *move : (struct kept_move){0};
 }
 
 static bool restore_memory(struct lent *lent, const struct kept_state *state)
@@ -112,6 +126,7 @@ bool kept_restore(struct lent *lent)
     const struct kept_state *state = kept_state(lent->kept);
     struct backend *backend = &lent->backend;
     VbDevice *device = &backend->balloon.state.device;
+    struct kept_move move = move_of(lent->kept);
     lent->notes = state->notes;
     lent->awaited = state->awaited;
     lent->outside = state->outside;
@@ -127,8 +142,11 @@ bool kept_restore(struct lent *lent)
     memcpy(backend->figures, state->figures, sizeof backend->figures);
     backend->figure_count = state->figure_count < MOST_TAGS ? state->figure_count : MOST_TAGS;
     if (!restore_memory(lent, state) ||
-        !rings_regain(backend, &state->told, state->rings, state->notes.ready_then))
+        !rings_regain(backend, &state->told, state->rings, state->notes.ready_then) ||
+        !migration_regain(backend, move.log, state->rings))
         return false;
+    transfer_regain(backend, &move.transfer);
+    backend->moved = move.moved;
     balloon_set_target(&backend->balloon, state->target_pages);
     configuration_write(device, ACTUAL_AT, state->actual_pages);
     configuration_write(device, POISON_AT, state->poison_value);
@@ -182,7 +200,12 @@ unsigned kept_files(const struct kept *kept, int files[MOST_KEPT_FILES])
     const int others[] = {state->socket,       state->channel,   state->notes.channel,
                           state->notes.later,  state->notes.end, kept->outbox.ends[0],
                           kept->outbox.ends[1]};
+    const struct kept_move move = move_of(kept);
     unsigned count = 0;
+    if (move.log.bytes > 0)
+        add(files, &count, move.log.file);
+    if (transfer_has_file(&move.transfer))
+        add(files, &count, move.transfer.file);
     for (unsigned i = 0; i < sizeof others / sizeof others[0]; i++)
         add(files, &count, others[i]);
     for (unsigned i = 0; i < state->region_count && i < MOST_REGIONS; i++)

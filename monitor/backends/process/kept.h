@@ -79,7 +79,30 @@ struct kept {
     uint64_t set[MOST_SET / 64];
 };
 
+/* What is kept of a guest that migrates, with the state of the same number: of the report that was
+ * the last one then. */
+struct kept_move {
+    uint64_t serial; /* another one: another program has kept that state, which knows nothing of
+                        this */
+    struct log_place log;
+    struct transfer transfer;
+    struct moved moved;
+};
+
+/* All that is in the memfd: what 0.3.0 has there, and after that what it doesn't know of. */
+struct kept_file {
+    struct kept kept;
+    struct kept_move moves[2];
+    struct moved_room room;
+};
+
 struct lent;
+
+/* The file that has it. */
+static inline struct kept_file *kept_file(const struct kept *kept)
+{
+    return (struct kept_file *)kept;
+}
 
 /* The state that counts. */
 const struct kept_state *kept_state(const struct kept *kept);

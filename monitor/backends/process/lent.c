@@ -131,6 +131,7 @@ static void waits(void *context, struct loop *loop)
     loop_wait_for(loop, lent->notes.end, POLLIN, take_signal, lent);
     loop_wait_for(loop, lent->backend.socket, POLLIN, take_message, lent);
     rings_wait(&lent->backend, loop);
+    transfer_wait(&lent->backend, loop);
     if (lent->notes.channel < 0)
         loop_wait_until(loop, lent->look);
     if (lent->backend.pending || lent->asks_nothing)
@@ -241,6 +242,7 @@ static bool prepare(struct lent *lent, const struct options *options, struct kep
     lent->kept = kept;
     if (!backend_start(&lent->backend, options))
         return false;
+    lent->backend.room = &kept_file(kept)->room;
     lent->notes.channel = kept_state(kept)->notes.channel;
     lent->look = loop_now() + LOOK_EVERY;
     lent->reads_until = loop_now() + READS_IN;

@@ -23,7 +23,9 @@ enum {
     AREA_END = FIGURES_AT + MOST_TAGS * FIGURE_BYTES
 };
 
-enum { AREA_VERSION = 1, KEEPS_PAGES = 1 };
+/* Modes: KEEPS_PAGES is the client's to choose; HAS_LENDER: a lender alone sets the target, and has
+ * pages discarded. */
+enum { AREA_VERSION = 1, KEEPS_PAGES = 1, HAS_LENDER = 2 };
 
 /* Commands, each written with the version. */
 enum { ASK_STATISTICS = 1, KEEP_PAGES = 2, DISCARD_PAGES = 3, COMMAND_BYTES = 8 };
@@ -61,7 +63,9 @@ static void put_area(const struct backend *backend, uint8_t area[AREA_END])
     put_u32(area, TARGET_AT, device->target);
     put_u32(area, BALLOONED_AT, backend->told.goes_on ? backend->told.actual : device->actual);
     memcpy(area + REPORTS_AT, &backend->counters.statistics, sizeof(uint64_t));
-    put_u32(area, MODES_AT, backend->balloon.keeps_pages ? KEEPS_PAGES : 0);
+    put_u32(area, MODES_AT,
+            (backend->balloon.keeps_pages ? KEEPS_PAGES : 0) |
+                (backend->options->is_lent ? HAS_LENDER : 0));
     put_figures(backend, area);
 }
 
@@ -90,6 +94,13 @@ static enum outcome take_target(struct backend *backend, const uint8_t *bytes)
     return DONE;
 }
 
+/* Refuses what a lender alone has control of. */
+static enum outcome refuse_control(struct backend *backend)
+{
+    remark(backend, "the lender alone has control of the balloon");
+    return FAILED;
+}
+
 /* Obeys a command of the area's version. */
 static enum outcome obey(struct backend *backend, uint32_t version, uint32_t command)
 {
@@ -97,6 +108,8 @@ static enum outcome obey(struct backend *backend, uint32_t version, uint32_t com
     if (version == AREA_VERSION && command == ASK_STATISTICS)
         return backend_ask(backend, &asked) ? DONE : STOP;
     if (version == AREA_VERSION && (command == KEEP_PAGES || command == DISCARD_PAGES)) {
+        if (backend->options->is_lent)
+            return refuse_control(backend);
         backend->balloon.keeps_pages = command == KEEP_PAGES || backend->options->keep;
         return DONE;
     }
@@ -112,14 +125,12 @@ static enum outcome take_own(struct backend *backend, uint32_t offset, const uin
     uint32_t words[2];
     bool is_target = offset == 0 && size == sizeof words[0];
     bool is_command = offset == VERSION_AT && size == COMMAND_BYTES;
-    if (backend->options->is_lent || (!is_target && !is_command)) {
-        remark(backend, "%s: a write of %" PRIu32 " bytes at %" PRIu32,
-               backend->options->is_lent ? "the lender alone has control" : "no control area", size,
-               offset);
+    if (!is_target && !is_command) {
+        remark(backend, "no control area: a write of %" PRIu32 " bytes at %" PRIu32, size, offset);
         return FAILED;
     }
     if (is_target)
-        return take_target(backend, bytes);
+        return backend->options->is_lent ? refuse_control(backend) : take_target(backend, bytes);
     memcpy(words, bytes, sizeof words);
     return obey(backend, words[0], words[1]);
 }

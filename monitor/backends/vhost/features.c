@@ -13,8 +13,7 @@ static VbDevice *device_of(struct backend *backend)
 enum outcome get_features(struct backend *backend, struct message *message)
 {
     return answer_u64(backend, message,
-                      device_of(backend)->settings.offered | HAS_PROTOCOL_FEATURES |
-                          (may_migrate(backend) ? LOG_ALL : 0));
+                      device_of(backend)->settings.offered | HAS_PROTOCOL_FEATURES | LOG_ALL);
 }
 
 /* The features represent all that comes before them. A client may send them twice before its queues
@@ -22,8 +21,7 @@ enum outcome get_features(struct backend *backend, struct message *message)
 enum outcome set_features(struct backend *backend, struct message *message)
 {
     uint64_t features = message_u64(message, 0);
-    uint64_t logs = may_migrate(backend) ? LOG_ALL : 0;
-    if (rings_run(backend) && (features ^ backend->told.features) & ~logs)
+    if (rings_run(backend) && (features ^ backend->told.features) & ~LOG_ALL)
         return refuse("the features 0x%" PRIx64 " while queues run", features), STOP;
     if (rings_run(backend))
         return backend->told.features = features, DONE;
@@ -59,9 +57,8 @@ enum outcome set_owner(struct backend *backend, struct message *message)
 static uint64_t protocol_features(const struct backend *backend)
 {
     uint64_t features = MQ_FEATURE | REPLY_ACK_FEATURE | BACKEND_REQ_FEATURE | CONFIG_FEATURE |
-                        RESET_DEVICE_FEATURE | IN_BAND_FEATURE | MEM_SLOTS_FEATURE | STATUS_FEATURE;
-    if (may_migrate(backend))
-        features |= LOG_SHMFD_FEATURE | DEVICE_STATE_FEATURE;
+                        RESET_DEVICE_FEATURE | IN_BAND_FEATURE | MEM_SLOTS_FEATURE |
+                        STATUS_FEATURE | LOG_SHMFD_FEATURE | DEVICE_STATE_FEATURE;
     return backend->options->events ? features & ~IN_BAND_FEATURE : features;
 }
 

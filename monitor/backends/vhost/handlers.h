@@ -27,14 +27,13 @@ handler set_vring_enable, vring_kick;
 /* migration.c */
 handler set_log_base, set_device_state_fd, check_device_state;
 
+/* Another process goes on with the log that is there, and with these rings; false where it can't,
+ * which is said. */
+bool migration_regain(struct backend *backend, struct log_place place,
+                      const struct ring kept[QUEUES]);
+
 /* slots.c */
 handler set_mem_table, get_max_mem_slots, add_mem_reg, rem_mem_reg;
-
-/* Whether the guest that this process serves may migrate: not yet where a lender has started it. */
-static inline bool may_migrate(const struct backend *backend)
-{
-    return !backend->options->is_lent;
-}
 
 /* Takes all regions away; no ring may run. */
 bool slots_forget(struct backend *backend);

@@ -1,6 +1,7 @@
 /* Messages of a client that migrates its guest: a log of what the device writes, and the device as
  * bytes that go through a pipe. */
 #include "handlers.h"
+#include "ring_layout.h"
 
 #include <inttypes.h>
 
@@ -21,12 +22,34 @@ enum outcome set_log_base(struct backend *backend, struct message *message)
 {
     uint64_t bytes = message_u64(message, 0), offset = message_u64(message, 8);
     int file = message->files.numbers[--message->files.count];
-    const char *fault = dirty_log_take(&backend->log, file, bytes, offset);
+    const char *fault = dirty_log_take(&backend->log, (struct log_place){bytes, offset, file});
     if (fault)
         return refuse("the log of %" PRIu64 " bytes from %" PRIu64 " on %s", bytes, offset, fault),
                STOP;
     backend->balloon.on_written = log_written;
     return answer_u64(backend, message, 0);
+}
+
+/* What the process before has written last may not be marked yet. */
+static void mark_used(struct backend *backend, const struct ring *ring)
+{
+    uint64_t used;
+    if (ring->logged && memory_of_user(&backend->memory, ring->used, &used))
+        dirty_log_mark(&backend->log, used, RING_META_SIZE + USED_ELEMENT_SIZE * ring->size);
+}
+
+bool migration_regain(struct backend *backend, struct log_place place,
+                      const struct ring kept[QUEUES])
+{
+    if (place.bytes == 0)
+        return true;
+    if (dirty_log_take(&backend->log, place))
+        return refuse("the log can't be mapped by another process");
+    backend->balloon.on_written = log_written;
+    for (unsigned number = 0; number < QUEUES; number++)
+        if (kept[number].runs && backend->told.features & LOG_ALL)
+            mark_used(backend, &kept[number]);
+    return true;
 }
 
 /* Begins to save the device, or to load one; false where it can't, which is said. */

@@ -21,7 +21,8 @@ struct script script;
 
 static struct lent fuzzed;
 static struct loop turns; /* of the process */
-static struct kept kept;
+static struct kept_file kept_there;
+static struct kept *const kept = &kept_there.kept;
 static struct options options;
 static bool ends;        /* the process is to end after this turn */
 static unsigned ends_at; /* or at this one of the moments at which it is kept; 0: at none */
@@ -148,23 +149,23 @@ static int process_begins(void)
     ends_at = 0;
     backend_clear(&fuzzed.backend);
     memset((uint8_t *)&fuzzed + sizeof fuzzed.backend, 0, sizeof fuzzed - sizeof fuzzed.backend);
-    demand(prepare(&fuzzed, &options, &kept));
-    demand(kept_regain(&kept));
+    demand(prepare(&fuzzed, &options, kept));
+    demand(kept_regain(kept));
     return guard(go_on, &fuzzed);
 }
 
 /* A process ends as it has read a message, or some bytes that it hasn't noted. */
 static void reads(void)
 {
-    struct inbox *inbox = &kept.inbox;
+    struct inbox *inbox = &kept->inbox;
     client_sends();
-    kept.unnoted = 0;
+    kept->unnoted = 0;
     if (next_byte() % 2 && inbox_read(fuzzed.backend.socket, inbox) == STREAM_WHOLE)
         return;
     size_t came = 0;
     if (inbox->got < sizeof inbox->head || inbox->message.size <= MOST_BODY)
         inbox_take(fuzzed.backend.socket, inbox, &came);
-    kept.unnoted = came;
+    kept->unnoted = came;
 }
 
 /* The guest changes a used index, which isn't the driver's. */
@@ -189,8 +190,8 @@ static int another_goes_on(void)
         changes_used(memory, &fuzzed.backend.rings[next_below(QUEUES)]);
     for (unsigned i = 0; i < memory->count; i++)
         munmap(memory->regions[i].host, memory->regions[i].length);
-    kept.unnoted = 0;
-    if (!kept_state(&kept)->outcome && next_byte() % 4)
+    kept->unnoted = 0;
+    if (!kept_state(kept)->outcome && next_byte() % 4)
         reads();
     return process_begins();
 }
@@ -208,11 +209,12 @@ static int comes(unsigned kind)
                                .events = kind & 4,
                                .hints = kind & 8,
                                .discards_hints = kind & 16};
-    memset(&kept, 0, offsetof(struct kept, set));
-    kept_clear(&kept);
-    demand(outbox_begin(&kept.outbox));
+    memset(kept, 0, offsetof(struct kept, set));
+    memset(kept_there.moves, 0, sizeof kept_there.moves);
+    kept_clear(kept);
+    demand(outbox_begin(&kept->outbox));
     demand(!socketpair(AF_UNIX, SOCK_SEQPACKET | SOCK_CLOEXEC | SOCK_NONBLOCK, 0, ends));
-    struct kept_state *state = &kept.states[0];
+    struct kept_state *state = &kept->states[0];
     state->socket = client_comes();
     lender = ends[0];
     state->notes.channel = ends[1];
@@ -224,13 +226,13 @@ static int comes(unsigned kind)
 static void goes(void)
 {
     files_put_off(false);
-    memset(kept.set, 0, fuzzed.backend.balloon.ballooned_words * sizeof *kept.set);
+    memset(kept->set, 0, fuzzed.backend.balloon.ballooned_words * sizeof *kept->set);
     if (fuzzed.backend.balloon.deflating)
         memset(fuzzed.backend.balloon.deflating, 0,
-               fuzzed.backend.balloon.ballooned_words * sizeof *kept.set);
+               fuzzed.backend.balloon.ballooned_words * sizeof *kept->set);
     backend_leave(&fuzzed.backend);
     kept_leave(&fuzzed);
-    close(kept.outbox.ends[0]), close(kept.outbox.ends[1]);
+    close(kept->outbox.ends[0]), close(kept->outbox.ends[1]);
     file_close(fuzzed.backend.socket);
     if (fuzzed.notes.channel >= 0)
         file_close(fuzzed.notes.channel);

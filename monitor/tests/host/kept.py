@@ -33,7 +33,19 @@ WHOLE = ("message",)
 
 # Bytes of a message's head, and of a number of each type.
 HEAD = 12
-NUMBERS = {"bool": 1, "uint8_t": 1, "int": 4, "enum": 4, "uint32_t": 4, "uint64_t": 8, "size_t": 8}
+NUMBERS = {
+    "bool": 1,
+    "uint8_t": 1,
+    "uint16_t": 2,
+    "int": 4,
+    "enum": 4,
+    "uint32_t": 4,
+    "uint64_t": 8,
+    "size_t": 8,
+}
+
+# Fields that there are once: of all others there are two, and one says which counts.
+ONCE = ("kept.", "room.")
 
 BODY = re.compile(r"^struct (\w+) \{(.*?)\};", re.M | re.S)
 DECLARATION = re.compile(r"\s*((?:struct |enum )?\w+)\s(.*)", re.S)
@@ -82,15 +94,10 @@ def layout_program():
     """Returns a C program that says where each field lies, how large it is, and how many there are
     of it with which distance."""
     lines = []
-    for name, of, expression, arrays in leaves("kept"):
-        at = (
-            f"(size_t)&((struct kept *)0)->{expression[1:]}, sizeof ((struct kept "
-            f"*)0)->{expression[1:]}"
-        )
-        steps = [
-            f"sizeof ((struct kept *)0)->{it[1:]}[0], sizeof ((struct kept *)0)->{it[1:]}"
-            for it in arrays
-        ]
+    for name, of, expression, arrays in leaves("kept_file"):
+        its = lambda it: f"((struct kept_file *)0)->{it[1:]}"
+        at = f"(size_t)&{its(expression)}, sizeof {its(expression)}"
+        steps = [f"sizeof {its(it)}[0], sizeof {its(it)}" for it in arrays]
         lines.append(
             f'printf("{name} {of.split()[0]}{" %zu" * (2 + 2 * len(steps))}\\n", '
             f'{", ".join([at, *steps])});'
@@ -129,9 +136,8 @@ def layout():
 
 
 def short(name):
-    """Returns a field's name: of a state without `states`, as the one that counts is meant; of all
-    else with `kept`."""
-    return name.removeprefix("states.") if name.startswith("states.") else f"kept.{name}"
+    """Returns a field's name: of a state without `kept.states`, as the one that counts is meant."""
+    return name.removeprefix("kept.states.")
 
 
 class Kept:
@@ -161,7 +167,7 @@ class Kept:
     def __getitem__(self, name):
         """Returns the field of this name: of a queue or a region a list of all."""
         of, at, size, *arrays = layout()[name]
-        if not name.startswith("kept."):
+        if not name.startswith(ONCE):
             at, arrays = at + arrays[0] * (self["kept.counts"] & 1), arrays[2:]
         if not arrays:
             return self.read(of, at, size)

@@ -13,6 +13,7 @@ from kept import HEAD, Life, layout
 from tenants import AVAILABLE, FREE, PAGES, eventually, stop
 from test_strict import GIVEN
 from vhost_client import (
+    ADD_MEM_REG,
     DEFLATE,
     FEATURES,
     GET_CONFIG,
@@ -33,6 +34,10 @@ from vhost_client import (
     WRITE,
     memory_file,
 )
+
+from vhost_logs import LOG_BYTES, LOG_OFFSET, log_base, log_file, set_logging
+from vhost_moves import HEAD as HEAD_OF_MOVED
+from vhost_moves import PROTOCOL, SAVE, SUM, WELL, ask, load, saved, stopped
 
 # The lender asks nobody by itself.
 QUIET = (
@@ -71,8 +76,8 @@ ELSEWHERE = {
     "kept.inbox.message": ("test_anew.py", "lost-files"),
     "kept.inbox.ahead": ("test_between_calls.py", "test_messages_that_are_read_at_once"),
     "outcome": ("test_anew.py", "handles-twice"),
-    # A lender's process offers no log of writes.
-    "rings.logged": ("../vhost_user/test_logs.py", "test_each_used_ring_that_is_written"),
+    "moves.serial": ("test_migrating.py", "test_another_program_knows_nothing_of_a_log"),
+    "room.amid": ("test_anew.py", "test_a_migration_that_is_cut_off_anywhere"),
 }
 
 # What is 0 for each guest of these tests: a kick is an eventfd, no memory has huge pages, and the
@@ -134,14 +139,11 @@ def step(names):
 )
 def a_driver_is_ready(life):
     life.comes()
-    size, turns, serial = (
-        os.fstat(life.kept.file).st_size,
-        life.kept["kept.turns"],
-        life.kept["notes.serial"],
-    )
+    turns, serial = life.kept["kept.turns"], life.kept["notes.serial"]
+    _, at, size, *_ = layout()["kept.set"]
     return (
         1,
-        size,
+        at + size,
         9,
         AtLeast(turns + 1),
         AtLeast(serial + 1),
@@ -298,6 +300,50 @@ def a_ring_is_polled(life):
     life.comes()
     life.client.accepted(SET_VRING_KICK, struct.pack("<Q", DEFLATE | NO_FILE))
     return ([0, 1, 0, 0, 0],)
+
+
+@step("moves.log.file moves.log.bytes moves.log.offset rings.logged")
+def a_log_is_handed_over(life):
+    life.client.start_by_events(FEATURES, PROTOCOL)
+    assert log_base(life.client, log_file()) == bytes(8)
+    set_logging(life.client, True)
+    return File("/memfd:log"), LOG_BYTES, LOG_OFFSET, ON
+
+
+def with_a_large_memory(life):
+    """A guest whose memory ends where it may at most, with its last page in the balloon; and what
+    its device's bytes are: more than a pipe has room for."""
+    client = life.client
+    client.begin(PROTOCOL), client.negotiate(FEATURES, PROTOCOL)
+    client.accepted(ADD_MEM_REG, client.region_body(0), [client.files[0]])
+    place = struct.pack("<QQQQQ", 0, (1 << 36) - PAGE, PAGE, REGIONS[1][1], PAGE)
+    client.accepted(ADD_MEM_REG, place, client.files[1:])
+    client.go_on()
+    life.gives([(1 << 24) - 1], 1), life.writes(ACTUAL_AT, 1)
+    stopped(client)
+
+
+@step(
+    "moves.transfer.state moves.transfer.file moves.transfer.length moves.transfer.done room.bytes"
+)
+def a_device_is_saved(life):
+    with_a_large_memory(life)
+    ours, theirs = os.pipe()
+    assert ask(life.client, theirs, SAVE) == WELL
+    life.files.append(open(ours, "rb"))
+    eventually(lambda: life.kept["moves.transfer.done"])
+    return 1, PIPE, HEAD_OF_MOVED + (2 << 20) + SUM, AtLeast(4096), list(b"VBMOVED")
+
+
+@step(
+    "moves.moved.awaits moves.moved.index moves.moved.memory_end moves.moved.actual "
+    "moves.moved.words room.set"
+)
+def a_device_is_loaded(life):
+    with_a_large_memory(life)
+    assert load(life.client, saved(life.client))
+    last = ((1 << 24) - 1) // 64
+    return 1, 1, 1 << 36, 1, 1 << 18, last * [0] + [1 << 63]
 
 
 @step("remarks")

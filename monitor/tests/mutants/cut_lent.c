@@ -15,8 +15,13 @@
  *     ungranted      waits for the grant of a deflate that was granted
  *     handles-twice  calls the handler of a message again that was handled
  *     no-call        tells no driver of what the process before has used
+ *     no-log         logs nothing any longer
+ *     log-lacks-last doesn't mark what the process before has written last
+ *     no-transfer    knows nothing of a device that is saved or loaded
+ *     any-part       goes on with such a one, though the process before ended amid a part of it
  */
 #include "../../backends/process/lent.h"
+#include "../../backends/vhost/handlers.h"
 
 #include <fcntl.h>
 #include <stdlib.h>
@@ -65,6 +70,7 @@ CUT(ssize_t, recvmsg, (file, message, flags), int file, struct msghdr *message, 
 CUT(ssize_t, write, (file, bytes, length), int file, const void *bytes, size_t length)
 CUT(ssize_t, splice, (from, at_from, to, at_to, length, flags), int from, off_t *at_from, int to,
     off_t *at_to, size_t length, unsigned flags)
+CUT(ssize_t, pipe_read, (file, to, length, ended), int file, void *to, size_t length, bool *ended)
 CUT(int, fallocate, (file, mode, begin, length), int file, int mode, off_t begin, off_t length)
 CUT(bool, lending_send, (channel, message), int channel, struct lending_message *message)
 CUT(unsigned, lending_read, (channel, messages, most, ended), int channel,
@@ -76,6 +82,29 @@ REAL(void, kept_save, struct lent *lent)
     cut();
     __real_kept_save(lent);
     cut();
+}
+
+REAL(void, dirty_log_mark, struct dirty_log *log, uint64_t guest, uint64_t length)
+{
+    cut();
+    __real_dirty_log_mark(log, guest, length);
+    cut();
+}
+
+REAL(bool, migration_regain, struct backend *backend, struct log_place place,
+     const struct ring rings[QUEUES])
+{
+    static const struct ring none[QUEUES];
+    if (is("no-log"))
+        place.bytes = 0;
+    return __real_migration_regain(backend, place, is("log-lacks-last") ? none : rings);
+}
+
+REAL(void, transfer_regain, struct backend *backend, const struct transfer *transfer)
+{
+    const struct transfer none = {0};
+    backend->room->amid = backend->room->amid && !is("any-part");
+    __real_transfer_regain(backend, is("no-transfer") ? &none : transfer);
 }
 
 REAL(void, inbox_next, struct inbox *inbox)

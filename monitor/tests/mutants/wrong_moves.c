@@ -42,30 +42,26 @@ static uint8_t *map_bluntly(int file, uint64_t bytes, uint64_t offset)
     return at == MAP_FAILED ? NULL : at;
 }
 
-static bool log_is_taken_bluntly(struct dirty_log *log, int file, uint64_t bytes, uint64_t offset)
+static bool log_is_taken_bluntly(struct dirty_log *log, struct log_place place)
 {
     uint64_t end;
-    if (bytes == 0)
+    if (place.bytes == 0)
         return is("log-empty");
-    if (__builtin_add_overflow(bytes, offset, &end))
+    if (__builtin_add_overflow(place.bytes, place.offset, &end))
         return is("log-nowhere");
     if (!is("log-short"))
         return false;
-    *log = (struct dirty_log){.bits = map_bluntly(file, bytes, offset), .bytes = bytes};
+    *log = (struct dirty_log){place, map_bluntly(place.file, place.bytes, place.offset), false};
     return log->bits;
 }
 
-WRAPPED(const char *, dirty_log_take, struct dirty_log *log, int file, uint64_t bytes,
-        uint64_t offset)
+WRAPPED(const char *, dirty_log_take, struct dirty_log *log, struct log_place place)
 {
-    struct dirty_log before = *log;
-    if (log_is_taken_bluntly(log, file, bytes, offset)) {
-        file_close(file);
+    if (log_is_taken_bluntly(log, place))
         return NULL;
-    }
-    if (!is("log-old") || !before.bits)
-        return __real_dirty_log_take(log, file, bytes, offset);
-    file_close(file);
+    if (!is("log-old") || !log->bits)
+        return __real_dirty_log_take(log, place);
+    file_close(place.file);
     return NULL;
 }
 
