@@ -95,7 +95,6 @@ def test_what_the_page_of_the_program_shows(tmp_path):
         ["sh", "-c", command],
         capture_output=True,
         text=True,
-        timeout=120,
         env={**os.environ, "PATH": f"{tmp_path}:{os.environ['PATH']}"},
     )
     assert (ran.returncode, ran.stderr, ran.stdout.splitlines()) == (0, "", lines)
