@@ -80,13 +80,14 @@ enum { NUMBER_OF_TIERS = 4 };
 /* What a guest can give in the tiers before each one and with it, the most that its target so far
  * may be, and that target, all beside what is forced. */
 struct part {
-    Sum through[NUMBER_OF_TIERS], most, old, weight;
+    Sum through[NUMBER_OF_TIERS], most, old, weight, forced;
 };
 
 /* How a tier is divided. */
 struct level {
     const VbPolicyBudget *budget;
     const VbFigures *figures;
+    VbPolicyRoom *rooms; /* what was found of each guest for this division */
     size_t count;
     bool yields; /* so that the first that waits is served */
     unsigned tier;
@@ -103,7 +104,8 @@ static Sum yielded(const VbPolicyBudget *budget, const VbFigures *it)
     return gives(it, it->paused, budget->floor / 4, it->available);
 }
 
-static struct part part_of(const struct level *level, size_t number)
+/* Finds a guest's part: not again for each level that is tried. */
+static VbPolicyRoom find_part(const struct level *level, size_t number)
 {
     const VbFigures *it = &level->figures[number];
     const VbPolicyBudget *budget = level->budget;
@@ -112,10 +114,20 @@ static struct part part_of(const struct level *level, size_t number)
     Sum spare = beyond(level->yields ? yielded(budget, it) : tiers.spare, first);
     Sum cached = less(spare, beyond(tiers.cached, first));
     Sum unused = less(cached, beyond(tiers.unused, first));
-    return (struct part){.through = {0, unused, cached, spare},
-                         .most = more(spare, beyond(tiers.most, first)),
-                         .old = it->pressed ? UINT32_MAX : beyond(it->target, first),
-                         .weight = it->weight ? it->weight : 1};
+    Sum old = it->pressed ? UINT32_MAX : beyond(it->target, first);
+    return (VbPolicyRoom){.numbers = {(uint32_t)unused, (uint32_t)cached, (uint32_t)spare,
+                                      (uint32_t)more(spare, beyond(tiers.most, first)),
+                                      (uint32_t)old, it->weight ? it->weight : 1, (uint32_t)first}};
+}
+
+static struct part part_of(const struct level *level, size_t number)
+{
+    const uint32_t *its = level->rooms[number].numbers;
+    return (struct part){.through = {0, its[0], its[1], its[2]},
+                         .most = its[3],
+                         .old = its[4],
+                         .weight = its[5],
+                         .forced = its[6]};
 }
 
 /* A guest's target by a level. */
@@ -224,7 +236,7 @@ static bool all_stay(const struct level *level)
 
 static uint32_t with_forced(const struct level *level, size_t number, Sum target)
 {
-    return (uint32_t)less(UINT32_MAX, target + forced(level->budget, &level->figures[number]));
+    return (uint32_t)less(UINT32_MAX, target + part_of(level, number).forced);
 }
 
 static void set_short(const struct level *level, uint32_t *targets)
@@ -239,6 +251,8 @@ static void set_short(const struct level *level, uint32_t *targets)
 /* Sets targets; the tier of the decision. */
 static uint32_t set(struct level *level, Sum lack, uint32_t *targets)
 {
+    for (size_t i = 0; i < level->count; i++)
+        level->rooms[i] = find_part(level, i);
     if (all_through(level, 3) < lack) {
         set_short(level, targets);
         return VB_TIER_SHORT;
@@ -258,10 +272,9 @@ VbDecision vb_policy_decide(const VbPolicyBudget *budget, const VbFigures *figur
                             VbPolicyRoom *rooms, size_t rooms_count, uint32_t *targets,
                             size_t targets_count)
 {
-    struct level level = {.budget = budget, .figures = figures, .count = count};
+    struct level level = {.budget = budget, .figures = figures, .rooms = rooms, .count = count};
     Sum lack = 0;
     bool one_waits = false;
-    (void)rooms;
     if (rooms_count != count || targets_count != count)
         return (VbDecision){.code = VB_BAD_ARGUMENT};
     for (size_t i = 0; i < count; i++) {
