@@ -23,6 +23,9 @@ a fleet: how often 100 hosts of 24G may promise that to 3000 guests
 # host of it has at most, as vhost_user_host.
 STEPS, PROMISES, PLACES = 12, "1.00..2.00", 64
 
+# What is reserved for page cache, as vhost_user_host has it: percent.
+RESERVE = 5
+
 
 def run(asked):
     """Prints the plan of a recorded day, or a day that is made; returns the exit status."""
@@ -69,6 +72,13 @@ def add(commands):
     )
     words.add_argument(
         "--floor", default="12M", metavar="SIZE", help="what each guest keeps free (12M)"
+    )
+    words.add_argument(
+        "--reserve",
+        type=int,
+        default=RESERVE,
+        metavar="PERCENT",
+        help=f"what each guest keeps of its page cache as long as others have any ({RESERVE})",
     )
     words.add_argument(
         "--wait-seconds",

@@ -80,9 +80,12 @@ def run_make(asked):
         print(line)
 
 
-def floor_of(asked):
-    """Returns what each guest keeps free, in pages."""
-    return 0 if asked.floor == "0" else pages_of(asked.floor, "--floor")
+def terms_of(asked, frames):
+    """Returns the terms of a host with this budget: what each guest keeps free, in pages, and its
+    reserve."""
+    demand_number(asked.reserve, 0, 100, "reserve", " percent")
+    floor = 0 if asked.floor == "0" else pages_of(asked.floor, "--floor")
+    return Terms(frames, floor, asked.reserve)
 
 
 def plan_host(asked):
@@ -91,13 +94,12 @@ def plan_host(asked):
         not (asked.budget or asked.scheduler or asked.processes),
         "plan: --budget, --processes and --scheduler are for a --fleet",
     )
-    floor, budgets = floor_of(asked), asked.budgets and range_of(
+    terms, budgets = terms_of(asked, 0), asked.budgets and range_of(
         asked.budgets, "--budgets", pages_of
     )
-    day = reading.read(asked.file)
-    return search.plan(
-        library.load(asked.library), day, floor, asked.wait_seconds, budgets, asked.steps
-    )
+    calls = library.load(asked.library)
+    day = reading.read(calls, asked.file)
+    return search.plan(calls, day, terms, asked.wait_seconds, budgets, asked.steps)
 
 
 def runner_of(asked):
@@ -130,7 +132,7 @@ def fleet_of(asked):
     )
     path = library.path_of(asked.library)
     library.load(path)
-    return fleet.Fleet(asked.fleet, asked.places, path, Terms(frames, floor_of(asked))), ends
+    return fleet.Fleet(asked.fleet, asked.places, path, terms_of(asked, frames)), ends
 
 
 def plan_fleet(asked):
@@ -138,7 +140,7 @@ def plan_fleet(asked):
     hosts, ends = fleet_of(asked)
     runner = runner_of(asked)
     if asked.make is None:
-        source = fleet.Read(reading.read(asked.file).guests)
+        source = fleet.Read(reading.read(library.load(asked.library), asked.file).guests)
     else:
         demand_make(asked)
         source = fleet.Made(asked.seed, asked.hours, tuple(range(1, asked.make + 1)))

@@ -12,19 +12,33 @@ MOST_PAGES = (1 << 32) - 1
 
 
 class Use(NamedTuple):
-    """From this moment on a guest uses this many pages."""
+    """From this moment on a guest uses this many pages, and of the others so many as page cache
+    (None: it doesn't tell which of these are free); and whether its own work waits for memory."""
 
     seconds: float
     pages: int
+    cached: object = None
+    pressed: bool = False
+
+
+class GuestTerms(NamedTuple):
+    """What an operator has said of a guest, as vb_policy.h has it; `least` and `most` in pages."""
+
+    least: int = 0
+    most: int = MOST_PAGES
+    weight: int = 1
+    priority: int = 0
 
 
 class Recorded(NamedTuple):
-    """A guest of a day: its memory in pages, what it uses from when on, and when it goes."""
+    """A guest of a day: its memory in pages, what it uses from when on, when it goes, and its
+    terms."""
 
     name: str
     pages: int
     uses: tuple
     end: float
+    terms: GuestTerms = GuestTerms()
 
     @property
     def start(self):
@@ -46,10 +60,10 @@ def day_of(guests):
     return Day(tuple(ordered), ordered[0].start, max(it.end for it in ordered))
 
 
-def add_use(uses, seconds, pages):
-    """Adds what a guest uses from a moment on, where that is another amount than before."""
-    if not uses or uses[-1].pages != pages:
-        uses.append(Use(seconds, pages))
+def add_use(uses, use):
+    """Adds what a guest uses from a moment on, where that is something else than before."""
+    if not uses or uses[-1][1:] != use[1:]:
+        uses.append(use)
 
 
 class Line:
@@ -62,6 +76,10 @@ class Line:
         """Ends the reading."""
         raise Usage(f"{self.place}: {words}")
 
+    def lacks(self, name):
+        """Whether there is no such cell, or it is empty."""
+        return not (self.cells.get(name) or "").strip()
+
     def text(self, name):
         """Returns a cell, which isn't empty."""
         text = (self.cells[name] or "").strip()
@@ -69,12 +87,16 @@ class Line:
             self.refuse(f"{name} is empty")
         return text
 
-    def size(self, name):
-        """Returns a size in bytes."""
+    def size(self, name, what="number of bytes"):
+        """Returns a size in bytes, or another number."""
         text = self.text(name)
         if not (text.isascii() and text.isdecimal()):
-            self.refuse(f"{name}: {text!r} is no number of bytes")
+            self.refuse(f"{name}: {text!r} is no {what}")
         return int(text)
+
+    def pages(self, name):
+        """Returns a size in pages; 0 where there is none."""
+        return 0 if self.lacks(name) else min(self.size(name) // PAGE, MOST_PAGES)
 
     def part(self, name, whole):
         """Returns a size in bytes, which is at most that of the guest's memory."""
@@ -102,38 +124,3 @@ class Line:
         if size % PAGE or size // PAGE > MOST_PAGES:
             self.refuse(f"size: {size} isn't whole pages of {PAGE} bytes, below 2^32 of them")
         return size // PAGE
-
-
-class Recording:
-    """What was read of the guests until now."""
-
-    def __init__(self):
-        self.pages, self.uses, self.ends, self.lines = {}, {}, {}, {}
-
-    def add(self, line, used_by):
-        """Adds a line of a guest; `used_by` says of the line and the bytes of the guest's memory
-        how many bytes are used."""
-        name, seconds, pages = line.text("guest"), line.seconds(), line.memory()
-        used = -(-used_by(line, pages * PAGE) // PAGE)
-        if pages != self.pages.setdefault(name, pages):
-            line.refuse(
-                f"size: {name} had {self.pages[name] * PAGE} bytes before, and {pages * PAGE} now"
-            )
-        if name in self.ends and seconds <= self.ends[name]:
-            line.refuse(
-                f"seconds: {seconds:.12g} isn't after {self.ends[name]:.12g}, the time of {name} "
-                "before"
-            )
-        add_use(self.uses.setdefault(name, []), seconds, used)
-        self.ends[name], self.lines[name] = seconds, line
-
-    def day(self, path):
-        """Returns the day of all guests."""
-        if not self.pages:
-            raise Usage(f"{path}: there are no rows")
-        for name, line in self.lines.items():
-            if self.ends[name] == self.uses[name][0].seconds:
-                line.refuse(f"{name} has this row alone: a guest's last row says when it goes")
-        return day_of(
-            [Recorded(it, self.pages[it], tuple(self.uses[it]), self.ends[it]) for it in self.pages]
-        )

@@ -1,18 +1,28 @@
 """A host that lends, at one moment after another: its guests have processes of seats.py, which do
-at once what they are told and need. The library's calls decide who is granted, and which targets
-are set."""
+at once what they are told and need. The library's calls decide who is granted, and what each guest
+is asked for."""
 
 import ctypes
 from typing import NamedTuple
 
 import numpy
 
-from bigvasta.plan.library import LINE_RESETS, SHORT, Need
+from bigvasta.plan.library import (
+    CONTACT_AWAY,
+    CONTACT_HEARD,
+    CONTACT_STARTS,
+    LINE_RESETS,
+    UNTOLD,
+    Figures,
+    PolicyBudget,
+    PolicyRoom,
+)
 from bigvasta.plan.seats import Seats
 from bigvasta.statuses import Unclear
 
-# As a host does: old targets serve while each guest has its floor but for this part of it.
-SLACK_PART = 8
+# As a host has it: this part of the floor is too little to change a target for; and in percent, who
+# has less than this of its part gets its part.
+SLACK_PART, BAND = 8, 35
 
 MOST_FRAMES = (1 << 32) - 1
 
@@ -21,76 +31,102 @@ MOST_ROUNDS = 1000
 
 
 class Terms(NamedTuple):
-    """What a replay tries, in pages: the budget, and the floor."""
+    """What a replay tries: the budget and the floor, in pages, and the reserve, in percent of each
+    guest's pages."""
 
     frames: int
     floor: int = 0
+    reserve: int = 0
+
+    def budget(self):
+        """Returns them as the library takes them."""
+        return PolicyBudget(self.frames, self.floor, self.floor // SLACK_PART, self.reserve, BAND)
 
 
 class Lender:
     """A host and its guests. `waits` has how long each ask waited that has ended, in seconds,
     `waited` the same of each guest together."""
 
-    def __init__(self, library, sizes, terms):
-        count = len(sizes)
-        self.library, self.sizes, self.terms, self.count, self.now = (
+    def __init__(self, library, guests, terms):
+        count = len(guests)
+        self.library, self.guests, self.terms, self.count, self.now = (
             library,
-            sizes,
+            guests,
             terms,
             count,
             0.0,
         )
         self.seats = Seats(library, count, terms.frames)
-        # What guests can spare so that the floor stays free to them, and with the slack.
-        self.spares, self.needs = (Need * count)(), (Need * count)()
-        self.targets = (ctypes.c_uint32 * count)()
-        self.low = terms.floor - terms.floor // SLACK_PART
-        # How many pages each has, and doesn't use.
-        self.unused = numpy.array(sizes, numpy.int64)
+        self.budget, self.rooms, self.figures, self.targets = (
+            terms.budget(),
+            (PolicyRoom * count)(),
+            (Figures * count)(*(Figures(strict=1, **it.terms._asdict()) for it in guests)),
+            (ctypes.c_uint32 * count)(),
+        )
+        figures = numpy.ndarray(count, Figures, self.figures)
+        self.so_far, self.firsts, self.pressed = (
+            figures[it] for it in ("target", "first", "pressed")
+        )
+        self.decided = numpy.ndarray(count, numpy.uint32, self.targets)
+        # How many pages each has, and doesn't use; and how many of these its page cache takes.
+        self.unused, self.cached = (
+            numpy.array([it.pages for it in guests], numpy.int64),
+            [None] * count,
+        )
         self.runs, self.since = numpy.zeros(count, bool), [None] * count
-        self.waits, self.waited, self.moved, self.decisions, self.missing, self.anew = (
+        self.waits, self.waited, self.moved, self.decisions, self.missing = (
             [],
             [0.0] * count,
             0,
             0,
             0,
-            True,
         )
+        # Whether there is something new to decide on, and whether targets so far don't count.
+        self.news, self.anew = True, True
 
-    # ---- what a guest can spare
+    # ---- what the host knows of a guest
 
-    def spare(self, guest, floor):
-        """Returns what a guest can spare so that this much stays free, as a host asks for it:
-        ballooned pages count as free ones. One that waits can spare what stays in its balloon when
-        it has what it asks for."""
-        seats, pages = self.seats, self.seats.seats[guest].pages
-        if self.since[guest] is not None:
-            return pages - seats.lent(guest) - seats.asked(guest)
-        if not self.runs[guest]:
-            return 0
-        return self.library.vb_spare(pages, 0, max(self.unused[guest], 0), 1, floor, 0)
+    def contact(self, guest):
+        """Returns whether its statistics are at hand."""
+        if self.runs[guest]:
+            return CONTACT_HEARD
+        return CONTACT_STARTS if self.seats.seats[guest].pages else CONTACT_AWAY
 
     def figure(self, guest):
-        """Says again what a guest can spare: after each change of what it uses, or of its seat."""
-        pages = self.seats.seats[guest].pages
-        for needs, floor in ((self.spares, self.terms.floor), (self.needs, self.low)):
-            needs[guest].pages, needs[guest].spare = pages, self.spare(guest, floor)
+        """Says again what is known of a guest: after each change of what it uses, or of its seat.
+        Of what its balloon leaves it, its page cache has what it has no other use for. What it uses
+        and doesn't have it is about to ask for: that isn't in its balloon any longer."""
+        seats, its = self.seats, self.figures[guest]
+        seat, cached, unused = seats.seats[guest], self.cached[guest], int(self.unused[guest])
+        its.pages, its.ballooned = seat.pages, seat.ballooned
+        its.ballooned_then = min(seat.ballooned, unused)
+        its.available = unused - its.ballooned_then
+        its.free = UNTOLD if cached is None else max(its.available - cached, 0)
+        its.lent, its.asked = seats.lent(guest), seats.asked(guest)
+        its.contact = self.contact(guest)
+        self.news = True
 
     # ---- what happens to a guest
 
-    def arrive(self, guest, used):
+    def note(self, guest, use):
+        """A guest uses this from now on."""
+        self.unused[guest] = self.guests[guest].pages - use.pages
+        self.cached[guest], self.pressed[guest] = use.cached, use.pressed
+
+    def arrive(self, guest, use):
         """A guest comes, and waits for all of its memory."""
-        self.since[guest], self.anew = self.now, True
-        self.unused[guest] = self.sizes[guest] - used
-        self.seats.arrive(guest, self.sizes[guest])
+        self.since[guest] = self.now
+        self.note(guest, use)
+        self.seats.arrive(guest, self.guests[guest].pages)
+        self.anew |= self.seats.lent(guest) > 0
         self.figure(guest)
 
     def begin(self, guests):
         """These guests are here when the day begins: let in before the budget holds, so that none
         of them waits for that."""
         self.seats.budget(MOST_FRAMES)
-        for guest, used in guests:
-            self.arrive(guest, used)
+        for guest, use in guests:
+            self.arrive(guest, use)
         self.take_all()
         self.seats.budget(self.terms.frames)
         self.waits.clear()
@@ -103,21 +139,18 @@ class Lender:
         self.runs[guest], self.anew = False, True
         self.figure(guest)
 
-    def use(self, guest, pages):
-        """A guest uses this many pages now. One that uses none is reset: its balloon is to be
-        empty."""
-        self.unused[guest] = self.sizes[guest] - pages
+    def use(self, guest, use):
+        """A guest uses this now. One that uses no page is reset: its balloon is to be empty."""
+        self.note(guest, use)
         ballooned = self.seats.reports[guest].ballooned
-        if pages == 0 and self.runs[guest] and ballooned > 0:
+        if use.pages == 0 and self.runs[guest] and ballooned > 0:
             self.ask(guest, ballooned, LINE_RESETS)
         self.figure(guest)
 
     # ---- waits
 
     def ask(self, guest, *words):
-        """A guest holds a deflate back, by which targets are decided again: the wait lasts until it
-        asks for nothing more."""
-        self.anew = True
+        """A guest holds a deflate back: the wait lasts until it asks for nothing more."""
         if self.since[guest] is None:
             self.since[guest] = self.now
         self.seats.hold(guest, *words)
@@ -133,6 +166,7 @@ class Lender:
 
     def settle(self):
         """Does what follows of what has happened, until nothing follows any longer."""
+        self.news = True
         for _ in range(MOST_ROUNDS):
             took = self.take_all()
             self.decide()
@@ -143,22 +177,27 @@ class Lender:
                 return
         raise Unclear("plan: the guests of a moment don't come to rest")
 
+    def ask_library(self):
+        """Has the library decide the targets; returns its answer. Those so far don't count where
+        guests have come or gone."""
+        first, count = self.seats.first(), self.count
+        self.so_far[:] = 0 if self.anew else self.seats.wanted
+        self.firsts[:] = 0
+        if first is not None:
+            self.firsts[first] = 1
+        return self.library.vb_policy_decide(
+            self.budget, self.figures, count, self.rooms, count, self.targets, count
+        )
+
     def decide(self):
-        """Keeps the targets that serve, or has them decided again; where all that the guests can
-        spare is too little, each is asked for all."""
-        library, frames, count = self.library, self.terms.frames, self.count
-        if not self.anew and not library.vb_needs_targets(
-            self.targets, count, self.needs, count, frames
-        ):
-            self.missing = 0
+        """Has targets be decided where there is something new. Those that rise are told first."""
+        if not self.news:
             return
-        answer = library.vb_targets(self.spares, count, frames, self.targets, count)
-        self.missing = answer.missing if answer.code == SHORT else 0
-        if answer.code == SHORT:
-            self.targets[:] = [it.spare for it in self.spares]
-        self.decisions += 1
-        self.anew = False
-        for guest in (self.seats.wanted != self.targets).nonzero()[0].tolist():
+        missing, wanted = self.ask_library().missing, self.seats.wanted
+        changed = (wanted != self.decided).nonzero()[0].tolist()
+        self.decisions += bool(self.anew or changed or missing != self.missing)
+        self.missing, self.news, self.anew = missing, False, False
+        for guest in sorted(changed, key=lambda it: self.decided[it] < wanted[it]):
             self.seats.want(guest, self.targets[guest])
 
     def movers(self):
@@ -191,7 +230,6 @@ class Lender:
         granted = self.seats.granted()
         for guest in granted:
             pages = self.seats.take(guest)
-            self.anew = True
             self.moved += pages if self.runs[guest] else 0
             self.runs[guest] = True
             self.end_wait(guest)

@@ -99,7 +99,7 @@ def read_lending(path):
     found = {
         at: Moment(at, pages(line, "budget"), {}) for at, line in rows_of(path, "the host", budgets)
     }
-    for name, table in tables_of(path, series, MEMORY | LENDING).items():
+    for name, table in tables_of(path, series, lambda _: MEMORY | LENDING).items():
         add_guest(found, name, rows_of(path, name, table))
     return [found[it] for it in sorted(found)]
 

@@ -1,5 +1,5 @@
-"""The calls of vb.h and vb_host.h that a replay makes, by ctypes. What they decide is theirs:
-nothing of it is here."""
+"""The calls of vb.h, vb_host.h and vb_policy.h that a replay makes, by ctypes. What they decide is
+theirs: nothing of it is here."""
 
 import ctypes
 import os
@@ -7,13 +7,17 @@ import os
 from bigvasta import __version__
 from bigvasta.statuses import Usage
 
-# Of vb.h: the answers, and the version, whose last number may differ.
-OK, SHORT = 0, 8
+# Of vb.h: that a call was right, and the version, whose last number may differ.
+OK = 0
 VERSION = int.from_bytes(bytes(map(int, __version__.split("."))), "big")
 
 # Of vb_host.h: the lines, and the kinds of events.
 LINE_DEFLATES, LINE_RESETS, LINE_ARRIVALS = 0, 1, 2
 HEARS, WANTS, ARRIVES, TAKES_OVER, BUDGET = 1, 4, 6, 8, 10
+
+# Of vb_policy.h: whether a guest's statistics are at hand, and free memory that they don't tell.
+CONTACT_STARTS, CONTACT_HEARD, CONTACT_AWAY = 0, 2, 3
+UNTOLD = (1 << 32) - 1
 
 HERE = os.path.dirname(os.path.realpath(__file__))
 
@@ -27,6 +31,7 @@ PLACES = (
 )
 
 NUMBER, LONG, COUNT, ROOM = ctypes.c_uint32, ctypes.c_uint64, ctypes.c_size_t, ctypes.c_void_p
+SHORT_NUMBER = ctypes.c_uint16
 
 
 def fields(kind, names):
@@ -70,26 +75,63 @@ class Event(ctypes.Structure):
     ]
 
 
-class Need(ctypes.Structure):
-    """VbNeed."""
+class Figures(ctypes.Structure):
+    """VbFigures."""
 
-    _fields_ = fields(NUMBER, "pages spare")
-
-
-class Targets(ctypes.Structure):
-    """VbTargets."""
-
-    _fields_ = [("code", NUMBER), ("missing", LONG)]
+    _fields_ = [
+        *fields(NUMBER, "pages held ballooned ballooned_then available free lent asked"),
+        *fields(NUMBER, "least most weight priority target"),
+        *fields(SHORT_NUMBER, "contact strict uncounted paused pressed first"),
+    ]
 
 
-SEAT = ctypes.POINTER(Seat)
+class PolicyBudget(ctypes.Structure):
+    """VbPolicyBudget."""
+
+    _fields_ = fields(NUMBER, "frames floor slack reserve band")
+
+
+class PolicyRoom(ctypes.Structure):
+    """VbPolicyRoom."""
+
+    _fields_ = [("numbers", NUMBER * 7), ("flag", ctypes.c_uint8)]
+
+
+class Decision(ctypes.Structure):
+    """VbDecision."""
+
+    _fields_ = [*fields(NUMBER, "code tier"), ("missing", LONG)]
+
+
+class Counter(ctypes.Structure):
+    """VbCounter."""
+
+    _fields_ = fields(LONG, "value present")
+
+
+# What a sample counts, as its fields have it.
+COUNTED = ("swap_in", "swap_out", "oom_kills", "stalls", "direct_scan", "direct_reclaim")
+
+
+class Sample(ctypes.Structure):
+    """VbSample."""
+
+    _fields_ = [*((it, Counter) for it in COUNTED), *fields(NUMBER, "ballooned target")]
+
+
+class Pressure(ctypes.Structure):
+    """VbPressure."""
+
+    _fields_ = [("last", Sample), ("until", LONG)]
+
+
+SEAT, POLICY_BUDGET = ctypes.POINTER(Seat), ctypes.POINTER(PolicyBudget)
 
 # Each call: what it answers, and what it takes.
 CALLS = {
     "vb_version": (NUMBER,),
-    "vb_spare": (NUMBER, NUMBER, NUMBER, NUMBER, NUMBER, NUMBER, NUMBER),
-    "vb_targets": (Targets, ROOM, COUNT, NUMBER, ROOM, COUNT),
-    "vb_needs_targets": (NUMBER, ROOM, COUNT, ROOM, COUNT, NUMBER),
+    "vb_policy_decide": (Decision, POLICY_BUDGET, ROOM, COUNT, ROOM, COUNT, ROOM, COUNT),
+    "vb_policy_press": (Pressure, ctypes.POINTER(Pressure), ctypes.POINTER(Sample), LONG),
     "vb_host_step": (NUMBER, ctypes.POINTER(Host), ROOM, COUNT, ctypes.POINTER(Event)),
     "vb_host_owed": (LONG, ROOM, COUNT),
     "vb_host_room": (NUMBER, ctypes.POINTER(Host), ROOM, COUNT),
@@ -123,3 +165,11 @@ def load(path=None):
     if version >> 8 != VERSION >> 8:
         raise Usage(f"{path} has version {version:#08x}, and {VERSION:#08x} is wanted")
     return library
+
+
+def decide(calls, budget, figures):
+    """Returns the decision on these guests, and the target of each."""
+    count = len(figures)
+    rooms, targets = (PolicyRoom * count)(), (NUMBER * count)()
+    answer = calls.vb_policy_decide(budget, figures, count, rooms, count, targets, count)
+    return answer, targets

@@ -3,7 +3,7 @@ page cache, reboots, and idle ones. The same seed makes the same day."""
 
 import random
 
-from bigvasta.plan.days import Recorded, add_use
+from bigvasta.plan.days import Recorded, Use, add_use
 from bigvasta.sizes import MIB, PAGE
 
 DAY = 86400
@@ -57,32 +57,37 @@ class Made:
         self.set = min(max(self.set, LEAST), MOST)
         self.cache = min(self.cache + self.random.uniform(0, 2 * step), 1 - self.set)
 
-    def available(self):
-        """Returns the bytes that are free, or page cache that can be let go at once."""
-        share = 1 - self.set - DIRTY * self.cache
-        return int(max(share, 0) * self.size) // PAGE * PAGE
+    def bytes_but(self, cached):
+        """Returns the bytes beside its working set and this part of its page cache."""
+        return int(max(1 - self.set - cached * self.cache, 0) * self.size) // PAGE * PAGE
+
+    def left(self):
+        """Returns the bytes that are free, or page cache that can be let go at once; and those
+        that are free."""
+        return self.bytes_but(DIRTY), self.bytes_but(1)
 
     def reboots(self):
         """Returns whether it reboots at this change."""
         return self.random.random() < REBOOTS * self.pace / DAY
 
     def rows(self):
-        """Yields its times, and what is available then."""
+        """Yields its times, and what is available and free then."""
         at = self.start
         while at < self.end:
-            yield at, self.available()
+            yield at, *self.left()
             at = look(at + self.random.expovariate(1 / self.pace) + 1 / LOOKS)
             if self.reboots() and at + REBOOT < self.end:
-                yield at, self.size
+                yield at, self.size, self.size
                 at, self.set, self.cache = look(at + REBOOT), LEAST, 0.0
             self.walk()
-        yield self.end, self.available()
+        yield self.end, *self.left()
 
     def recorded(self):
         """Returns its day, as one reads it of the lines."""
         uses = []
-        for at, available in self.rows():
-            add_use(uses, at, (self.size - available) // PAGE)
+        for at, available, free in self.rows():
+            used, cached = (self.size - available) // PAGE, (available - free) // PAGE
+            add_use(uses, Use(at, used, cached))
         return Recorded(self.name, self.size // PAGE, tuple(uses), self.end)
 
 
@@ -97,11 +102,11 @@ def guests(count, seed, hours):
 def make(count, seed, hours):
     """Yields the lines of a day of this number of guests, as a recording has them."""
     rows = [
-        (at, guest.name, guest.size, available)
+        (at, guest.name, guest.size, *left)
         for _, guest in guests(count, seed, hours)
-        for at, available in guest.rows()
+        for at, *left in guest.rows()
     ]
     rows.sort(key=lambda it: it[0])
-    yield "guest,seconds,size,available"
-    for at, name, size, available in rows:
-        yield f"{name},{at:.1f},{size},{available}"
+    yield "guest,seconds,size,available,free"
+    for at, name, size, available, free in rows:
+        yield f"{name},{at:.1f},{size},{available},{free}"

@@ -7,8 +7,9 @@ from typing import NamedTuple
 
 import pandas
 
-from bigvasta.plan.days import Line, Recording
-from bigvasta.plan.metrics import BUDGET, CELLS, KNOWN
+from bigvasta.plan.days import Line
+from bigvasta.plan.metrics import BUDGET, CELLS, KNOWN, STALLS, TARGET
+from bigvasta.plan.recording import Recording
 from bigvasta.sizes import PAGE
 from bigvasta.statuses import Usage
 
@@ -128,23 +129,30 @@ def demand_steps(path, tables):
             )
 
 
-def tables_of(path, series, cells):
-    """Returns the table of each guest by its name. Guests of several hosts are named with their
-    host's instance."""
+def cells_of(series):
+    """Returns the metrics of which a guest's day is made: its counters, too, where it has some."""
+    stalls = {metric: cell for metric, cell in STALLS.items() if cell in series}
+    return CELLS | stalls | (TARGET if stalls else {})
+
+
+def tables_of(path, series, cells_of):
+    """Returns the table of each guest by its name, with these metrics. Guests of several hosts are
+    named with their host's instance."""
     keys = [it for it in series if it.guest]
     single = len({it.host for it in keys}) == 1
     tables = {}
     for key in keys:
         name = key.guest if single else f"{key.host}/{key.guest}"
-        tables[name] = table_of(path, name, series[key], cells)
+        tables[name] = table_of(path, name, series[key], cells_of(series[key]))
     demand_steps(path, tables)
     return tables
 
 
-def read_matrix(path, text):
+def read_matrix(calls, path, text):
     """Returns what an answer says of the guests."""
-    recording = Recording()
-    for name, table in tables_of(path, series_by_key(path, result_of(path, text)), CELLS).items():
+    recording = Recording(calls)
+    found = series_by_key(path, result_of(path, text))
+    for name, table in tables_of(path, found, cells_of).items():
         for at, cells in zip(table.index, table.to_dict("records")):
             recording.add(
                 Line(f"{path}: {name} at {at:.12g}", {"guest": name, "seconds": str(at), **cells}),

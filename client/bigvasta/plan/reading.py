@@ -3,11 +3,14 @@
 import csv
 import io
 
-from bigvasta.plan.days import Line, Recording
+from bigvasta.plan.days import Line
 from bigvasta.plan.matrix import read_matrix
+from bigvasta.plan.recording import Recording
+from bigvasta.plan.telling import BALLOON, COUNTERS, OTHERS
 from bigvasta.statuses import Usage
 
-COLUMNS = ("guest", "seconds", "size")
+# What each recording has; what is free is asked for before page cache is.
+COLUMNS = ("guest", "seconds", "size", "free")
 
 
 def used_by_used(line, size):
@@ -16,8 +19,10 @@ def used_by_used(line, size):
 
 
 def used_by_available(line, size):
-    """Returns the bytes that a guest uses, where a line says what it could still use."""
-    return size - line.part("available", size)
+    """Returns the bytes that a guest uses, where a line says what it could still use beside its
+    balloon."""
+    ballooned = 0 if line.lacks("ballooned") else line.part("ballooned", size)
+    return max(size - line.part("available", size) - ballooned, 0)
 
 
 # One of these columns is there, too.
@@ -26,7 +31,7 @@ MEASURES = {"used": used_by_used, "available": used_by_available}
 
 def measure_of(place, names):
     """Returns what says how much a guest uses; refuses other columns than there are."""
-    known = (*COLUMNS, *MEASURES)
+    known = (*COLUMNS, *MEASURES, *(it for it in OTHERS if it not in COLUMNS))
     for name in names:
         if name not in known:
             raise Usage(f"{place}: the column {name!r} is none of {', '.join(known)}")
@@ -35,6 +40,12 @@ def measure_of(place, names):
     for name in COLUMNS:
         if name not in names:
             raise Usage(f"{place}: there is no column {name}")
+    for name, other in ((it, needs) for it in COUNTERS for needs in BALLOON if it in names):
+        if other not in names:
+            raise Usage(
+                f"{place}: there is a column {name}, and no column {other}: a balloon that "
+                "inflates has its guest reclaim"
+            )
     measures = [it for it in MEASURES if it in names]
     if len(measures) != 1:
         raise Usage(
@@ -44,9 +55,9 @@ def measure_of(place, names):
     return MEASURES[measures[0]]
 
 
-def read_table(path, text):
+def read_table(calls, path, text):
     """Returns what a table says, by its lines."""
-    recording, rows = Recording(), csv.reader(io.StringIO(text, newline=""), strict=True)
+    recording, rows = Recording(calls), csv.reader(io.StringIO(text, newline=""), strict=True)
     names = [it.strip() for it in next(rows, [])]
     if not names:
         raise Usage(f"{path}: there are no rows")
@@ -59,13 +70,15 @@ def read_table(path, text):
     return recording
 
 
-def read(path):
-    """Returns the recorded day of a file."""
+def read(calls, path):
+    """Returns the recorded day of a file; the library's calls say who is pressed."""
     try:
         with open(path, encoding="utf-8", newline="") as file:
             text = file.read()
         recording = (
-            read_matrix(path, text) if text.lstrip().startswith("{") else read_table(path, text)
+            read_matrix(calls, path, text)
+            if text.lstrip().startswith("{")
+            else read_table(calls, path, text)
         )
     except OSError as fault:
         raise Usage(f"{path}: {fault.strerror or fault}") from None

@@ -75,22 +75,22 @@ def events_of(day):
     events = {}
     for number, guest in enumerate(day.guests):
         first, *others = guest.uses
-        come = (1, number, first.pages)
-        uses = [(it.seconds, (2, number, it.pages)) for it in others if it.seconds < guest.end]
-        for at, event in ((guest.start, come), *uses, (guest.end, (0, number, 0))):
+        come = (1, number, first)
+        uses = [(it.seconds, (2, number, it)) for it in others if it.seconds < guest.end]
+        for at, event in ((guest.start, come), *uses, (guest.end, (0, number, None))):
             events.setdefault(at, []).append(event)
-    return {at: sorted(events[at]) for at in sorted(events)}
+    return {at: sorted(events[at], key=lambda it: it[:2]) for at in sorted(events)}
 
 
 def happen(lender, events):
     """Tells the lender what happens at a moment: who goes first, so that there is room."""
-    for kind, guest, pages in events:
+    for kind, guest, use in events:
         if kind == 0:
             lender.leave(guest)
         elif kind == 1:
-            lender.arrive(guest, pages)
+            lender.arrive(guest, use)
         else:
-            lender.use(guest, pages)
+            lender.use(guest, use)
 
 
 def promised_by(day):
@@ -108,13 +108,9 @@ def promised_by(day):
 def replay(library, day, terms, looks=()):
     """Returns what a day says under these terms. At `looks` nothing happens: a host that looks
     there decides the same."""
-    lender, short, events = (
-        Lender(library, [it.pages for it in day.guests], terms),
-        Shortness(),
-        events_of(day),
-    )
+    lender, short, events = (Lender(library, day.guests, terms), Shortness(), events_of(day))
     lender.now = day.start
-    lender.begin([(guest, pages) for kind, guest, pages in events.get(day.start, ()) if kind == 1])
+    lender.begin([(guest, use) for kind, guest, use in events.get(day.start, ()) if kind == 1])
     for at in sorted({*events, *(it for it in looks if day.start <= it <= day.end)}):
         short.pass_time(at - lender.now)
         lender.now = at

@@ -3,7 +3,6 @@ budgets, of a fleet its promises."""
 
 from typing import NamedTuple
 
-from bigvasta.plan.lender import Terms
 from bigvasta.plan.replay import promised_by, replay
 
 # Without a range: from this part of what is promised on.
@@ -49,10 +48,14 @@ def search(try_all, ends, steps, limit):
     return Plan(tuple(answers), None if found is None else answers[found])
 
 
-def plan(library, day, floor, limit, budgets, steps):
-    """Tries the budgets of a range; without one those that may serve."""
+def plan(library, day, terms, limit, budgets, steps):
+    """Tries the budgets of a range; without one those that may serve. All else is as in these
+    terms."""
     promised = promised_by(day)
     ends = budgets or (max(promised // LEAST_PART, 1), promised)
     return search(
-        lambda frames: [replay(library, day, Terms(it, floor)) for it in frames], ends, steps, limit
+        lambda frames: [replay(library, day, terms._replace(frames=it)) for it in frames],
+        ends,
+        steps,
+        limit,
     )

@@ -74,13 +74,13 @@ def test_worked_out(library):
 # A guest of 100 pages that uses 10, then 80 from 10 on; one that uses 90, then 20 from 20 on
 # (monitor/tests/plan/test_replay.py): on 150 pages one of them waits for 10 s, and asks once more
 # for what its last target lets go.
-TWO = """guest,seconds,size,used
-{0}a,0,409600,40960
-{0}b,0,409600,368640
-{0}a,10,409600,327680
-{0}b,20,409600,81920
-{0}a,30,409600,327680
-{0}b,30,409600,81920
+TWO = """guest,seconds,size,used,free
+{0}a,0,409600,40960,
+{0}b,0,409600,368640,
+{0}a,10,409600,327680,
+{0}b,20,409600,81920,
+{0}a,30,409600,327680,
+{0}b,30,409600,81920,
 """
 
 
@@ -91,7 +91,7 @@ def test_hosts_of_a_fleet_are_replayed_as_hosts_alone(shared, tmp_path):
     path.write_text(
         TWO.format("x-") + "".join(TWO.format(it).partition("\n")[2] for it in ("y-", "z-"))
     )
-    words = ("--library", shared, "--floor", "0", "--json")
+    words = ("--library", shared, "--floor", "0", "--reserve", "0", "--json")
     found = json.loads(
         run(str(path), "--fleet", "4", "--budget", "600K", "--promises", "1.34", *words)
     )
@@ -134,6 +134,8 @@ def test_the_largest_promise_serves(shared, tmp_path):
         "680K",
         "--library",
         shared,
+        "--reserve",
+        "0",
         "--floor",
         "0",
         "--wait-seconds",
@@ -212,10 +214,10 @@ def test_a_fleet_as_the_model(library, shared, seed):
     )
 
 
-def test_guests_that_are_made_are_those_of_the_file(shared, tmp_path):
+def test_guests_that_are_made_are_those_of_the_file(shared, library, tmp_path):
     path = tmp_path / "day.csv"
     path.write_text(run("--make", "20", "--seed", "5", "--hours", "3"))
-    day = reading.read(str(path))
+    day = reading.read(library, str(path))
     assert isinstance(day, Day)
     made = fleet.Made(5, 3.0, tuple(range(1, 21)))
     assert sorted(made.part(made.stays()).guests()) == sorted(day.guests)

@@ -22,13 +22,13 @@ with open(os.path.join(HEADERS, "vb.h"), encoding="utf-8") as file:
 
 # The two guests of test_replay.py, whose pages are 4096 bytes: from 10 to 20 they need 170 pages at
 # once.
-TWO = """guest,seconds,size,used
-a,0,409600,40960
-b,0,409600,368640
-a,10,409600,327680
-b,20,409600,81920
-a,30,409600,327680
-b,30,409600,81920
+TWO = """guest,seconds,size,used,free
+a,0,409600,40960,
+b,0,409600,368640,
+a,10,409600,327680,
+b,20,409600,81920,
+a,30,409600,327680,
+b,30,409600,81920,
 """
 
 
@@ -40,9 +40,13 @@ def day(tmp_path):
     return str(path)
 
 
+# All that a guest doesn't use it can give.
+OPEN = ("--floor", "0", "--reserve", "0")
+
+
 def plan(shared, day, *words):
     """Returns the plan of a day as an object."""
-    return json.loads(run(day, "--library", shared, "--floor", "0", "--json", *words))
+    return json.loads(run(day, "--library", shared, *OPEN, "--json", *words))
 
 
 # A range and its steps, the seconds that a guest may wait in a day, and the smallest budget in
@@ -105,13 +109,13 @@ def test_an_object(shared, day):
             "short_seconds": 10.0,
             "short_by": 81920,
             "moved": 614400,
-            "decisions": 7,
+            "decisions": 4,
         }
     ]
 
 
 def test_a_table(shared, day):
-    lines = run(day, "--library", shared, "--floor", "0", "--budgets", "600K").splitlines()
+    lines = run(day, "--library", shared, *OPEN, "--budgets", "600K").splitlines()
     assert lines[0] == "2 guests, 0.8 MiB promised at once, 0.0 hours of guests"
     assert lines[3].split() == [
         "0.6",
@@ -128,7 +132,7 @@ def test_a_table(shared, day):
     ]
     assert lines[-1] == "none of these budgets keeps the waits to 60 s a guest and day"
     lines = run(
-        day, "--library", shared, "--floor", "0", "--budgets", "680K..800K", "--steps", "1"
+        day, "--library", shared, *OPEN, "--budgets", "680K..800K", "--steps", "1"
     ).splitlines()
     assert (
         lines[-1] == "budget 1M: 0.0 s a guest and day are waited; 1.18 times as much is promised"
@@ -198,6 +202,7 @@ NUMBERS = {
     "make": ((0, 1, 1000000, 1000001), MADE),
     "hours": ((0.009, 0.01, 744, 744.1), MADE),
     "steps": ((0, 1, 1000, 1001), HOSTS),
+    "reserve": ((-1, 0, 100, 101), HOSTS),
     "fleet": ((0, 1, 100000, 100001), HOSTS),
     "places": ((0, 1, 1000, 1001), HOSTS),
     "processes": ((0, 1, 1024, 1025), HOSTS),
@@ -301,6 +306,7 @@ def test_what_is_no_library(tmp_path, day, shared):
 DEFAULTS = {
     "steps": 12,
     "floor": "12M",
+    "reserve": 5,
     "wait_seconds": 60.0,
     "seed": 1,
     "hours": 24.0,

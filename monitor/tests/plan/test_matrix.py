@@ -11,6 +11,7 @@ from bigvasta.statuses import Usage
 METRICS = {
     "size": "bigvasta_guest_memory_bytes",
     "available": "bigvasta_guest_available_bytes",
+    "free": "bigvasta_guest_free_bytes",
     "ballooned": "bigvasta_guest_ballooned_bytes",
 }
 
@@ -34,7 +35,8 @@ def series(guest, cell, *values, **labels):
 
 
 def guest(name, rows, **labels):
-    """Returns the series of a guest, of rows of size, available and ballooned memory."""
+    """Returns the series of a guest, of rows of size, available, free and ballooned
+    memory."""
     return [series(name, cell, *column, **labels) for cell, column in zip(METRICS, zip(*rows))]
 
 
@@ -45,31 +47,44 @@ def answer(result, **other):
     )
 
 
-# Four pages, of which 1 is available and 1 ballooned; then 2 and 1; then more than there is, as the
-# two were looked at apart: a page is used.
-ROWS = ((16384, 4096, 4096), (16384, 8192, 4096), (16384, 12288, 8192))
+# Four pages, of which 1 is available and 1 ballooned; then 2, one of them free, and 1; then more
+# than there is, as the two were looked at apart: a page is used. One is page cache.
+ROWS = ((16384, 4096, 0, 4096), (16384, 8192, 4096, 4096), (16384, 12288, 0, 8192))
 LATER = [
     series("b", "size", [115, "8192"], [130.0, "8192"]),
     series("b", "available", [115, "4095"], [130, "4095"]),
+    series("b", "free", [115, "0"], [130, "0"]),
     series("b", "ballooned", [115, "0"], [130, "0"]),
 ]
 
 
-def test_what_is_read(tmp_path):
+def test_what_is_read(tmp_path, library):
     path = tmp_path / "day.json"
     path.write_text("\n " + answer(guest("a", ROWS) + LATER))
-    assert read(str(path)).guests == (
-        Recorded("a", 4, (Use(100.0, 2), Use(115.0, 1)), 130.0),
-        Recorded("b", 2, (Use(115.0, 2),), 130.0),
+    assert read(library, str(path)).guests == (
+        Recorded("a", 4, (Use(100.0, 2, 1), Use(115.0, 1, 1)), 130.0),
+        Recorded("b", 2, (Use(115.0, 2, 0),), 130.0),
     )
 
 
-def test_guests_of_several_hosts(tmp_path):
+def test_a_guest_whose_allocations_stall_is_pressed(tmp_path, library):
+    path = tmp_path / "day.json"
+    stalls = series("a", "bigvasta_guest_alloc_stalls_total", 7, 8, 8)
+    target = series("a", "bigvasta_guest_target_bytes", 4096, 4096, 4096)
+    path.write_text(answer(guest("a", ROWS[:1] * 3) + [stalls, target]))
+    assert read(library, str(path)).guests[0].uses == (
+        Use(100.0, 2, 1),
+        Use(115.0, 2, 1, True),
+        Use(120.0, 2, 1),
+    )
+
+
+def test_guests_of_several_hosts(tmp_path, library):
     path = tmp_path / "day.json"
     path.write_text(
         answer(guest("a", ROWS, instance="one:9750") + guest("a", ROWS, instance="two:9750"))
     )
-    assert [it.name for it in read(str(path)).guests] == ["one:9750/a", "two:9750/a"]
+    assert [it.name for it in read(library, str(path)).guests] == ["one:9750/a", "two:9750/a"]
 
 
 GOOD = guest("a", ROWS)
@@ -107,10 +122,14 @@ REFUSED = (
     (answer([3]), ": series 1 has no labels, or no values"),
     (answer([{"metric": {}, "values": []}]), ": series 1 has no labels, or no values"),
     (
-        answer([*GOOD, series("a", "bigvasta_guest_free_bytes", 1)]),
-        ": series 4: the metric 'bigvasta_guest_free_bytes' is none of "
-        "bigvasta_guest_memory_bytes, bigvasta_guest_available_bytes, "
-        "bigvasta_guest_ballooned_bytes, bigvasta_guest_loan_bytes, "
+        answer([*GOOD, series("a", "bigvasta_guest_spare_bytes", 1)]),
+        ": series 5: the metric 'bigvasta_guest_spare_bytes' is none of "
+        "bigvasta_guest_memory_bytes, bigvasta_guest_available_bytes, bigvasta_guest_free_bytes, "
+        "bigvasta_guest_ballooned_bytes, bigvasta_guest_target_bytes, "
+        "bigvasta_guest_swap_in_bytes_total, bigvasta_guest_swap_out_bytes_total, "
+        "bigvasta_guest_oom_kills_total, bigvasta_guest_alloc_stalls_total, "
+        "bigvasta_guest_direct_scans_bytes_total, bigvasta_guest_direct_reclaims_bytes_total, "
+        "bigvasta_guest_loan_bytes, "
         "bigvasta_guest_asked_bytes, bigvasta_guest_granted_bytes_total, "
         "bigvasta_guest_waiting_seconds, bigvasta_budget_bytes",
     ),
@@ -136,7 +155,12 @@ REFUSED = (
         ": bigvasta_guest_available_bytes of a: 100 isn't after 100, the time before",
     ),
     (answer(GOOD + GOOD[:1]), ": a has size twice"),
-    (answer(GOOD[:2]), ": a has no series bigvasta_guest_ballooned_bytes"),
+    (answer(GOOD[:3]), ": a has no series bigvasta_guest_ballooned_bytes"),
+    (answer(GOOD[:2] + GOOD[3:]), ": a has no series bigvasta_guest_free_bytes"),
+    (
+        answer([*GOOD, series("a", "bigvasta_guest_oom_kills_total", 1, 1, 1)]),
+        ": a has no series bigvasta_guest_target_bytes",
+    ),
     (answer(replaced("available", [100, "1"], [130, "1"])), ": a at 115: available has a hole"),
     (
         answer(
@@ -188,9 +212,9 @@ REFUSED = (
 
 
 @pytest.mark.parametrize(("text", "words"), REFUSED)
-def test_refusals(tmp_path, text, words):
+def test_refusals(tmp_path, library, text, words):
     path = tmp_path / "day.json"
     path.write_text(text)
     with pytest.raises(Usage) as refused:
-        read(str(path))
+        read(library, str(path))
     assert str(refused.value) == f"{path}{words}"

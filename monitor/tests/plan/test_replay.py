@@ -20,21 +20,24 @@ def day_of(**guests):
     )
 
 
-# Of 200 pages 50 are missing. At the start a can spare 90 and b 10, so a gives 50. At 10 a has 20
-# to spare: all that both can spare is 30, 20 too few. b gives 10; a asks for the 30 that it lacks,
-# and 50 + 90 + 30 are more than 150. At 20 b can spare 80, and gives up to 50: a gets its 30, and
-# then at once the 20 that its last target lets go. On 170 pages a gives 30, and at 10 its target is
-# 20: b gives 10, which a gets at once.
+# Of 200 pages 50 are missing. At the start a can spare 90 and b 10, so a gives 50: 40 stay to it,
+# and b keeps its 10. At 10 a has 20 to spare: all that both can spare is 30, 20 too few. b gives
+# 10; a asks for the 30 that it lacks, and 50 + 90 + 30 are more than 150. At 20 b can spare 80, and
+# gives up to 50: a gets its 30, and then at once the 20 that its last target lets go. On 170 pages
+# a gives 30, and at 10 its target is 20: b gives 10, which a gets at once. At 20 a has given all
+# that it can spare: it gets that back, and b gives 30.
 TWO = day_of(a=((0, 10), (10, 80), 30), b=((0, 90), (20, 20), 30))
 
-# Of 300 pages 100 are missing: a gives 60, b 40. At 10 a is reset, and asks for 60; b can spare 50,
-# and c 20: 30 too few. b gives 10 and c 20: 40 + 50 + 80 are lent. At 20 b can spare 30, and asks
-# for 20, for which there is room: it gets them before a. Now 50 are too few. At 30 c can spare 80,
-# and gives 60: a gets its 60. After the grant targets are decided anew: a can spare most, and gives
-# its 100; b takes its 30, and c its 80, for which there is room.
+# Of 300 pages 100 are missing: a gives 50, b 40, c 10, so that 10 more stay to each than it uses. At
+# 10 a is reset, and asks for 50; b can spare 50, and c 20: 30 too few. Both give 10: 50 + 50 + 80
+# are lent. At 20 b can spare 30, and asks for 20, for which there is room: it gets them before a.
+# Now 50 are too few. At 30 c can spare 80, and its part is 75, as b's is 25: it gives 55, and a
+# gets its 50. Then a can spare 100. Of what it can spare b has 5 left, and c 5 of 80, less than a
+# third of its part, which is 40: a gives 60, b gets its 30, and c 35.
 RESET = day_of(a=((0, 40), (10, 0), 40), b=((0, 50), (20, 70), 40), c=((0, 80), (30, 20), 40))
 
-# b comes at 10 and asks for its 100; a can spare 20. At 30 a can spare 60, and gives up to 50.
+# b comes at 10 and asks for its 100; a can spare 20. At 30 a can spare 60, and gives up to 50. Then
+# b can spare 50, and a has 10 left of its part, 30: b gives 20, and a gets them.
 NEWCOMER = day_of(a=((0, 80), (30, 40), 50), b=((10, 50), 50))
 
 # The same, but that a goes on as it was: b never starts.
@@ -51,10 +54,34 @@ LEAVING = day_of(a=((0, 10), (10, 95), 30), b=((0, 60), 20))
 # a gives all 50; b goes, and then nothing is missing: a gets them back.
 ALONE = day_of(a=((0, 10), 30), b=((0, 100), 20))
 
-# With a floor of 16 a can spare 64 and b 24: a gives 50. At 10 and 20 a can spare 50 and 48 above
-# its floor, and 52 and 50 above 14 (the floor but an eighth of it): its target stays. At 30 it can
-# spare 49 above 14, and so 47: b gives the 3 that are missing, and a gets them at once.
-SLACK = day_of(a=((0, 20), (10, 34), (20, 36), (30, 37), 40), b=((0, 60), 40))
+# With a floor of 16 a can spare 64 and b 24: a gives 45 and b 5, so that 19 stay to each. At 10 and
+# 20 a can spare 50 and 47, of which its part is 12 and 10: what its target leaves, with 2 (an
+# eighth of the floor), is 7 and 4, no less than 35 percent of that. At 30 it can spare 46, and has 3
+# of 10: it gives its part, 36, and b 14.
+SLACK = day_of(a=((0, 20), (10, 34), (20, 37), (30, 38), 40), b=((0, 60), 40))
+
+# a and b use 40 each, and a has 50 as page cache: b gives the 50 that are missing. At 10 b can spare
+# 20: a gives the 10 that are free, and 20 of its page cache.
+CACHED = Day(
+    (
+        Recorded("a", 100, (Use(0.0, 40, 50),), 20.0),
+        Recorded("b", 100, (Use(0.0, 40, 0), Use(10.0, 80, 0)), 20.0),
+    ),
+    0.0,
+    20.0,
+)
+
+# a and b can spare 60 each, and give 25. At 10 a is pressed: it gives no more than it has given, and
+# gets its part of that, 17 of 25; b gives 17. Then a gives no more than 8, and gets all of them. At
+# 15 each gives 25.
+PRESSED = Day(
+    (
+        Recorded("a", 100, (Use(0.0, 40), Use(10.0, 40, None, True), Use(15.0, 40)), 20.0),
+        Recorded("b", 100, (Use(0.0, 40),), 20.0),
+    ),
+    0.0,
+    20.0,
+)
 
 # Of 300 pages on 130 a gives 90 and c 80: 10, 100 and 20 are lent. At 10 c goes, which leaves room
 # for 20 of the 70 that a lacks: those it takes at once, and asks for 50, which b can't spare.
@@ -70,7 +97,17 @@ FULL = day_of(a=((0, 50), (10, 0), 20))
 # how much, pages moved.
 WORKED_OUT = {
     "two guests": (TWO, Terms(150), (10.0, 0.0), 10.0, 60.0, 1, 10.0, 20, 150),
-    "two guests on all that they need at once": (TWO, Terms(170), (0.0,), 0.0, 60.0, 0, 0.0, 0, 50),
+    "two guests on all that they need at once": (
+        TWO,
+        Terms(170),
+        (0.0, 0.0),
+        0.0,
+        60.0,
+        0,
+        0.0,
+        0,
+        90,
+    ),
     "a deflate comes before a reset": (
         RESET,
         Terms(200),
@@ -80,9 +117,9 @@ WORKED_OUT = {
         1,
         20.0,
         50,
-        480,
+        370,
     ),
-    "a newcomer waits": (NEWCOMER, Terms(150), (20.0,), 20.0, 90.0, 1, 20.0, 30, 50),
+    "a newcomer waits": (NEWCOMER, Terms(150), (20.0, 0.0), 20.0, 90.0, 1, 20.0, 30, 90),
     "a deflate comes before a newcomer": (
         OVERTAKEN,
         Terms(150),
@@ -107,7 +144,9 @@ WORKED_OUT = {
         0,
         100,
     ),
-    "a floor that lacks a little": (SLACK, Terms(150, 16), (0.0,), 0.0, 80.0, 0, 0.0, 0, 56),
+    "a floor that lacks a little": (SLACK, Terms(150, 16), (0.0,), 0.0, 80.0, 0, 0.0, 0, 68),
+    "page cache after what is free": (CACHED, Terms(150), (0.0,), 0.0, 40.0, 0, 0.0, 0, 110),
+    "a guest that is pressed": (PRESSED, Terms(150), (0.0, 0.0, 0.0), 0.0, 40.0, 0, 0.0, 0, 150),
     "what there is room for comes first": (
         IN_PARTS,
         Terms(130),
