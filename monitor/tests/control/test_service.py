@@ -32,6 +32,10 @@ os.execv(sys.argv[2], sys.argv[2:])
 """
 
 
+# Seconds between two words to a service manager without a watchdog that wants more.
+STATUS_EVERY = 5
+
+
 class Manager:
     """A service manager for one service."""
 
@@ -126,13 +130,26 @@ def test_what_a_manager_is_told(program, folder, manager):
     ), words
     assert 0.6 < time.monotonic() - begin < 2
     (folder / "host.conf").write_text(f"[host]\nfolder = {folder}\nbudget = 400M\n")
+    begin = time.monotonic()
     host.process.send_signal(signal.SIGHUP)
     told = manager.until("RELOADING")
-    assert 0 < int(told["MONOTONIC_USEC"]) <= time.monotonic() * 1e6
+    assert int(begin * 1e6) <= int(told["MONOTONIC_USEC"]) <= time.monotonic() * 1e6
     assert manager.until("READY") == {"READY": "1"}
     assert host.status()["budget"] == 400 << 20
     host.process.send_signal(signal.SIGTERM)
     assert manager.until("STOPPING") == {"STOPPING": "1"}
+    assert host.end() == 0
+
+
+@pytest.mark.parametrize("watchdog", (0, 4 * STATUS_EVERY))
+def test_a_manager_is_told_what_there_is_once_in_a_while(program, folder, manager, watchdog):
+    """Also where it has no watchdog, or one that waits longer."""
+    words = (str(folder), "--budget", "480M")
+    host = manager.start(program, folder, *words, watchdog=int(watchdog * 1e6))
+    manager.until("READY")
+    begin = time.monotonic()
+    assert manager.until("STATUS")["STATUS"] == "0 guests, 0 of 480 MiB held, 0 wait"
+    assert time.monotonic() - begin > STATUS_EVERY / 2
     assert host.end() == 0
 
 

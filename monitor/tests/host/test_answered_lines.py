@@ -174,6 +174,14 @@ def test_a_line_waits_for_a_report_no_longer_than_for_a_while(played):
         assert time.monotonic() - begin >= NEW_REPORTS
 
 
+@pytest.mark.parametrize("length", (4096, 100000, 1 << 20))
+def test_a_line_of_any_length_is_one(played, length):
+    """It is refused once, and the next one is obeyed."""
+    lender = played[0]
+    assert lender.ask("budget " + "9" * length) == f"error: {OF_ALL}"
+    assert lender.ask("budget 1") == "ok"
+
+
 def test_a_line_names_its_guest_whole(played):
     """Also where the one before had a longer name."""
     lender = played[0]

@@ -16,7 +16,7 @@ from host_checks import files_of
 from played import WAIT_ROOM, Message
 from tenants import FREE, eventually, go_on, has_ended, process_of, status_of, stop
 from test_awaits import GIVEN, begin
-from test_strict import Later
+from test_strict import STRICT, Later
 from vhost_client import ADD_MEM_REG, INFLATE, Client
 from waiting import PATIENCE
 
@@ -75,6 +75,28 @@ def test_a_lender_allows_itself_files_for_all_guests_and_clients(plain, tmp_path
     assert host.returncode == 0 and most >= 4 * 64 + 2 * 256
 
 
+def children_of(process):
+    """Returns the processes that one has begun and that aren't waited for yet."""
+    with open(f"/proc/{process}/task/{process}/children", encoding="ascii") as children:
+        return [int(it) for it in children.read().split()]
+
+
+@pytest.mark.parametrize("how", ("leaves", "is killed", "is refused"))
+def test_a_process_that_has_ended_is_waited_for(lend, come, how):
+    lender = lend(1, *STRICT)
+    assert children_of(lender.process.pid) == []
+    if how == "is refused":
+        lender.demand("add a memory=1M"), lender.demand("terms a memory=4K")
+        with contextlib.suppress(AssertionError, OSError, TypeError):
+            Client(f"{lender.folder}/a").start()
+    else:
+        guest = come(lender, "a", {FREE: 100})
+        (keeper,) = children_of(lender.process.pid)
+        guest.leave() if how == "leaves" else os.kill(keeper, signal.SIGKILL)
+    eventually(lambda: not children_of(lender.process.pid), "a process isn't waited for")
+    lender.become("a", here=0)
+
+
 # Files that a lender opens as a client comes, before it closes any: the ends of a channel, a socket
 # for a later lender, and three that it hands on.
 FILES_OF_COMING = 6
@@ -91,6 +113,7 @@ def test_of_a_client_that_finds_too_few_files_left_none_stays_open(lend):
         client = client or Client(path, lambda: "")
         eventually(lambda: "a can't come: " in "".join(lender.said()[said:]), f"{left} are left")
         eventually(lambda: files_of(process) == had, f"files stay open where {left} are left")
+        assert children_of(process) == []
     resource.prlimit(process, resource.RLIMIT_NOFILE, limits)
     client.start()
     lender.become("a", here=1, ready=1)

@@ -118,3 +118,10 @@ def test_a_channel_that_nobody_reads(start_by_events):
     with open(client.backend.log, encoding="latin-1") as log:
         assert list(log) == ["the client can't be told of a change\n"] * 100
     os.truncate(client.backend.log, 0)
+
+
+def test_a_driver_that_is_off_its_target_is_reminded(start):
+    """Though nothing happens meanwhile."""
+    client = start()
+    assert client.backend.ask("target 5") == "ok"
+    assert [client.told() for _ in range(3)] == 3 * [None]

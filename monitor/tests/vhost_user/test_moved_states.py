@@ -136,6 +136,23 @@ def test_states_at_their_bounds(ready, serve):
             assert of_memory or "aren't memory" in other.why()
 
 
+# Words of the set of the largest memory that has one, 64 GiB (docs/LINUX.md, "Migration").
+MOST_WORDS = (64 << 30) // PAGE // WORD
+
+
+@pytest.mark.parametrize("more", (0, 1))
+def test_the_longest_state(ready, serve, more):
+    client = ready()
+    stopped(client)
+    words = MOST_WORDS + more
+    whole = saved(client)[:HEAD] + bytes(words * 8 + SUM)
+    whole = edited(whole, 12, struct.pack("<I", len(whole)))
+    whole = edited(whole, 24, struct.pack("<I", words))
+    other = serve()
+    other.begin(PROTOCOL)
+    assert load(other, with_end(whole, words * WORD, 1 << WORD - 1)) == (not more)
+
+
 def test_each_byte_that_is_changed(ready, serve):
     client = ready()
     with_pages(client, [FIRST], 1)
