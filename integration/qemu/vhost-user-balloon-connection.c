@@ -57,7 +57,7 @@ static bool balloon_restore_backend(VHostUserBalloon *b, Error **errp)
                    "features of the driver");
         return false;
     }
-    if (!vub_balloon_write_target(b)) {
+    if (!b->has_lender && !vub_balloon_write_target(b)) {
         error_setg(errp, "vhost-user-balloon: the backend that connects "
                    "doesn't take a target");
         return false;

@@ -27,11 +27,16 @@
 #define AREA_VERSION_AT 20
 #define AREA_BALLOONED_AT 28
 #define AREA_REPORTS_AT 32
+#define AREA_MODES_AT 40
 #define AREA_FIGURE_COUNT_AT 44
 #define AREA_FIGURES_AT 48
 #define AREA_FIGURE_SIZE 10
 #define AREA_MOST_FIGURES 16
-#define AREA_SIZE (AREA_FIGURES_AT + AREA_MOST_FIGURES * AREA_FIGURE_SIZE)
+#define AREA_GIVEN_AT (AREA_FIGURES_AT + AREA_MOST_FIGURES * AREA_FIGURE_SIZE)
+#define AREA_PAGES_AT (AREA_GIVEN_AT + 4)
+#define AREA_SIZE (AREA_PAGES_AT + 4)
+
+#define AREA_HAS_LENDER 2
 
 enum {
     AREA_ASK_STATISTICS = 1,
@@ -95,6 +100,28 @@ bool vub_balloon_write_target(VHostUserBalloon *b)
     return area_write(b, &pages, 0, sizeof(pages));
 }
 
+bool vub_balloon_read_given(VHostUserBalloon *b, Error **errp)
+{
+    uint8_t area[AREA_SIZE];
+
+    if (!area_read(b, area, sizeof(area), errp)) {
+        return false;
+    }
+    b->given = ldl_le_p(area + AREA_GIVEN_AT);
+    b->pages = ldl_le_p(area + AREA_PAGES_AT);
+    return true;
+}
+
+bool vub_balloon_ask_for_room(VHostUserBalloon *b)
+{
+    uint8_t bytes[8];
+
+    stl_le_p(bytes, b->given);
+    stl_le_p(bytes + 4, b->pages);
+    return b->pages == 0 ||
+           area_write(b, bytes, AREA_GIVEN_AT, sizeof(bytes));
+}
+
 bool vub_balloon_check_backend(VHostUserBalloon *b, Error **errp)
 {
     uint8_t area[AREA_SIZE];
@@ -110,6 +137,7 @@ bool vub_balloon_check_backend(VHostUserBalloon *b, Error **errp)
         return false;
     }
     memcpy(b->config, area, sizeof(b->config));
+    b->has_lender = ldl_le_p(area + AREA_MODES_AT) & AREA_HAS_LENDER;
     if (b->keep_pages && !area_command(b, AREA_KEEP_PAGES)) {
         error_setg(errp, "vhost-user-balloon: RAM discard is disabled, and the "
                    "backend doesn't keep pages");
@@ -139,6 +167,10 @@ static void balloon_to_target(void *opaque, ram_addr_t target)
     VHostUserBalloon *b = opaque;
     ram_addr_t size = guest_ram_size();
 
+    if (b->has_lender) {
+        error_report("vhost-user-balloon: a lender alone sets the target");
+        return;
+    }
     b->target = (size - MIN(target, size)) >> VIRTIO_BALLOON_PFN_SHIFT;
     if (!vub_balloon_write_target(b)) {
         error_report("vhost-user-balloon: the backend doesn't take a target");

@@ -88,6 +88,44 @@ static const VMStateDescription vmstate_balloon_holes = {
     },
 };
 
+static int balloon_pre_save_comes(void *opaque)
+{
+    Error *err = NULL;
+
+    if (!vub_balloon_read_given(opaque, &err)) {
+        error_report_err(err);
+        return -EIO;
+    }
+    return 0;
+}
+
+static int balloon_post_load_comes(void *opaque, int version_id)
+{
+    if (!vub_balloon_ask_for_room(opaque)) {
+        error_report("vhost-user-balloon: the host has no room for the guest");
+        return -ENOMEM;
+    }
+    return 0;
+}
+
+/*
+ * How much memory comes at most, before any of it does. What is given up stays
+ * so until the guest has arrived: its deflates wait.
+ */
+const VMStateDescription vub_balloon_vmstate_comes = {
+    .name = "vhost-user-balloon/comes",
+    .version_id = 1,
+    .minimum_version_id = 1,
+    .early_setup = true,
+    .pre_save = balloon_pre_save_comes,
+    .post_load = balloon_post_load_comes,
+    .fields = (const VMStateField[]) {
+        VMSTATE_UINT32(given, VHostUserBalloon),
+        VMSTATE_UINT32(pages, VHostUserBalloon),
+        VMSTATE_END_OF_LIST()
+    },
+};
+
 /* What the device itself keeps is part of the virtio device's state */
 const VMStateDescription vub_balloon_vmstate_virtio = {
     .name = "vhost-user-balloon/device",

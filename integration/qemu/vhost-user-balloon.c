@@ -146,6 +146,7 @@ static void balloon_realize(DeviceState *dev, Error **errp)
         balloon_unrealize_base(dev);
         return;
     }
+    vmstate_register_any(VMSTATE_IF(b), &vub_balloon_vmstate_comes, b);
     b->precopy_notifier.notify = vub_balloon_precopy_notify;
     precopy_add_notifier(&b->precopy_notifier);
     vub_balloon_listen(b);
@@ -156,6 +157,7 @@ static void balloon_unrealize(DeviceState *dev)
     VHostUserBalloon *b = VHOST_USER_BALLOON(dev);
 
     precopy_remove_notifier(&b->precopy_notifier);
+    vmstate_unregister(VMSTATE_IF(b), &vub_balloon_vmstate_comes, b);
     timer_del(b->stats_timer);
     qemu_remove_balloon_handler(b);
     migrate_del_blocker(&b->migration_blocker);

@@ -41,6 +41,11 @@ struct VHostUserBalloon {
     uint32_t target;
     bool keep_pages;
     bool was_started;
+    bool has_lender;            /* which alone sets the target */
+
+    /* Of the guest's pages, those that stay given up while it migrates */
+    uint32_t given;
+    uint32_t pages;
     uint8_t config[VHOST_USER_BALLOON_CONFIG_SIZE];
 };
 
@@ -66,6 +71,11 @@ bool vub_balloon_check_backend(VHostUserBalloon *b, Error **errp);
 /* Writes the device's target */
 bool vub_balloon_write_target(VHostUserBalloon *b);
 
+/* Reads what stays given up while the guest migrates; and asks for room for
+ * the rest of a guest that comes, before any of its memory is there */
+bool vub_balloon_read_given(VHostUserBalloon *b, Error **errp);
+bool vub_balloon_ask_for_room(VHostUserBalloon *b);
+
 /* The guest's bytes without those pages */
 ram_addr_t vub_balloon_guest_size(uint32_t ballooned);
 
@@ -87,5 +97,8 @@ int vub_balloon_precopy_notify(NotifierWithReturn *n, void *data,
 /* vhost-user-balloon-vmstate.c: of the device, and of the virtio device */
 extern const VMStateDescription vub_balloon_vmstate;
 extern const VMStateDescription vub_balloon_vmstate_virtio;
+
+/* What goes before all memory */
+extern const VMStateDescription vub_balloon_vmstate_comes;
 
 #endif /* QEMU_VHOST_USER_BALLOON_H */

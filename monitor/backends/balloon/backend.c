@@ -2,6 +2,7 @@
 
 #include "audit.h"
 #include "codes.h"
+#include "vhost_user.h"
 
 #include <stdarg.h>
 #include <stdio.h>
@@ -199,11 +200,18 @@ bool backend_give(struct backend *backend)
     return backend_finish(backend, VB_DEFLATE, &result) && backend_serve(backend, number);
 }
 
+bool backend_postpones(const struct backend *backend, uint32_t kind)
+{
+    return kind == VB_DEFLATE && backend->options->holds && backend->told.features & LOG_ALL;
+}
+
 bool backend_serve(struct backend *backend, unsigned number)
 {
     const struct event *fault = &backend->rings[number].fault;
-    audit_before(backend, number);
     uint32_t kind = vb_kind(&backend->balloon.state.device, number);
+    if (backend_postpones(backend, kind))
+        return true;
+    audit_before(backend, number);
     struct balloon_result result = balloon_notify(&backend->balloon, kind);
     audit_after(backend, number);
     backend->pending &= ~(1u << number);

@@ -64,6 +64,7 @@ struct backend {
     struct transfer transfer; /* of the device itself */
     struct moved moved;       /* what has come by it */
     struct moved_room *room;  /* for both */
+    uint32_t comes_with; /* as many pages given up its guest comes from another host, at least */
     /* Tells the driver of a used buffer on a queue, or of a change of the configuration (queue
       * -1). */
     bool (*tell)(struct backend *backend, int queue);
@@ -72,6 +73,9 @@ struct backend {
     /* Whether the host has room for the memory that was handed over, else says why not; or NULL: it
      * always has. */
     bool (*admit)(struct backend *backend);
+    /* A guest comes from another host: whether this one has room for so many pages of memory, but
+     * for those that are given up; or NULL: it always has. */
+    bool (*comes)(struct backend *backend, uint32_t pages, uint32_t given);
     /* A deflate of `pages` pages is held: backend_give grants it. */
     void (*held)(struct backend *backend, uint32_t pages);
     /* The balloon is to be empty for a new driver: whether that may be, else the client can't be
@@ -135,6 +139,10 @@ bool backend_give(struct backend *backend);
 
 /* Asks the guest for new statistics: `asked` where it could be; as backend_finish. */
 bool backend_ask(struct backend *backend, bool *asked);
+
+/* Whether a queue of this kind isn't served: a guest takes no pages while it migrates, where the host
+ * that it goes to has to lend them. */
+bool backend_postpones(const struct backend *backend, uint32_t kind);
 
 /* Serves the queue of this number. */
 bool backend_serve(struct backend *backend, unsigned number);

@@ -102,6 +102,17 @@ static bool is_within(const struct moved *moved, const uint8_t *set)
     return true;
 }
 
+/* How many pages a set has. */
+static uint64_t count_set(const uint8_t *set, uint32_t words)
+{
+    uint64_t pages = 0, word;
+    for (uint32_t i = 0; i < words; i++) {
+        memcpy(&word, set + i * sizeof word, sizeof word);
+        pages += (uint64_t)__builtin_popcountll(word);
+    }
+    return pages;
+}
+
 bool moved_load(struct backend *backend, const uint8_t *bytes, size_t length)
 {
     struct moved moved = {0};
@@ -118,6 +129,8 @@ bool moved_load(struct backend *backend, const uint8_t *bytes, size_t length)
         if (!is_within(&moved, bytes + MOVED_HEAD))
             fault = "has pages in the balloon that aren't memory";
     }
+    if (!fault && count_set(bytes + MOVED_HEAD, moved.words) < backend->comes_with)
+        fault = "has fewer pages in its balloon than it was to come with";
     if (fault) {
         remark(backend, "the device that is to be loaded %s", fault);
         return false;
@@ -172,5 +185,6 @@ bool moved_begin(struct backend *backend)
                       (unsigned long long)device->settings.memory_end);
     configuration_write(device, ACTUAL_AT, moved->actual);
     take_set(backend);
+    backend->comes_with = 0;
     return true;
 }

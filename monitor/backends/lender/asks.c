@@ -35,6 +35,12 @@ uint32_t ask_without(const struct seat *seat, uint32_t pages)
     return can ? pages - smaller(pages, most) : 0;
 }
 
+uint32_t ask_comes_without(const struct seat *seat, uint32_t pages)
+{
+    uint32_t given = comes(seat) ? smaller(seat->report.ballooned, pages) : 0;
+    return given > 0 ? given : ask_without(seat, pages);
+}
+
 uint32_t ask_of_reset(const struct seat *seat)
 {
     uint32_t ballooned = seat->report.ballooned;
@@ -95,7 +101,7 @@ static uint32_t held_pages(const struct seat *seat, enum guest_wait what)
     const VbSeat *its = place_of(seat);
     const uint32_t pages[] = {
         [WAITS_FOR_NOTHING] = 0,
-        [WAITS_FOR_ROOM] = its->pages - ask_without(seat, its->pages),
+        [WAITS_FOR_ROOM] = its->pages - ask_comes_without(seat, its->pages),
         [WAITS_FOR_DEFLATE] = message->held_pages,
         [WAITS_FOR_RESET] = ask_of_reset(seat),
     };

@@ -178,7 +178,7 @@ static void hear(struct seat *seat, uint32_t returned)
 /* A guest that isn't let in yet. */
 static void hear_newcomer(struct seat *seat)
 {
-    uint32_t wanted = room_wanted(seat), without = ask_without(seat, wanted);
+    uint32_t wanted = room_wanted(seat), without = ask_comes_without(seat, wanted);
     if (place_of(seat)->pages != wanted || place_of(seat)->wanted != without)
         places_step(seat->host, (VbHostEvent){.kind = VB_ARRIVES,
                                               .guest = seat->place,

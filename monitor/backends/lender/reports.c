@@ -48,9 +48,10 @@ static const char *report_fault(const struct seat *seat, const struct lending_me
 static uint64_t missing_room(const struct seat *seat)
 {
     struct host *host = seat->host;
-    uint32_t wanted = seat->report.wanted, asked = wanted - ask_without(seat, wanted);
-    if (!seat->holds)
-        return policy_lacks(host, seat, wanted);
+    uint32_t wanted = seat->report.wanted, asked = wanted - ask_comes_without(seat, wanted);
+    bool comes_from_another = seat_pages(seat) == 0 && seat->report.ballooned > 0;
+    if (!seat->holds || comes_from_another)
+        return policy_lacks(host, seat, asked);
     return asked > host->budget ? asked - host->budget : 0;
 }
 

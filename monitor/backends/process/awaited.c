@@ -16,7 +16,20 @@ enum lending_hold lent_hold(const struct lent *lent)
 {
     if (!lent->backend.options->holds)
         return HOLDS_NOTHING;
+    if (lent->reserved > 0 && lent->notes.pages == 0)
+        return HOLDS_DEFLATES;
     return lent->awaited > 0 ? HAS_STARTED_SMALL : MAY_START_SMALL;
+}
+
+bool awaited_comes(struct backend *backend, uint32_t pages, uint32_t given)
+{
+    struct lent *lent = (struct lent *)backend;
+    lent->reserved = pages;
+    lent->awaited = given;
+    if (pages == 0 || !lent_await(lent, WAIT_ROOM, pages))
+        return false;
+    lent->notes.pages = pages;
+    return true;
 }
 
 bool awaited_begin(struct lent *lent, uint32_t pages)

@@ -68,8 +68,9 @@ void kept_save(struct lent *lent)
     state->outside = lent->outside;
     state->messages = lent->messages;
     state->bytes = lent->bytes;
-    kept_file(lent->kept)->moves[other] = (struct kept_move){lent->notes.serial, backend->log.place,
-                                                             backend->transfer, backend->moved};
+    kept_file(lent->kept)->moves[other] =
+        (struct kept_move){lent->notes.serial, backend->log.place,  backend->transfer,
+                           backend->moved,     backend->comes_with, lent->reserved};
     __atomic_store_n(&lent->kept->counts, other, __ATOMIC_RELEASE);
     __atomic_store_n(&backend->room->amid, false, __ATOMIC_RELEASE);
     files_let_go();
@@ -147,6 +148,8 @@ bool kept_restore(struct lent *lent)
         return false;
     transfer_regain(backend, &move.transfer);
     backend->moved = move.moved;
+    backend->comes_with = move.comes_with;
+    lent->reserved = move.reserved;
     balloon_set_target(&backend->balloon, state->target_pages);
     configuration_write(device, ACTUAL_AT, state->actual_pages);
     configuration_write(device, POISON_AT, state->poison_value);

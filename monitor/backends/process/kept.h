@@ -87,6 +87,7 @@ struct kept_move {
     struct log_place log;
     struct transfer transfer;
     struct moved moved;
+    uint32_t comes_with, reserved; /* as the backend's and the process's */
 };
 
 /* All that is in the memfd: what 0.3.0 has there, and after that what it doesn't know of. */

@@ -19,6 +19,10 @@ static bool admit(struct backend *backend)
     uint64_t end = backend->balloon.state.device.settings.memory_end / BALLOON_PAGE;
     uint64_t pages = memory_pages(&backend->memory);
     uint32_t before = lent->notes.pages, ballooned = lent_ballooned(lent);
+    if (pages < lent->reserved) /* the rest of it still comes */
+        pages = lent->reserved;
+    else
+        lent->reserved = 0;
     if (end > MOST_SET || pages > UINT32_MAX)
         return refuse("its memory ends above %llu GiB",
                       (unsigned long long)MOST_SET * BALLOON_PAGE >> 30);
@@ -173,6 +177,7 @@ static void set_hooks(struct lent *lent)
     struct backend *backend = &lent->backend;
     backend->tell = client_tell;
     backend->admit = admit;
+    backend->comes = awaited_comes;
     backend->held = backend->options->holds ? lent_holds : NULL;
     backend->empties = backend->options->holds ? empties : NULL;
     backend->answer = answer;

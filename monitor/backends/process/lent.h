@@ -23,12 +23,14 @@ struct lent {
     bool regains;   /* the deflate that the process before held is still to be found */
     /* the deflate that is held names no page: it is given back without a grant */
     bool asks_nothing;
-    uint32_t awaited; /* that count in its balloon at least, as its guest has started without them,
+    uint32_t awaited;  /* that count in its balloon at least, as its guest has started without them,
                          and its driver hasn't put as many there yet */
-    uint32_t returns; /* as many fewer of them are wanted: a deflate of these is held */
-    uint32_t outside; /* pages that may have frames though their slot was removed, as another slot
+    uint32_t reserved; /* pages that have room, for a guest that comes from another host, until its
+                          memory has come; 0: it has, or came itself */
+    uint32_t returns;  /* as many fewer of them are wanted: a deflate of these is held */
+    uint32_t outside;  /* pages that may have frames though their slot was removed, as another slot
                          has their file */
-    uint32_t wanted;  /* pages for which it waits, and for what */
+    uint32_t wanted;   /* pages for which it waits, and for what */
     enum lending_wait waits;
     int answered; /* 1: they may be had; -1: they may not; 0: it waits */
 };
@@ -49,6 +51,10 @@ int lent_run(const struct options *options, struct kept *kept);
 /* The pages that count in its balloon; and what of it waits for grants. */
 uint32_t lent_ballooned(const struct lent *lent);
 enum lending_hold lent_hold(const struct lent *lent);
+
+/* A guest comes from another host, with so many pages given up, for which its process waits for
+ * room. */
+bool awaited_comes(struct backend *backend, uint32_t pages, uint32_t given);
 
 /* It starts, or restarts, while these count in its balloon; whether it does: added memory has
  * them in it already. */

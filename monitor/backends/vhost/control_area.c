@@ -20,7 +20,9 @@ enum {
     FIGURE_COUNT_AT = 44,
     FIGURES_AT = 48,
     FIGURE_BYTES = 10,
-    AREA_END = FIGURES_AT + MOST_TAGS * FIGURE_BYTES
+    GIVEN_AT = FIGURES_AT + MOST_TAGS * FIGURE_BYTES,
+    PAGES_AT = GIVEN_AT + 4,
+    AREA_END = PAGES_AT + 4
 };
 
 /* Modes: KEEPS_PAGES is the client's to choose; HAS_LENDER: a lender alone sets the target, and has
@@ -67,6 +69,8 @@ static void put_area(const struct backend *backend, uint8_t area[AREA_END])
             (backend->balloon.keeps_pages ? KEEPS_PAGES : 0) |
                 (backend->options->is_lent ? HAS_LENDER : 0));
     put_figures(backend, area);
+    put_u32(area, GIVEN_AT, backend->options->holds ? backend_given(backend) : 0);
+    put_u32(area, PAGES_AT, (uint32_t)memory_pages(&backend->memory));
 }
 
 enum outcome get_config(struct backend *backend, struct message *message)
@@ -118,6 +122,20 @@ static enum outcome obey(struct backend *backend, uint32_t version, uint32_t com
     return FAILED;
 }
 
+/* The client's guest comes from another host, with so many pages given up of so many. A client that
+ * has handed memory over has its guest already. */
+static enum outcome take_comer(struct backend *backend, uint32_t given, uint32_t pages)
+{
+    if (backend->memory.count > 0 || !backend->comes)
+        return DONE;
+    if (given > pages)
+        return refuse("a guest that comes with %" PRIu32 " pages given up, of %" PRIu32, given,
+                      pages),
+               STOP;
+    backend->comes_with = given;
+    return backend->comes(backend, pages, given) ? DONE : STOP;
+}
+
 /* What the client writes in its own name. */
 static enum outcome take_own(struct backend *backend, uint32_t offset, const uint8_t *bytes,
                              uint32_t size)
@@ -125,14 +143,15 @@ static enum outcome take_own(struct backend *backend, uint32_t offset, const uin
     uint32_t words[2];
     bool is_target = offset == 0 && size == sizeof words[0];
     bool is_command = offset == VERSION_AT && size == COMMAND_BYTES;
-    if (!is_target && !is_command) {
+    bool is_comer = offset == GIVEN_AT && size == AREA_END - GIVEN_AT;
+    if (!is_target && !is_command && !is_comer) {
         remark(backend, "no control area: a write of %" PRIu32 " bytes at %" PRIu32, size, offset);
         return FAILED;
     }
     if (is_target)
         return backend->options->is_lent ? refuse_control(backend) : take_target(backend, bytes);
     memcpy(words, bytes, sizeof words);
-    return obey(backend, words[0], words[1]);
+    return is_comer ? take_comer(backend, words[0], words[1]) : obey(backend, words[0], words[1]);
 }
 
 enum outcome set_config(struct backend *backend, struct message *message)

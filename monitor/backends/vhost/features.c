@@ -16,6 +16,17 @@ enum outcome get_features(struct backend *backend, struct message *message)
                       device_of(backend)->settings.offered | HAS_PROTOCOL_FEATURES | LOG_ALL);
 }
 
+/* What the queues write is logged, or no longer: what was postponed meanwhile is served then. */
+static bool set_logging(struct backend *backend, uint64_t features)
+{
+    bool ends = backend->told.features & ~features & LOG_ALL;
+    backend->told.features = features;
+    for (unsigned number = 0; ends && number < QUEUES; number++)
+        if (ring_runs(backend, number) && !backend_serve(backend, number))
+            return false;
+    return true;
+}
+
 /* The features represent all that comes before them. A client may send them twice before its queues
  * run: the last ones count. While queues run it may have what they write logged, or no longer. */
 enum outcome set_features(struct backend *backend, struct message *message)
@@ -24,7 +35,7 @@ enum outcome set_features(struct backend *backend, struct message *message)
     if (rings_run(backend) && (features ^ backend->told.features) & ~LOG_ALL)
         return refuse("the features 0x%" PRIx64 " while queues run", features), STOP;
     if (rings_run(backend))
-        return backend->told.features = features, DONE;
+        return set_logging(backend, features) ? DONE : STOP;
     uint32_t answer = rings_negotiate(backend, features);
     if (answer == 0)
         return DONE;

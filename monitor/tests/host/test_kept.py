@@ -37,7 +37,7 @@ from vhost_client import (
 
 from vhost_logs import LOG_BYTES, LOG_OFFSET, log_base, log_file, set_logging
 from vhost_moves import HEAD as HEAD_OF_MOVED
-from vhost_moves import PROTOCOL, SAVE, SUM, WELL, ask, load, saved, stopped
+from vhost_moves import PROTOCOL, SAVE, SUM, WELL, ask, comes, load, saved, stopped
 
 # The lender asks nobody by itself.
 QUIET = (
@@ -344,6 +344,13 @@ def a_device_is_loaded(life):
     assert load(life.client, saved(life.client))
     last = ((1 << 24) - 1) // 64
     return 1, 1, 1 << 36, 1, 1 << 18, last * [0] + [1 << 63]
+
+
+@step("moves.comes_with moves.reserved")
+def one_comes_from_another_host(life):
+    life.client.begin(PROTOCOL)
+    assert comes(life.client, 88, 128) == bytes(8)
+    return 88, 128
 
 
 @step("remarks")

@@ -73,7 +73,7 @@ class Side:
         self.folder, self.vmm, self.memory_mib = folder, vmm, shape.memory
         self.socket = os.path.join(folder, "socket")
         self.program, self.options = program, options
-        self.backend = Backend(program, folder, [self.socket, *options])
+        self.backend = self.begin()
         words = vmm.words(folder, shape, self.socket)
         words += ["-incoming", "defer", "-S"] if incoming else []
         self.guest = Guest(words, vmm.environment(), (), folder, shape.memory)
@@ -87,6 +87,10 @@ class Side:
         except BaseException:
             self.close()
             raise
+
+    def begin(self):
+        """Starts the backend."""
+        return Backend(self.program, self.folder, [self.socket, *self.options])
 
     def connected(self):
         """Returns a client of QEMU's control socket, once there is one."""
@@ -104,7 +108,7 @@ class Side:
 
     def start(self):
         """Starts another backend in its place, and waits until the driver's queues run there."""
-        self.backend = Backend(self.program, self.folder, [self.socket, *self.options])
+        self.backend = self.begin()
         eventually(lambda: self.counter("status") == DRIVER_OK, self.backend.why)
 
     def plug(self, path):
@@ -209,6 +213,8 @@ class Side:
 class Pair:
     """A guest on one side, and the other side, which it may migrate to."""
 
+    of = Side
+
     def __init__(self, vmm, program, folder, shape, options=()):
         self.vmm, self.program, self.folder, self.shape = vmm, program, str(folder), shape
         self.options, self.number, self.sides, self.most_held = options, 0, [], 0
@@ -223,7 +229,7 @@ class Pair:
         """Starts one more side."""
         folder = os.path.join(self.folder, f"side{self.number}")
         self.number += 1
-        side = Side(self.vmm, self.program, folder, self.shape, self.options, incoming)
+        side = self.of(self.vmm, self.program, folder, self.shape, self.options, incoming)
         self.sides.append(side)
         return side
 

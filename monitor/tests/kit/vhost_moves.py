@@ -21,6 +21,9 @@ PROTOCOL = QEMU_PROTOCOL | MIGRATION
 # Bytes of a device before its set; of its sum (docs/LINUX.md, "Migration").
 HEAD, SUM = 32 + STATE_BYTES, 8
 
+# Where what is given up of a guest is in the control area; who writes it.
+COMES_AT, OF_CLIENT = 208, 1
+
 # No file comes back; and it isn't so.
 WELL, BADLY = struct.pack("<Q", 0x100), struct.pack("<Q", 0x101)
 FINE, WRONG = bytes(8), struct.pack("<Q", 1)
@@ -32,6 +35,13 @@ def sum_of(data):
     for it in data:
         number = (number ^ it) * 0x100000001B3 & (1 << 64) - 1
     return struct.pack("<Q", number)
+
+
+def comes(client, given, pages):
+    """Says that a client's guest comes from another host, with so many pages given up of so many;
+    returns the answer."""
+    words = (COMES_AT, 8, OF_CLIENT, given, pages)
+    return client.send(SET_CONFIG, struct.pack("<IIIII", *words))
 
 
 def ask(client, file, direction, phase=0):

@@ -5,7 +5,11 @@ import pytest
 from linux_migrated import DEBIAN, Migrating, Pair
 from linux_vmms import Shape
 
-PROGRAMS = ("checked/vhost_user_balloon", "wrong-backend/vhost_user_balloon")
+PROGRAMS = (
+    "checked/vhost_user_balloon",
+    "wrong-backend/vhost_user_balloon",
+    "plain/vhost_user_host",
+)
 
 pytest.register_assert_rewrite("migrate_demands")
 

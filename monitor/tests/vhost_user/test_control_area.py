@@ -6,6 +6,7 @@ import struct
 import pytest
 from vhost_client import GET_CONFIG, INFLATE, QEMU_PROTOCOL, SET_CONFIG
 from vhost_demands import FIRST, demand_served, post_statistics
+from vhost_moves import PROTOCOL, comes
 from waiting import eventually
 
 OF_DRIVER, OF_CLIENT = 0, 1
@@ -42,7 +43,8 @@ def test_what_the_area_says(start_by_events):
     assert struct.unpack_from("<IIII", said) == (5, 1, 0, 0)
     assert struct.unpack_from("<4sIIIQII", said, 16) == (b"VBCA", VERSION, 5, 1, 1, 0, 2)
     assert struct.unpack_from("<HQHQ", said, 48) == (4, 11, 5, 12)
-    assert said[68:] == bytes(256 - 68)
+    # No page is given up for good of 128.
+    assert said[68:] == bytes(208 - 68) + struct.pack("<II", 0, 128) + bytes(256 - 216)
 
 
 # Of how many figures the area has room, and where the first one is.
@@ -67,11 +69,11 @@ def test_figures_of_the_last_report_alone(start_by_events):
         shown = [(tag, it) for tag, it in enumerate(values[:MOST_FIGURES], 4)]
         rest = [(0, 0)] * (MOST_FIGURES - len(shown))
         assert figures(client) == (len(shown), shown + rest)
-        assert area(client)[208:] == bytes(256 - 208)
+        assert area(client)[216:] == bytes(256 - 216)
         command(client, ASK_STATISTICS)
 
 
-@pytest.mark.parametrize("size", (4, 16, 17, 20, 47, 58, 255))
+@pytest.mark.parametrize("size", (4, 16, 17, 20, 47, 58, 208, 213, 255))
 def test_a_part_of_the_area(start_by_events, size):
     client = start_by_events()
     assert area(client, size) == area(client)[:size]
@@ -80,7 +82,7 @@ def test_a_part_of_the_area(start_by_events, size):
 def test_a_read_that_begins_elsewhere(start_by_events):
     client = start_by_events()
     whole = area(client)
-    for at in (12, 16, 20, 200, 255):
+    for at in (12, 16, 20, 200, 204, 212, 255):
         answer = client.send(GET_CONFIG, struct.pack("<III", at, 8, 0) + bytes(8))
         assert answer[12:] == (whole + bytes(8))[at : at + 8]
     for at in (256, 2**32 - 8):
@@ -139,6 +141,16 @@ def test_what_is_no_command(serve, at, data):
     assert write(client, at, data) == FAILED
     assert "control area" in client.why()
     assert area(client) == before
+
+
+def test_a_guest_that_comes_has_room_without_a_lender(serve_well):
+    """Whatever its client says of it."""
+    client = serve_well()
+    client.begin(PROTOCOL)
+    assert comes(client, 5, 4) == bytes(8)
+    client.start_by_events(protocol=PROTOCOL)
+    assert comes(client, 2, 128) == bytes(8)
+    demand_served(client, INFLATE, [FIRST])
 
 
 def test_a_driver_writes_no_target(start_by_events):

@@ -21,6 +21,17 @@ from vhost_client import (
     STATISTICS,
 )
 from vhost_demands import FIRST, demand_refused, demand_served, post_statistics, word
+from vhost_logs import (
+    LOG_BYTES,
+    LOG_OFFSET,
+    LOGGED,
+    address_body,
+    log_base,
+    log_file,
+    logged,
+    page_of_used,
+    set_logging,
+)
 from waiting import eventually
 
 # Flags of seals (linux/fcntl.h).
