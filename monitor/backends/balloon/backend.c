@@ -2,7 +2,6 @@
 
 #include "audit.h"
 #include "codes.h"
-#include "vhost_user.h"
 
 #include <stdarg.h>
 #include <stdio.h>

@@ -89,6 +89,13 @@ class Seat:
         self.lender.become(self.name, lent=pages, limit=pages + self.beside(), waits="nothing")
         assert self.its.pages() == pages + self.beside()
 
+    def gives(self, count):
+        """Gives its first pages, for which it is asked, and its driver has read that: they are lent
+        to it no longer."""
+        self.lender.demand(f"{self.name} target {count}")
+        assert self.guest.ask(f"give 0 {count}") == "done"
+        self.follows(ALL - count)
+
     def kills(self):
         """Returns how many processes the kernel has killed in its cgroup."""
         with open(f"{self.its.path}/memory.events", encoding="ascii") as its:
@@ -122,8 +129,7 @@ def test_a_limit_follows_pages_that_come_and_go(seats):
     """What was granted may be written at once: the limit allows it already."""
     lender, a, b = seats
     for count in (GIVEN, GIVEN - 1, GIVEN // 2 + 1, 1, GIVEN):
-        assert a.guest.ask(f"give 0 {count}") == "done"
-        a.follows(ALL - count)
+        a.gives(count)
         assert a.its.held() <= a.its.pages()
         assert [a.guest.ask(f"{it} 0 {count}") for it in ("take", "write", "check")] == [
             "done",
@@ -152,8 +158,7 @@ def test_a_target_alone_lowers_no_limit(seats):
 def test_nothing_is_granted_before_the_limit_is_raised(seats):
     """Its writer is held up: the guest has nothing until that goes on, and nobody else waits."""
     lender, a, b = seats
-    assert a.guest.ask(f"give 0 {GIVEN}") == "done"
-    a.follows(ALL - GIVEN)
+    a.gives(GIVEN)
     writer = writer_of(lender, "a")
     stop(writer)
     a.guest.begin("take 0 256")
@@ -174,8 +179,7 @@ def test_who_takes_pages_unasked_hits_its_own_limit(seats):
     limit stays for who comes next."""
     lender, a, b = seats
     for it in (a, b):
-        assert it.guest.ask(f"give 0 {GIVEN}") == "done"
-        it.follows(ALL - GIVEN)
+        it.gives(GIVEN)
     most = a.its.pages()
     a.guest.begin(f"write 0 {GIVEN}")
     assert a.guest.process.wait(PATIENCE) == -9
@@ -206,8 +210,7 @@ def test_a_limit_that_is_not_there_is_named_and_found_again(seats):
     """The cgroup above takes the limits away, and gives them back: the guest waits meanwhile, and
     nobody else does."""
     lender, a, b = seats
-    assert a.guest.ask(f"give 0 {GIVEN}") == "done"
-    a.follows(ALL - GIVEN)
+    a.gives(GIVEN)
     a.its.has_limits_below(a.its.above, "-")
     a.guest.begin("take 0 256")
     eventually(lambda: lender.guests()["a"]["limit_failures"] >= 2)
