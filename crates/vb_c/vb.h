@@ -222,5 +222,4 @@ VbLarge vb_large_pages(const VbDevice *device, const VbRegion *region, uint64_t 
 #ifdef __cplusplus
 }
 #endif
-#include "vb_lending.h" /* for a host of several guests: targets */
 #endif

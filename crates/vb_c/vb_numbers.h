@@ -16,7 +16,7 @@ enum {                          /* answers: `code` */
     VB_MISPLACED = 6,           /* the queue has no place */
     VB_BAD_ARGUMENT = 7,        /* an argument out of range (settings, regions, a page), or too
                                    little room */
-    VB_SHORT = 8,               /* the guests can't spare enough (`vb_targets`) */
+    VB_SHORT = 8,               /* the guests can't spare enough (`vb_policy_decide`) */
     VB_BAD_LENGTH = 9,          /* of a saved state: more or fewer bytes than it has (`vb_save`:
                                    less room) */
     VB_NOT_A_STATE = 10,        /* the bytes don't begin as a saved state does */

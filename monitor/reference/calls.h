@@ -4,7 +4,6 @@
 #define REFERENCE_CALLS_H
 #include "vb.h"
 #include "vb_host.h"
-#include "vb_lending.h"
 #include "vb_policy.h"
 
 #define REFERENCE(call) extern __typeof__(vb_##call) reference_##call

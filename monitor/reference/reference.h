@@ -6,7 +6,6 @@
 
 #include "ring_layout.h"
 #include "vb.h"
-#include "vb_lending.h"
 #include <stdbool.h>
 #include <string.h>
 
@@ -89,7 +88,7 @@ uint32_t tell_figures(VbDevice *device, const uint8_t *bytes, size_t length, VbS
                       uint32_t *count);
 Used use(VbDevice *device, uint32_t kind, VbQueue *queue, uint32_t head);
 
-/* targets.c: sums of any number of pages, and which guest gives before another */
+/* sums of any number of pages */
 typedef unsigned __int128 Sum;
 
 static inline Sum less(Sum one, Sum other)
@@ -106,10 +105,6 @@ static inline Sum beyond(Sum one, Sum other)
 {
     return one > other ? one - other : 0;
 }
-
-Sum missing_pages(const VbNeed *needs, size_t count, uint32_t frames);
-bool gives_before(const VbNeed *needs, size_t guest, size_t other);
-Sum spared_before(const VbNeed *needs, size_t count, size_t guest);
 
 /* regions.c: regions of guest memory */
 enum { REGION_PAGE = 4096 };

@@ -18,8 +18,7 @@ FLAGS = "$(pkg-config --cflags vb)"
 LINKED = "$(pkg-config --cflags --libs vb)"
 EXAMPLE = "/usr/share/doc/libvb-dev/examples/example.c"
 HEADER = (
-    "printf '#include <balloon.h>\\n#include <vb_host.h>\\n#include <vb_lending.h>\\n"
-    "#include <vb_policy.h>\\n"
+    "printf '#include <balloon.h>\\n#include <vb_host.h>\\n#include <vb_policy.h>\\n"
     "int main(void) { return 0; }\\n'"
 )
 

@@ -1,8 +1,7 @@
--- Worked facts of what guests are given at a level, and of targets that are set in a caller's list.
-use Rattle.std.proofs.Common.{◌≡◌, ℕ, ◌-◌, ◌^◌, List, [], ◌∷◌, Result, Ok, Err, refl, arith}
-use Rattle.vb_virtio.specs.Targets.{Need, AreTargets}
-use Rattle.vb_balance.{specs.Levels.AreGiven, specs.Sharing.SharesInto}
-use Rattle.vb_balance.specs.declared.need.NoTargets.{NoTargets, TheVariants.{OtherLength, Short}}
+-- Worked facts of what guests are given at a level.
+use Rattle.std.proofs.Common.{ℕ, List, [], ◌∷◌, refl, arith}
+use Rattle.vb_virtio.specs.Targets.{Need}
+use Rattle.vb_balance.specs.Levels.{AreGiven}
 
 -- ---- what is given at level 30: one guest is above it, two are at it, and one is below
 
@@ -67,42 +66,3 @@ not_so left = (
   λ are. omega (arith, are.shared),
   λ are. omega (arith, are.shared),
 )
-
--- ---- targets that are set in a caller's list: two guests that can spare 40 and 30
-
-abbrev two : List Need
-two = record { pages = 64; spare = 40 } ∷ record { pages = 64; spare = 30 } ∷ []
-
--- a list of another length, whatever is missing; then a page that none can spare, or more than are
--- counted, and the list stays; and with a frame more it has targets
-set : (new : List ℕ) (result : Result (Unit {0}) NoTargets)
-    → (SharesInto two 58 (7 ∷ []) new result → (result ≡ Err OtherLength) × (new ≡ 7 ∷ []))
-    × (SharesInto two 57 (7 ∷ 7 ∷ 7 ∷ []) new result
-    → (result ≡ Err OtherLength) × (new ≡ 7 ∷ 7 ∷ 7 ∷ []))
-    × (SharesInto two 57 (7 ∷ 8 ∷ []) new result
-    → (result ≡ Err (Short (record { missing = 1 }))) × (new ≡ 7 ∷ 8 ∷ []))
-    × (SharesInto (record { pages = 2 ^ 64; spare = 0 } ∷ []) 0 (7 ∷ []) new result
-    → (result ≡ Err (Short (record { missing = 2 ^ 64 - 1 }))) × (new ≡ 7 ∷ []))
-    × (SharesInto two 58 (7 ∷ 8 ∷ []) new result → (result ≡ Ok tt) × AreTargets two 58 new)
-set new result = (
-  λ into. into.other_length (λ e. omega (arith, e)),
-  λ into. into.other_length (λ e. omega (arith, e)),
-  λ into. into.short refl (omega arith),
-  λ into. into.short refl (omega arith),
-  λ into. into.shared refl refl,
-)
-
--- and each of them can be
-kept : SharesInto two 57 (7 ∷ []) (7 ∷ []) (Err OtherLength)
-kept = record {
-  other_length = λ other. (refl, refl);
-  short = λ e. absurd (omega (arith, e));
-  shared = λ e. absurd (omega (arith, e));
-}
-
-short : SharesInto two 57 (7 ∷ 8 ∷ []) (7 ∷ 8 ∷ []) (Err (Short (record { missing = 1 })))
-short = record {
-  other_length = λ other. absurd (other refl);
-  short = λ e some. (refl, refl);
-  shared = λ e enough. absurd (omega (arith, enough));
-}

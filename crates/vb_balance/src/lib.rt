@@ -2,12 +2,8 @@
 #![tactic(auto)]
 
 mod levels;
-mod memory;
 mod need;
-mod serving;
 mod sharing;
 
-pub use memory::{GuestMemory, spare};
-pub use need::{GuestNeed, NoTargets, Short, Targets};
-pub use serving::needs_targets;
-pub use sharing::{targets, targets_are_unique, targets_into};
+pub use need::{GuestNeed, Short, Targets};
+pub use sharing::{targets, targets_are_unique};

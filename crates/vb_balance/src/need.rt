@@ -11,7 +11,6 @@ use vb_virtio::limits::MAX_GUESTS;
 pub(crate) const GUESTS: usize = MAX_GUESTS as usize;
 
 /// What a guest has, and what it can spare, in pages.
-#[repr(C)]
 #[derive(Clone, Copy, Debug, Default, PartialEq, Eq)]
 pub struct GuestNeed {
     /// Its pages.
@@ -66,15 +65,6 @@ impl Targets {
 pub struct Short {
     /// How many pages stay missing if all give what they can; at most `u64::MAX` is told.
     pub missing: u64,
-}
-
-/// Why no targets were set.
-#[derive(Clone, Copy, Debug, PartialEq, Eq)]
-pub enum NoTargets {
-    /// There isn't just one place for each guest.
-    OtherLength,
-    /// The guests cannot spare enough.
-    Short(Short),
 }
 
 impl Short {

@@ -4,11 +4,10 @@ ghost use Rattle.std.specs.Prelude.{◌≡◌, ℕ, ◌*◌, ◌<◌, ◌≤◌,
 ghost use Rattle.std.specs.Prelude.{MatchOption, MatchResult};
 ghost use Rattle.vb_virtio.specs.Targets.{Need, AreTargets, missing, shortage};
 ghost use Rattle.vb_balance.specs.Levels.{spared_from, AreGiven};
-ghost use Rattle.vb_balance.specs.Sharing.{SharesInto};
 
 use crate::levels::{level_for, missing, spared, spared_above};
 use crate::need::GUESTS;
-use crate::{GuestNeed, NoTargets, Short, Targets};
+use crate::{GuestNeed, Short, Targets};
 use arrayvec::ArrayVec;
 use vb_virtio::limits::MAX_GUESTS;
 
@@ -73,25 +72,6 @@ fn share(needs: &[GuestNeed], frames: u32, targets: &mut [u32]) -> Option<u128>
     }
     set_targets(needs, lack, targets);
     None
-}
-
-/// Puts a target for each of the guests with these needs into `targets`, so that this many frames
-/// suffice: the pages that are missing are given by the guests of most spare first, and of these by
-/// the lowest place first, by each at most its spare. However many guests there are, it looks at
-/// each need at most 37 times, and takes no memory.
-///
-/// `OtherLength` where `targets` hasn't one place for each need, else `Short` where all spare pages
-/// together are too few; then no target is changed.
-pub fn targets_into(needs: &[GuestNeed], frames: u32, targets: &mut [u32]) -> Result<(), NoTargets>
-    ensures { SharesInto needs.now frames targets.old targets.new result }
-{
-    if targets.len() != needs.len() {
-        return Err(NoTargets::OtherLength);
-    }
-    match share(needs, frames, targets) {
-        None => Ok(()),
-        Some(short) => Err(NoTargets::Short(Short::by(short))),
-    }
 }
 
 /// Targets for the guests with these needs, in rising guest number, so that this many frames

@@ -3,13 +3,12 @@ use Rattle.std.proofs.Common.{◌≡◌, refl, ℕ, [], ◌∷◌, map, Some, No
 use Rattle.vb_status.specs.declared.bits.StatusFault.{StatusFault}
 use Rattle.vb_status.specs.declared.bits.StatusFault.TheVariants.{ClearsBit, OutOfOrder, FeatureNotOffered}
 use Rattle.vb_status.specs.declared.bits.StatusFault.TheVariants.{MustTellHostMissing, VersionMissing}
-use Rattle.vb_balance.specs.declared.need.NoTargets.TheVariants.{OtherLength, Short}
 use Rattle.vb_core.specs.declared.kinds.Kind.TheVariants.{Inflate, Deflate, Statistics, Report, Hint}
 use Rattle.vb_core.specs.declared.device.Denial.TheVariants.{NoQueue, Misplaced}
 use Rattle.vb_core.specs.declared.saved.StateDenial.TheVariants.{BadLength as WrongLength, NotAState, OtherVersion, BadSum, Impossible}
 use Rattle.vb_monitor.specs.declared.placing.RestoreDenial.TheVariants.{State, Elsewhere}
 use Rattle.vb_c.specs.Codes.{kind_of_code, code_of_kind, code_in, number_in}
-use Rattle.vb_c.specs.{Marks.marked_of, Sharing.targets_of}
+use Rattle.vb_c.specs.Marks.{marked_of}
 use Rattle.vb_c.specs.{Saving.code_of_state, Places.code_of_restore}
 
 -- an answer that has nothing but a denial
@@ -53,15 +52,6 @@ restored_from_none = refl
 
 restored_elsewhere : code_of_restore (Err Elsewhere) ≡ 6
 restored_elsewhere = refl
-
-targets_found : targets_of (Ok tt) ≡ record { code = 0; missing = 0 }
-targets_found = refl
-
-other_length : targets_of (Err OtherLength) ≡ record { code = 7; missing = 0 }
-other_length = refl
-
-too_few : targets_of (Err (Short (record { missing = 9 }))) ≡ record { code = 8; missing = 9 }
-too_few = refl
 
 -- ---- answers
 

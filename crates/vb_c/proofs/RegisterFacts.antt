@@ -1,11 +1,8 @@
 -- What the calls for features, the configuration space, reports and targets answer in C, worked out: each refusal, and what it leaves.
-use Rattle.std.proofs.Common.{◌≡◌, refl, ap, ◌∙◌, arith, ℕ, List, [], ◌∷◌, Err}
-use Rattle.vb_balance.specs.declared.need.NoTargets.TheVariants.{OtherLength, Short}
+use Rattle.std.proofs.Common.{refl, ap, arith, ℕ, List, [], ◌∷◌}
 use Rattle.vb_core.specs.declared.device.Device.{Device}
 use Rattle.vb_core.specs.Devices.{new_device}
 use Rattle.vb_c.specs.Registers.{Negotiates, WritesConfig}
-use Rattle.vb_c.specs.Sharing.{SharesFor, targets_of}
-use Rattle.vb_c.specs.declared.sharing.VbTargets.{VbTargets}
 use Rattle.vb_c.proofs.Samples.{Same, settings, begun, ready}
 
 abbrev target_of : Device → ℕ
@@ -96,32 +93,3 @@ whole_refused d h = let e : Same 7 0 = (h.written refl).0 in omega arith
 num_pages_of_the_whole : WritesConfig 0 whole ready (record ready { actual = 261; target = 0x9090909 }) 0 → ⊥
 unfolding lib.Count.ones
 num_pages_of_the_whole h = let e : Same 0x9090909 0 = ap target_of (h.written refl).1 in omega arith
-
--- ---- targets
-
-other_length : SharesFor [] 5 (1 ∷ []) (1 ∷ []) (record { code = 7; missing = 0 })
-other_length = (
-  Err OtherLength,
-  record {
-    other_length = λ ne. (refl, refl);
-    short = λ e. let x : Same 1 0 = e in absurd (omega arith);
-    shared = λ e. let x : Same 1 0 = e in absurd (omega arith);
-  },
-  refl,
-)
-
-abbrev first_of : List ℕ → ℕ
-first_of [] = 0
-first_of (n ∷ ns) = n
-
-changed_although_refused : (result : VbTargets) → SharesFor [] 5 (1 ∷ []) (2 ∷ []) result → ⊥
-changed_although_refused result (answer, by, is) =
-    let e : Same 2 1 = ap first_of (by.other_length (λ e. let x : Same 1 0 = e in omega arith)).1 in omega arith
-
-shared_although_refused : (new : List ℕ) → SharesFor [] 5 (1 ∷ []) new (record { code = 0; missing = 0 }) → ⊥
-shared_although_refused new (answer, by, is) =
-    let e : Same 0 7 = ap (λ (t : VbTargets). t.code) (is ∙ ap targets_of (by.other_length (λ e. let x : Same 1 0 = e in omega arith)).0) in
-    omega arith
-
-missing_told : targets_of (Err (Short (record { missing = 9 }))) ≡ record { code = 8; missing = 9 }
-missing_told = refl

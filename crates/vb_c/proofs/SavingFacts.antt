@@ -1,10 +1,8 @@
 -- What saving, restoring and targets answer in C, worked out.
-use Rattle.std.proofs.Common.{◌≡◌, ◌∙◌, refl, ap, sym, arith, Result, Ok, Err, inl, inr, ℕ, List, [], ◌∷◌, length, Some}
-use Rattle.vb_virtio.specs.Targets.{Need}
-use Rattle.vb_balance.specs.Serving.{StillServe}
+use Rattle.std.proofs.Common.{◌≡◌, ◌∙◌, refl, ap, sym, arith, Result, Ok, Err, ℕ, List, [], ◌∷◌, length, Some}
 use Rattle.vb_core.{specs.declared.device.Device.Device, specs.declared.saved.Saved.Saved}
 use Rattle.vb_core.{specs.declared.saved.StateDenial.{StateDenial, TheVariants.{BadLength, BadSum, Impossible}}, specs.Saved.{restored, save_denial}}
-use Rattle.vb_c.{specs.Saving.{Saves, Restores}, specs.Sharing.TellsServing}
+use Rattle.vb_c.specs.Saving.{Saves, Restores}
 use Rattle.vb_c.proofs.Samples.{Same, begun}
 use Rattle.vb_c.proofs.Samples.{a_buffer}
 use Rattle.vb_core.specs.{Held.nothing_held, declared.held.Held.Held}
@@ -82,18 +80,3 @@ pages_stay : (bytes : List ℕ) (d : Device) →
     Restores bytes begun d (a_buffer 4) (record (a_buffer 4) { deflate = 2 }) 0 → ⊥
 pages_stay bytes d e h =
     let same : Same 0 9 = ap (λ (x : Held). x.pages) (h.restored_so _ e).2 in omega arith
-
--- an answer of targets is 0 or 1, and only one of both
-no_other_answer : (needs : List Need) (frames : ℕ) (targets : List ℕ) → TellsServing needs frames targets 2 → ⊥
-no_other_answer needs frames targets (inl h) = let e : Same 2 1 = h.0 in omega arith
-no_other_answer needs frames targets (inr h) = let e : Same 2 0 = h.0 in omega arith
-
-still_serve : (needs : List Need) (frames : ℕ) (targets : List ℕ) → TellsServing needs frames targets 0 →
-    StillServe needs frames targets
-still_serve needs frames targets (inl h) = let e : Same 0 1 = h.0 in absurd (omega arith)
-still_serve needs frames targets (inr h) = h.1
-
-serve_no_longer : (needs : List Need) (frames : ℕ) (targets : List ℕ) → TellsServing needs frames targets 1 →
-    ¬ StillServe needs frames targets
-serve_no_longer needs frames targets (inl h) = h.1
-serve_no_longer needs frames targets (inr h) = let e : Same 1 0 = h.0 in absurd (omega arith)

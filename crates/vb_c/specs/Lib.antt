@@ -2,7 +2,6 @@ pub mod Codes
 pub mod Marks
 pub mod Registers
 pub mod Hinting
-pub mod Sharing
 pub mod Saving
 pub mod Notices
 pub mod Serving

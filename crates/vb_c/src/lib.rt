@@ -15,5 +15,4 @@ mod registers;
 mod saving;
 mod seats;
 mod serving;
-mod sharing;
 mod showing;

@@ -35,7 +35,7 @@ pub const MISPLACED: u32 = 6;
 /// An argument out of range (settings, regions, a page), or too little room.
 pub const BAD_ARGUMENT: u32 = 7;
 
-/// The guests can't spare enough (`vb_targets`).
+/// The guests can't spare enough (`vb_policy_decide`).
 pub const SHORT: u32 = 8;
 
 /// Of a saved state: more or fewer bytes than it has (`vb_save`: less room).

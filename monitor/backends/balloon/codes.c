@@ -45,7 +45,7 @@ const char *answer_words(uint32_t code)
         [6] = "VB_MISPLACED: the queue has no place",
         [7] = "VB_BAD_ARGUMENT: an argument out of range (settings, regions, a page), or too "
             "little room",
-        [8] = "VB_SHORT: the guests can't spare enough (`vb_targets`)",
+        [8] = "VB_SHORT: the guests can't spare enough (`vb_policy_decide`)",
         [9] = "VB_BAD_LENGTH: of a saved state: more or fewer bytes than it has (`vb_save`: "
             "less room)",
         [10] = "VB_NOT_A_STATE: the bytes don't begin as a saved state does",

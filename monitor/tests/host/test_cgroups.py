@@ -186,7 +186,6 @@ def test_who_takes_pages_unasked_hits_its_own_limit(seats):
     assert (a.kills(), a.its.pages()) == ("1", most)
     lender.become("a", here=0, lent=0)
     assert "gone a" in lender.said()
-    assert lent(lender) == ALL - GIVEN
     assert b.guest.ask(f"take 0 {GIVEN}") == "done"
     b.follows(ALL)
     b.is_well()
