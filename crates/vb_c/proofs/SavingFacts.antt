@@ -1,4 +1,4 @@
--- What saving, restoring and targets answer in C, worked out.
+-- What saving and restoring answer in C, worked out.
 use Rattle.std.proofs.Common.{◌≡◌, ◌∙◌, refl, ap, sym, arith, Result, Ok, Err, ℕ, List, [], ◌∷◌, length, Some}
 use Rattle.vb_core.{specs.declared.device.Device.Device, specs.declared.saved.Saved.Saved}
 use Rattle.vb_core.{specs.declared.saved.StateDenial.{StateDenial, TheVariants.{BadLength, BadSum, Impossible}}, specs.Saved.{restored, save_denial}}
