@@ -150,7 +150,8 @@ def test_a_picture_of_a_screen():
     lines = [it.text.rstrip() for it in shown]
     assert len(lines) == 10 and all(len(it) <= 80 for it in lines)
     assert lines[0] == "budget 480  held 100  lent 0  promised 200 MiB"
-    assert lines[1].startswith("[" + "#" * 16) and lines[2] == "2 guests, 1 waiting, by name"
+    # 100 of 480 MiB are 16.25 of 78 characters.
+    assert lines[1] == f"[{'#' * 16}{' ' * 62}]" and lines[2] == "2 guests, 1 waiting, by name"
     assert (
         lines[5].startswith("a                20")
         and lines[6].startswith("b                80")

@@ -6,7 +6,14 @@ import os
 import struct
 
 import pytest
-from vhost_client import CHECK_DEVICE_STATE, INFLATE, PAGE, STATE_BYTES
+from vhost_client import (
+    ADD_MEM_REG,
+    CHECK_DEVICE_STATE,
+    INFLATE,
+    PAGE,
+    PAGES_OF_REGION,
+    STATE_BYTES,
+)
 from vhost_demands import FIRST, demand_served
 from vhost_moves import (
     BADLY,
@@ -151,6 +158,26 @@ def test_the_longest_state(ready, serve, more):
     other = serve()
     other.begin(PROTOCOL)
     assert load(other, with_end(whole, words * WORD, 1 << WORD - 1)) == (not more)
+
+
+# A region far up in the guest, for whose memory a set is as long as no pipe has room for.
+FAR = 8 << 30
+
+
+def test_a_state_that_goes_through_its_pipe_in_parts(ready, serve):
+    client = ready()
+    region = struct.pack("<QQQQQ", 0, FAR, PAGES_OF_REGION * PAGE, FAR, 0)
+    client.accepted(ADD_MEM_REG, region, [client.files[1]])
+    with_pages(client, [FIRST, FAR // PAGE + 5], 2)
+    stopped(client)
+    data = saved(client)
+    words = FAR // PAGE // WORD + 1
+    assert len(data) == HEAD + 8 * words + SUM and data[-SUM:] == sum_of(data[:-SUM])
+    found = {at: it for at, it in enumerate(struct.unpack_from(f"<{words}Q", data, HEAD)) if it}
+    assert found == {FIRST // WORD: 1 << FIRST % WORD, words - 1: 1 << 5}
+    other = serve()
+    other.begin(PROTOCOL)
+    assert load(other, data)
 
 
 def test_each_byte_that_is_changed(ready, serve):
