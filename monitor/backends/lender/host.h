@@ -17,9 +17,10 @@
 #include <stdio.h>
 
 enum {
-    MOST_PLACES = 4 * MOST_GUESTS, /* of guests, also of those that are leaving, and of memory that
-                                      is added to each */
-    MOST_PATH = 108,               /* of a socket's */
+    /* Of guests, also of those that are leaving, and of memory that is added to each; and of pages
+     * that return to one. */
+    MOST_PLACES = 4 * MOST_GUESTS + 1,
+    MOST_PATH = 108, /* of a socket's */
     /* questions without statistics, and a guest counts as one that doesn't answer */
     SILENT_AFTER = 3,
     PAGES_PER_MIB = 256,

@@ -95,10 +95,21 @@ static void operator_says(void)
     rewind(host.answers.out);
 }
 
+/* What is shown of the host and of a guest, to whoever asks. */
+static void show(unsigned number)
+{
+    struct host_view all;
+    struct guest_view its;
+    host_see(&host, &all);
+    host_see_guest(&host, number, &its);
+    demand(all.guests == SEATS && its.loan == seat_lent(host.seats[number]));
+}
+
 static void look(unsigned number)
 {
     struct seat *seat = host.seats[number];
     unsigned seconds = next_byte();
+    show(number);
     now.tv_sec += seconds > 240 ? seconds - 240 : 0;
     if (seat_is_due(seat)) {
         seat_look_again(seat, true);
