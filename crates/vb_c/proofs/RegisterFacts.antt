@@ -1,4 +1,4 @@
--- What the calls for features, the configuration space, and reports answer in C, worked out: each refusal, and what it leaves.
+-- What the calls for features, the configuration space and reports answer in C, worked out: each refusal, and what it leaves.
 use Rattle.std.proofs.Common.{refl, ap, arith, ℕ, List, [], ◌∷◌}
 use Rattle.vb_core.specs.declared.device.Device.{Device}
 use Rattle.vb_core.specs.Devices.{new_device}

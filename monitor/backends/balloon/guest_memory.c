@@ -58,17 +58,30 @@ static bool has_bytes(int file, const struct region_place *place)
            place->offset + place->size <= (uint64_t)its.st_size;
 }
 
-/* Whether nobody but the kernel is waited for at an access: memory without a disk, or a plain file
- * on a disk of its own. A file of FUSE, or one of another machine, has its pages when somebody else
- * likes. */
+static bool is_among(unsigned long type, const unsigned long types[], size_t count)
+{
+    for (size_t i = 0; i < count; i++)
+        if (type == types[i])
+            return true;
+    return false;
+}
+
+/* Whether a file is memory without a disk. */
+static bool is_memory(const struct statfs *its)
+{
+    static const unsigned long known[] = {TMPFS_MAGIC, HUGETLBFS_MAGIC, RAMFS_MAGIC};
+    return is_among((unsigned long)its->f_type, known, sizeof known / sizeof known[0]);
+}
+
+/* Whether nobody but the kernel is waited for at an access: memory, or a plain file on a disk of
+ * its own. A file of FUSE, or one of another machine, has its pages when somebody else likes. */
 static bool is_at_hand(const struct statfs *its)
 {
-    static const unsigned long known[] = {TMPFS_MAGIC,      HUGETLBFS_MAGIC, RAMFS_MAGIC,
-                                          EXT4_SUPER_MAGIC, XFS_SUPER_MAGIC, BTRFS_SUPER_MAGIC,
+    static const unsigned long known[] = {EXT4_SUPER_MAGIC, XFS_SUPER_MAGIC, BTRFS_SUPER_MAGIC,
                                           F2FS_SUPER_MAGIC};
-    for (unsigned i = 0; i < sizeof known / sizeof known[0]; i++)
-        if ((unsigned long)its->f_type == known[i])
-            return true;
+    if (is_memory(its) ||
+        is_among((unsigned long)its->f_type, known, sizeof known / sizeof known[0]))
+        return true;
     complain(
         "a region's file is on a file system of type 0x%lx, whose pages may have to be waited for",
         (unsigned long)its->f_type);
@@ -90,11 +103,12 @@ static bool is_whole(const struct region_place *place, const struct statfs *its,
 
 /* Maps a region's file, which can't be cut off from now on where it is a memfd that lets itself be
  * sealed; MAP_FAILED where it can't. */
-static uint8_t *map(const struct region_place *place, int file, uint64_t *page_size)
+static uint8_t *map(const struct region_place *place, int file, uint64_t *page_size, bool *on_disk)
 {
     struct statfs its;
     if (fstatfs(file, &its) || !is_at_hand(&its) || !is_whole(place, &its, page_size))
         return MAP_FAILED;
+    *on_disk = !is_memory(&its);
     fcntl(file, F_ADD_SEALS, F_SEAL_SHRINK);
     if (!has_bytes(file, place))
         return MAP_FAILED;
@@ -105,8 +119,8 @@ uint8_t *file_map(int file, uint64_t bytes, uint64_t offset)
 {
     const struct region_place place = {.size = bytes, .offset = offset};
     uint64_t page_size, end;
-    uint8_t *at =
-        __builtin_add_overflow(bytes, offset, &end) ? MAP_FAILED : map(&place, file, &page_size);
+    bool on_disk, ends = !__builtin_add_overflow(bytes, offset, &end);
+    uint8_t *at = ends ? map(&place, file, &page_size, &on_disk) : MAP_FAILED;
     return at == MAP_FAILED ? NULL : at;
 }
 
@@ -114,15 +128,16 @@ bool memory_add(struct guest_memory *memory, struct region_place place, int file
 {
     uint8_t *at = MAP_FAILED;
     uint64_t page_size = 0;
+    bool on_disk = false;
     struct stat its;
     if (is_range(&place) && has_room(memory, &place) && file_look(file, &its))
-        at = map(&place, file, &page_size);
+        at = map(&place, file, &page_size, &on_disk);
     if (at == MAP_FAILED) {
         file_close(file);
         return false;
     }
     memory->user[memory->count] = place.user;
-    memory->files[memory->count] = (struct file_identity){its.st_dev, its.st_ino};
+    memory->files[memory->count] = (struct file_identity){its.st_dev, its.st_ino, on_disk};
     memory->regions[memory->count++] =
         (struct balloon_region){place.guest, place.size, at, file, place.offset, page_size};
     return true;
@@ -236,13 +251,26 @@ bool memory_seen_before(const struct guest_memory *memory, unsigned number)
     return false;
 }
 
+uint64_t memory_of_file(const struct guest_memory *memory, unsigned number)
+{
+    uint64_t bytes = 0;
+    for (unsigned i = 0; i < memory->count; i++)
+        if (memory_is_one_file(memory, i, number))
+            bytes += memory->regions[i].length;
+    return bytes;
+}
+
 uint64_t memory_held(const struct guest_memory *memory)
 {
     uint64_t blocks = 0;
     struct stat file;
-    for (unsigned i = 0; i < memory->count; i++)
-        if (!memory_seen_before(memory, i) && file_look(memory->regions[i].fd, &file))
-            blocks += (uint64_t)file.st_blocks;
+    for (unsigned i = 0; i < memory->count; i++) {
+        if (memory_seen_before(memory, i) || !file_look(memory->regions[i].fd, &file))
+            continue;
+        uint64_t most = memory->files[i].on_disk ? memory_of_file(memory, i) / BLOCK : UINT64_MAX,
+                 its = (uint64_t)file.st_blocks;
+        blocks += its < most ? its : most;
+    }
     return blocks / 2;
 }
 

@@ -5,17 +5,19 @@
 
 #include <sys/types.h>
 
-enum { MOST_REGIONS = 32 };
+/* BLOCK: bytes in which the kernel counts what a file holds (stat(2)). */
+enum { MOST_REGIONS = 32, BLOCK = 512 };
 
 /* As a message has it: where a region is in the guest, in the client, and in its file. */
 struct region_place {
     uint64_t guest, size, user, offset;
 };
 
-/* A file, whatever its number is. */
+/* A file, whatever its number is; and whether it is on a disk, whose blocks are no memory. */
 struct file_identity {
     dev_t device;
     ino_t inode;
+    bool on_disk;
 };
 
 struct guest_memory {
@@ -66,8 +68,11 @@ void memory_copy(const struct balloon_region *region, uint64_t at, uint8_t *to, 
 bool memory_is_one_file(const struct guest_memory *memory, unsigned one, unsigned other);
 bool memory_seen_before(const struct guest_memory *memory, unsigned number);
 
-/* What the files hold on the host, in KiB. */
+/* What the files hold on the host, in KiB: of one on a disk, in regions alone. */
 uint64_t memory_held(const struct guest_memory *memory);
+
+/* The bytes of all regions that are of the file of this one. */
+uint64_t memory_of_file(const struct guest_memory *memory, unsigned number);
 
 /* How many pages the regions have. */
 uint64_t memory_pages(const struct guest_memory *memory);

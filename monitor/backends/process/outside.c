@@ -1,12 +1,11 @@
 /* Pages of slots that were removed, whose files other slots have: the host holds them as before,
- * until the client discards them or lets go of the file. */
+ * until the client discards them or lets go of the file. Those of a file on a disk go there. */
 #include "lent.h"
 
 #include <unistd.h>
 
-/* Runs of data that are looked for in a file: what is after these counts as data. Bytes in which
- * the kernel counts what a file holds (stat(2)). */
-enum { MOST_RUNS = 256, BLOCK = 512 };
+/* Runs of data that are looked for in a file: what is after these counts as data. */
+enum { MOST_RUNS = 256 };
 
 static uint64_t larger(uint64_t one, uint64_t other)
 {
@@ -72,13 +71,11 @@ static uint64_t data_outside(const struct region_file *its)
  * regions. The client's place in it stays. */
 static uint64_t pages_outside(const struct region_file *its, uint64_t held)
 {
-    const struct guest_memory *memory = its->memory;
     off_t place = lseek(its->file, 0, SEEK_CUR);
     uint64_t bytes = data_outside(its);
     lseek(its->file, place, SEEK_SET);
-    for (unsigned i = 0; i < memory->count; i++)
-        if (memory_is_one_file(memory, i, its->number))
-            held -= memory->regions[i].length < held ? memory->regions[i].length : held;
+    uint64_t within = memory_of_file(its->memory, its->number);
+    held -= within < held ? within : held;
     return (larger(bytes, held) + BALLOON_PAGE - 1) / BALLOON_PAGE;
 }
 
@@ -88,7 +85,7 @@ static uint64_t all_outside(const struct guest_memory *memory)
     struct stat its;
     for (unsigned i = 0; i < memory->count; i++) {
         int file = memory->regions[i].fd;
-        if (!memory_seen_before(memory, i) && file_look(file, &its))
+        if (!memory->files[i].on_disk && !memory_seen_before(memory, i) && file_look(file, &its))
             pages += pages_outside(&(struct region_file){memory, i, file, (uint64_t)its.st_size},
                                    (uint64_t)its.st_blocks * BLOCK);
     }

@@ -5,6 +5,7 @@ import fcntl
 import os
 import signal
 import struct
+import subprocess
 import time
 
 import pytest
@@ -153,6 +154,31 @@ def test_what_a_file_holds_outside_of_its_slots_counts(lend, come):
     assert lender.counters()["held_kib"] == 4 * (ALL + OUTSIDE)
     discard_outside(a.client.files[1])
     lender.become("a", lent=ALL, cooperates=0)
+
+
+@pytest.fixture
+def disk(tmp_path):
+    """A folder on a disk, whose files may be memory."""
+    its = subprocess.run(["stat", "-fc%T", tmp_path], capture_output=True, text=True).stdout
+    if its.strip() not in ("ext2/ext3", "xfs", "btrfs", "f2fs"):
+        pytest.skip(f"{tmp_path} is on {its}")
+    return str(tmp_path)
+
+
+def test_what_a_disk_holds_outside_of_slots_is_no_memory(lend, come, disk):
+    lender = lend(1, *STRICT)
+    a = come(lender, "a", {FREE: 100}, "overhead=0", client=Larger, folder=disk)
+    a.client.fill_outside()
+    time.sleep(LOOKED)
+    lender.become("a", held_kib=4 * ALL, lent=ALL, cooperates=1)
+
+
+def test_a_slot_of_a_disk_that_was_removed_holds_no_memory(lend, come, disk):
+    lender = lend(1, *STRICT)
+    a = come(lender, "a", {FREE: 100}, "overhead=0", client=OneFile, folder=disk)
+    lender.become("a", pages=ALL, held_kib=4 * ALL)
+    remove_slot(a)
+    lender.become("a", pages=PAGES_OF_REGION, lent=PAGES_OF_REGION, cooperates=1)
 
 
 def hand_over(a, slots):
