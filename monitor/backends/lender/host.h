@@ -71,7 +71,8 @@ struct seat {
                       where it ends */
     int channel;   /* -1: none */
     bool gone;     /* its client has gone; the process hasn't ended yet */
-    bool refused;  /* its client isn't served any longer, as it broke a rule or found no room */
+    int64_t leaves_until; /* of one that was removed: then it is killed */
+    bool refused; /* its client isn't served any longer, as it broke a rule or found no room */
     enum refusal refused_for; /* why its last client wasn't admitted, until one is, and by how many
                                  pages it missed that */
     uint64_t refused_by, refusals; /* refusals: clients that weren't admitted */

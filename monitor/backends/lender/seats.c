@@ -7,6 +7,9 @@
 #include <sys/wait.h>
 #include <unistd.h>
 
+/* Milliseconds in which the process of a guest that was removed ends. */
+enum { ENDS_IN = 5000 };
+
 bool seat_is_taken(const struct seat *seat)
 {
     return seat->here && !seat->gone;
@@ -192,6 +195,7 @@ const char *seat_remove(struct host *host, struct seat *seat)
         return NULL;
     }
     seat_leave(seat);
+    seat->leaves_until = loop_now() + ENDS_IN;
     host->leaving[host->leaving_count++] = seat;
     return NULL;
 }

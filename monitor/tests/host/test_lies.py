@@ -291,3 +291,15 @@ def test_a_process_tells_no_terms_of_its_own(lend):
         "strict": True,
         "overhead": 0,
     }
+
+
+def test_the_process_of_a_guest_that_was_removed_is_killed_where_it_stays(lend):
+    lender = lend(1, *STRICT)
+    a = Played(lender, "a", pages=ALL)
+    lender.demand("remove a")
+    eventually(lambda: ended_by(a.listens.child) == signal.SIGKILL)
+    eventually(lambda: lent(lender) == 0)
+    words = "a: its process doesn't end, and is killed"
+    eventually(lambda: lender.hear() or words in lender.said(), lender.said)
+    assert a.told_to_leave > 1 and lender.said().count(words) == 1
+    a.channel.close()
