@@ -97,6 +97,13 @@ def is_own_name(name):
     return re.fullmatch(rb"(localhost|[\d.]+|\[[\da-fA-F:]+\])?(:\d+)?", name) is not None
 
 
+def is_loopback(address):
+    """Whether an address is of this machine alone, also where it is one of IPv4 that is written as
+    one of IPv6."""
+    its = ip_address(address)
+    return (getattr(its, "ipv4_mapped", None) or its).is_loopback
+
+
 def listener_at(text):
     """Returns the socket at which clients come."""
     try:
@@ -209,7 +216,6 @@ def serve(path, text, metrics_of):
     listener = listener_at(text)
 
     async def begin():
-        is_local = ip_address(listener.getsockname()[0]).is_loopback
-        await Server(path, metrics_of, is_local).run(listener)
+        await Server(path, metrics_of, is_loopback(listener.getsockname()[0])).run(listener)
 
     asyncio.run(begin())

@@ -15,6 +15,9 @@ from bigvasta.words import say
 UNITS = {"s": 1, "m": 60, "h": 3600, "d": 86400}
 
 
+# Answers of a kind: a host that keeps 512 decisions gives some 32.
+MOST_ANSWERS = 256
+
 # What an event has that is a change.
 CHANGED = {"change", "key", "was", "is", "user", "process"}
 
@@ -80,7 +83,7 @@ def event_line(event):
 
 def kept(host, request, what, since):
     """Yields what the host has kept of this kind from this number on."""
-    while True:
+    for _ in range(MOST_ANSWERS):
         answer = host.ask(request, since=since)
         if answer["lost"]:
             yield {"lost": answer["lost"], "what": what}
@@ -88,6 +91,7 @@ def kept(host, request, what, since):
         if answer["next"] <= since:
             return
         since = answer["next"]
+    raise host.unclear(f"the host's {what} don't end")
 
 
 def past(host, since):

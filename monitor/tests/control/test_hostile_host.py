@@ -220,6 +220,23 @@ def test_a_log_that_goes_round_ends(capsys, good, answers, path):
     assert run(capsys, path, "log")[0] == 0
 
 
+@pytest.mark.parametrize("request_of", ("log", "changes"))
+def test_a_log_that_never_ends(capsys, good, folder, request_of):
+    """Each answer has nothing, and says where to go on."""
+
+    def answer(asked):
+        its = {**good[asked["request"]]}
+        if asked["request"] == request_of:
+            its |= {"decisions": [], "changes": [], "next": asked["since"] + 1}
+        return (its,)
+
+    fake = Fake(folder, answer)
+    status, said, fault = run(capsys, fake.path, "log")
+    what = {"log": "decisions", "changes": "changes"}[request_of]
+    assert (status, said, fault) == (4, "", f"bigvasta: {fake.path}: the host's {what} don't end\n")
+    fake.close()
+
+
 def test_one_limit_is_for_a_whole_answer(folder):
     """An answer that comes byte by byte, each of them in time, isn't waited for any longer."""
     fake = Fake(folder, lambda asked: drip(b" " * 1000, 0.2))

@@ -9,7 +9,7 @@ from bigvasta.addresses import LOCAL, parse_address
 from bigvasta.cli import parser
 from bigvasta.hour import EVERY, Hour
 from bigvasta.page import row, shown
-from bigvasta.serving import MOST_CLIENTS, MOST_REQUEST
+from bigvasta.serving import MOST_CLIENTS, MOST_REQUEST, is_loopback
 from hosts import values
 from installed import bigvasta
 from made_status import guest, status
@@ -98,6 +98,13 @@ def test_it_is_for_this_machine_alone(host):
     assert parse_address(parser().parse_args(["serve"]).listen) == (LOCAL, 9750)
     with served(host.control) as (port, _), pytest.raises(ConnectionRefusedError):
         socket.create_connection(("127.0.0.2", port), PATIENCE)
+
+
+def test_which_addresses_are_of_this_machine_alone():
+    """A stranger's name isn't served there, also where IPv4 is written as IPv6."""
+    own = ("127.0.0.1", "127.9.9.9", "::1", "::ffff:127.0.0.1")
+    others = ("0.0.0.0", "::", "192.0.2.1", "::ffff:192.0.2.1", "2001:db8::1")
+    assert [is_loopback(it) for it in own + others] == 4 * [True] + 5 * [False]
 
 
 def test_a_port_that_somebody_has(host, port):
