@@ -199,16 +199,11 @@ bool backend_give(struct backend *backend)
     return backend_finish(backend, VB_DEFLATE, &result) && backend_serve(backend, number);
 }
 
-bool backend_postpones(const struct backend *backend, uint32_t kind)
-{
-    return kind == VB_DEFLATE && backend->options->holds && backend->told.features & LOG_ALL;
-}
-
 bool backend_serve(struct backend *backend, unsigned number)
 {
     const struct event *fault = &backend->rings[number].fault;
     uint32_t kind = vb_kind(&backend->balloon.state.device, number);
-    if (backend_postpones(backend, kind))
+    if (queue_is_postponed(backend, kind))
         return true;
     audit_before(backend, number);
     struct balloon_result result = balloon_notify(&backend->balloon, kind);

@@ -140,10 +140,6 @@ bool backend_give(struct backend *backend);
 /* Asks the guest for new statistics: `asked` where it could be; as backend_finish. */
 bool backend_ask(struct backend *backend, bool *asked);
 
-/* Whether a queue of this kind isn't served: a guest takes no pages while it migrates, where the host
- * that it goes to has to lend them. */
-bool backend_postpones(const struct backend *backend, uint32_t kind);
-
 /* Serves the queue of this number. */
 bool backend_serve(struct backend *backend, unsigned number);
 

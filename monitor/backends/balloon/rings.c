@@ -32,6 +32,11 @@ const struct ring *ring_of_kind(const struct backend *backend, uint32_t kind)
     return NULL;
 }
 
+bool queue_is_postponed(const struct backend *backend, uint32_t kind)
+{
+    return kind == VB_DEFLATE && backend->options->holds && backend->told.features & LOG_ALL;
+}
+
 bool ring_describes(const struct backend *backend, uint32_t kind, uint64_t guest)
 {
     const VbQueue *queue = queue_of(backend, kind);

@@ -203,7 +203,7 @@ bool lent_give(struct lent *lent)
  * longer. */
 static bool give(struct lent *lent, const struct lending_message *order)
 {
-    if (order->wait != lent->notes.held_wait || backend_postpones(&lent->backend, VB_DEFLATE))
+    if (order->wait != lent->notes.held_wait || queue_is_postponed(&lent->backend, VB_DEFLATE))
         return true;
     if (lent->returns > 0)
         awaited_leave(lent, lent->returns);

@@ -1,5 +1,6 @@
-"""Hosts whose event loop is wrong on purpose (tests/mutants/wrong_loop.c): each is refused by the
-test that is for it, and that alone is run. And one of another layout than the library's."""
+"""Hosts that are wrong on purpose, by their event loop (tests/mutants/wrong_loop.c) or about a guest
+that migrates: each is refused by the test that is for it, and that alone is run. And one of another
+layout than the library's."""
 
 import os
 import subprocess
@@ -21,6 +22,18 @@ LOOPS = {
     "no-hang-up": "test_strict.py::test_who_waits_and_goes_is_forgotten",
 }
 
+# Hosts and guests' processes that are wrong about a guest that migrates (tests/mutants: wrong_host.c,
+# wrong_lent.c), and the test that has to refuse each.
+MOVES = {
+    "26": "test_migrating.py::test_there_is_no_room_for_who_comes",
+    "27": "test_migrating.py::test_a_guest_comes_with_its_balloon[as it was]",
+    "28": "test_migrating.py::test_a_guest_that_migrates_takes_no_pages",
+    "29": "test_migrating.py::test_there_is_no_room_for_who_comes",
+    "30": "test_migrating.py::"
+    "test_a_device_with_fewer_pages_in_its_balloon_than_it_was_to_come_with",
+    "31": "test_migrating.py::test_a_balloon_continues_on_another_host[as it was]",
+}
+
 HERE = os.path.dirname(os.path.realpath(__file__))
 
 
@@ -32,6 +45,16 @@ def test_a_wrong_loop_is_refused(name):
         HOST_PROGRAM=linux_kit.built("loop/vhost_user_host"),
     )
     print(f"{name} is refused by {LOOPS[name]}: {fault}")
+
+
+@pytest.mark.parametrize("number", [pytest.param(it, marks=pytest.mark.wrong(it)) for it in MOVES])
+def test_a_wrong_host_of_a_guest_that_migrates_is_refused(number):
+    fault = demand_refused(
+        f"{HERE}/{MOVES[number]}",
+        HOST_WRONG=number,
+        HOST_PROGRAM=linux_kit.built("wrong-plain/vhost_user_host"),
+    )
+    print(f"{number} is refused by {MOVES[number]}: {fault}")
 
 
 def test_a_host_of_another_layout_of_seats_doesnt_begin(tmp_path):

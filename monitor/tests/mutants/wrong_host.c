@@ -23,8 +23,10 @@
  *    23  has a guest pressed for good
  *    24  takes page cache for unused memory
  *    25  has a guest pressed by what its own balloon reclaims
+ *    26  admits each guest that comes from another host
+ *    27  lends a guest that comes from another host all its memory
  *
- * 5 and 8 are wrong in guests' processes (wrong_lent.c).
+ * 5, 8 and 28 to 31 are wrong in guests' processes (wrong_lent.c).
  */
 #include "../../backends/lender/places.h"
 
@@ -53,7 +55,9 @@ enum {
     NONE_PRESSED,
     PRESSED_FOR_GOOD,
     NO_TIERS,
-    PRESSED_BY_BALLOON
+    PRESSED_BY_BALLOON,
+    ADMITS_ALL,
+    LENDS_ALL
 };
 
 VbDecision __real_vb_policy_decide(const VbPolicyBudget *, const VbFigures *, size_t,
@@ -75,6 +79,10 @@ bool __wrap_limit_allows(const struct seat *);
 uint32_t __real_vb_host_step(VbHost *, VbSeat *, size_t, const VbHostEvent *);
 uint32_t __wrap_vb_host_step(VbHost *, VbSeat *, size_t, const VbHostEvent *);
 
+uint64_t __real_policy_lacks(struct host *, const struct seat *, uint32_t);
+uint64_t __wrap_policy_lacks(struct host *, const struct seat *, uint32_t);
+uint32_t __real_ask_comes_without(const struct seat *, uint32_t);
+uint32_t __wrap_ask_comes_without(const struct seat *, uint32_t);
 uint32_t __wrap_vb_host_version(void);
 uint32_t __real_vb_seat_due_grant(const VbSeat *, const VbReport *);
 uint32_t __wrap_vb_seat_due_grant(const VbSeat *, const VbReport *);
@@ -198,6 +206,16 @@ bool __wrap_limit_allows(const struct seat *seat)
 uint32_t __wrap_vb_seat_due_grant(const VbSeat *seat, const VbReport *report)
 {
     return wrong() == GRANTS_ALL ? report->held > 0 : __real_vb_seat_due_grant(seat, report);
+}
+
+uint64_t __wrap_policy_lacks(struct host *host, const struct seat *newcomer, uint32_t pages)
+{
+    return wrong() == ADMITS_ALL ? 0 : __real_policy_lacks(host, newcomer, pages);
+}
+
+uint32_t __wrap_ask_comes_without(const struct seat *seat, uint32_t pages)
+{
+    return wrong() == LENDS_ALL ? 0 : __real_ask_comes_without(seat, pages);
 }
 
 uint32_t __wrap_vb_host_version(void)

@@ -3,17 +3,37 @@
  *
  *     5  counts all pages of a deflate that ends below the target as taken
  *     8  a region that comes back has the pages in the balloon that the one before had there
+ *    28  a guest that migrates takes pages
+ *    29  a guest that comes from another host has no room before it has memory
+ *    30  a device is loaded that has fewer pages in its balloon than it was to come with
+ *    31  the target of a device that is loaded is taken, whatever the lender wants
  */
 #include "../../backends/process/lent.h"
 
 #include <stdlib.h>
 
-enum { WHOLE_DEFLATE = 5, INHERITS = 8 };
+enum {
+    WHOLE_DEFLATE = 5,
+    INHERITS = 8,
+    TAKES_PAGES = 28,
+    COMES_AT_ONCE,
+    COMES_WITH_LESS,
+    TAKES_TARGET,
+    /* Where the target of a device is in its bytes (docs/LINUX.md, docs/INTEGRATION.md). */
+    TARGET_AT = 32 + 46
+};
 
 uint64_t __real_counters_taken(uint32_t, uint32_t, uint32_t);
 uint64_t __wrap_counters_taken(uint32_t, uint32_t, uint32_t);
 bool __real_marks_follow(struct backend *, struct marks *, uint64_t);
 bool __wrap_marks_follow(struct backend *, struct marks *, uint64_t);
+
+bool __real_queue_is_postponed(const struct backend *, uint32_t);
+bool __wrap_queue_is_postponed(const struct backend *, uint32_t);
+bool __real_awaited_comes(struct backend *, uint32_t, uint32_t);
+bool __wrap_awaited_comes(struct backend *, uint32_t, uint32_t);
+bool __real_moved_load(struct backend *, const uint8_t *, size_t);
+bool __wrap_moved_load(struct backend *, const uint8_t *, size_t);
 
 static int wrong(void)
 {
@@ -41,4 +61,27 @@ bool __wrap_marks_follow(struct backend *backend, struct marks *marks, uint64_t 
             backend->ballooned = ballooned;
     free(set);
     return made;
+}
+
+bool __wrap_queue_is_postponed(const struct backend *backend, uint32_t kind)
+{
+    return wrong() != TAKES_PAGES && __real_queue_is_postponed(backend, kind);
+}
+
+bool __wrap_awaited_comes(struct backend *backend, uint32_t pages, uint32_t given)
+{
+    return wrong() == COMES_AT_ONCE || __real_awaited_comes(backend, pages, given);
+}
+
+bool __wrap_moved_load(struct backend *backend, const uint8_t *bytes, size_t length)
+{
+    uint32_t target;
+    if (wrong() == COMES_WITH_LESS)
+        backend->comes_with = 0;
+    bool loads = __real_moved_load(backend, bytes, length);
+    if (loads && wrong() == TAKES_TARGET) {
+        memcpy(&target, bytes + TARGET_AT, sizeof target);
+        balloon_set_target(&backend->balloon, target);
+    }
+    return loads;
 }
