@@ -56,11 +56,12 @@ class LentSide(Side):
         )
 
     def renew_lender(self):
-        """Kills the lender, and starts another one, which knows of the guest again."""
+        """Kills the lender, and starts another one, which knows of the guest and its balloon again:
+        until then all its pages count as lent."""
         process = self.its()["process"]
         self.stop()
         self.backend = self.begin()
-        eventually(lambda: self.its()["process"] == process and self.its()["pages"])
+        eventually(lambda: self.its()["process"] == process and self.its()["ballooned"])
 
     def demand_within(self):
         """Demands that neither what is lent nor what is held is above the budget."""
