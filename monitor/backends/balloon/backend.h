@@ -73,8 +73,8 @@ struct backend {
     /* Whether the host has room for the memory that was handed over, else says why not; or NULL: it
      * always has. */
     bool (*admit)(struct backend *backend);
-    /* A guest comes from another host: whether this one has room for so many pages of memory, but
-     * for those that are given up; or NULL: it always has. */
+    /* A guest of `pages` pages comes from another host, with `given` of them given up: whether this
+     * one has room for the others; or NULL: it always has. */
     bool (*comes)(struct backend *backend, uint32_t pages, uint32_t given);
     /* A deflate of `pages` pages is held: backend_give grants it. */
     void (*held)(struct backend *backend, uint32_t pages);

@@ -135,9 +135,10 @@ bool moved_load(struct backend *backend, const uint8_t *bytes, size_t length)
         remark(backend, "the device that is to be loaded %s", fault);
         return false;
     }
-    if (backend->options->is_lent) /* its lender alone sets a target */
-        before.device.target = backend->balloon.state.device.target;
+    uint32_t target = backend->balloon.state.device.target;
     state_take(backend, before);
+    if (backend->options->is_lent) /* its lender alone sets a target */
+        balloon_set_target(&backend->balloon, target);
     backend->told.goes_on = moved.awaits;
     backend->moved = moved;
     memcpy(backend->room->set, bytes + MOVED_HEAD, moved.words * sizeof backend->room->set[0]);

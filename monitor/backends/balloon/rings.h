@@ -72,8 +72,8 @@ bool rings_settle(struct backend *backend);
 bool rings_run(const struct backend *backend);
 bool ring_runs(const struct backend *backend, unsigned number);
 
-/* Whether a queue of this kind isn't served: a guest takes no pages while it migrates, where the host
- * that it goes to has to lend them. */
+/* Whether a queue of this kind isn't served: a guest takes no pages while it migrates, where the
+ * host that it goes to has to lend them. */
 bool queue_is_postponed(const struct backend *backend, uint32_t kind);
 
 /* The ring of this kind of queue, or NULL. */

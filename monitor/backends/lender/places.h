@@ -52,7 +52,7 @@ VbReport ask_report(const struct seat *seat);
  * holds, and its process can. */
 uint32_t ask_without(const struct seat *seat, uint32_t pages);
 
-/* Of these pages of a guest that comes, those that it does so without: what it was given up of it on
+/* Of these pages of a guest that comes, those that it does so without: what was given up of it on
  * the host from which it comes, or what it starts without. */
 uint32_t ask_comes_without(const struct seat *seat, uint32_t pages);
 

@@ -52,8 +52,8 @@ int lent_run(const struct options *options, struct kept *kept);
 uint32_t lent_ballooned(const struct lent *lent);
 enum lending_hold lent_hold(const struct lent *lent);
 
-/* A guest comes from another host, with so many pages given up, for which its process waits for
- * room. */
+/* A guest of `pages` pages comes from another host, with `given` of them given up: its process
+ * waits for room for the others; false where there is none. */
 bool awaited_comes(struct backend *backend, uint32_t pages, uint32_t given);
 
 /* It starts, or restarts, while these count in its balloon; whether it does: added memory has

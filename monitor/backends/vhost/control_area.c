@@ -122,8 +122,8 @@ static enum outcome obey(struct backend *backend, uint32_t version, uint32_t com
     return FAILED;
 }
 
-/* The client's guest comes from another host, with so many pages given up of so many. A client that
- * has handed memory over has its guest already. */
+/* The client's guest of `pages` pages comes from another host, with `given` of them given up. A
+ * client that has handed memory over has its guest already. */
 static enum outcome take_comer(struct backend *backend, uint32_t given, uint32_t pages)
 {
     if (backend->memory.count > 0 || !backend->comes)

@@ -11,6 +11,7 @@ from host_places import Cgroup, Mount, cgroups
 from tenants import FREE, Guest, Lender, process_of
 from test_strict import STRICT
 from vhost_client import Client
+from vhost_moves import PROTOCOL
 
 PROGRAMS = (
     "plain/vhost_user_host",
@@ -109,6 +110,27 @@ def one(lend, come, limits):
     lender.set_budget(256 - 50)
     lender.become("a", asked=50)
     return lender, guest, other, its
+
+
+@pytest.fixture
+def migrating(lend):
+    """Returns makers of lenders, each with a guest that may migrate, whose queues run or not; all
+    go at the end."""
+    clients = []
+
+    def make(starts=True, budget=2):
+        lender = lend(budget, *STRICT, "--lines", "1000")
+        client = Client(lender.add("a"), lambda: lender.said()[-4:])
+        clients.append(client)
+        client.begin(PROTOCOL)
+        if starts:
+            client.start_by_events(protocol=PROTOCOL)
+            lender.become("a", ready=1)
+        return lender, client
+
+    yield make
+    for it in clients:
+        it.leave()
 
 
 @pytest.fixture

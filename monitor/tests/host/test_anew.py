@@ -23,8 +23,6 @@ from vhost_client import (
     STATISTICS,
     Client,
 )
-from vhost_logs import log_base, log_file, logged, page_of_used, set_logging
-from vhost_moves import PROTOCOL, load, saved, stopped
 
 WIDE = ("--floor", "0", "--period", "100", "--step", "0")
 
@@ -179,62 +177,6 @@ def test_a_process_that_is_cut_off_as_a_driver_stops(lend, cutting, way):
     assert place > LEAST_CUTS
 
 
-def try_twice(act):
-    """Has a device be saved, or loaded: the second time where its process ended amid a part of it,
-    which is said; returns what came of it."""
-    for last in (False, True):
-        try:
-            done = act()
-        except (AssertionError, BrokenPipeError):
-            done = None
-        if done:
-            return done
-        assert not last, "it isn't done the second time"
-
-
-def migrate(lender, name):
-    """A life with a migration that is cancelled at its end: each write is in the log, and the
-    device is saved, and loaded again."""
-    client = Client(lender.add(name), lambda: lender.said()[-4:])
-    client.start_by_events(protocol=PROTOCOL)
-    serve(client, INFLATE, [[PAGES, PAGES + 1]])
-    file = log_file()
-    assert log_base(client, file) == bytes(8)
-    set_logging(client, True)
-    serve(client, INFLATE, [[PAGES + 2]])
-    assert page_of_used(client, INFLATE) in logged(file), "a used ring isn't logged"
-    bases = stopped(client)
-    data = try_twice(lambda: saved(client))
-    assert try_twice(lambda: load(client, data))
-    client.go_on(bases)
-    client.called(INFLATE)
-    serve(client, INFLATE, [[PAGES + 3]])
-    lender.become(name, ready=1, ballooned=4)
-    assert client.holes() == [*range(PAGES, PAGES + 4)]
-    os.close(file)
-    client.leave()
-    lender.demand(f"remove {name}")
-    return [it for it in lender.said() if it.startswith(f"{name}: ") and "to go anew" in it]
-
-
-def migrate_everywhere(lender):
-    """Such lives that are cut off in one place each, until one isn't; returns how many there were,
-    and in how many of them something had to go anew."""
-    anew = 0
-    for place in range(1, MOST_CUTS, 2):
-        anew += len(migrate(lender, f"cut-{place}"))
-        if not [it for it in lender.said() if f"cut-{place}: its process has ended by" in it]:
-            break
-    return place, anew
-
-
-@pytest.mark.timeout(900)
-def test_a_migration_that_is_cut_off_anywhere(lend, cutting):
-    lender = lend(64, *WIDE, "--strict", "--lines", "10000", "--program", cutting)
-    places, anew = migrate_everywhere(lender)
-    assert LEAST_CUTS < places < MOST_CUTS and 0 < anew < 10, (places, anew)
-
-
 class Worked:
     """Pages of a guest with bytes of their own, of which some are in its balloon."""
 
@@ -358,23 +300,4 @@ def test_a_process_that_goes_on_wrongly_is_found(lend, cutting, wrong, monkeypat
     with pytest.raises((AssertionError, OSError, struct.error, TypeError)) as found:
         for way in BEGINS:
             cut_everywhere(lender, BEGINS[way], range(1, MOST_CUTS), True)
-    print(f"{wrong}: {found.value}")
-
-
-# Of a migration.
-WRONG_MOVES = ("no-log", "log-lacks-last", "no-transfer", "any-part")
-
-
-@pytest.mark.timeout(900)
-@pytest.mark.parametrize(
-    "wrong", [pytest.param(it, marks=pytest.mark.wrong(it)) for it in WRONG_MOVES]
-)
-def test_a_migration_that_goes_on_wrongly_is_found(lend, cutting, wrong, monkeypatch):
-    monkeypatch.setenv("ANEW_WRONG", wrong)
-    for it in ("vhost_client", "tenants", "waiting"):
-        monkeypatch.setattr(f"{it}.PATIENCE", 2)
-    lender = lend(64, *WIDE, "--strict", "--lines", "10000", "--program", cutting)
-    with pytest.raises((AssertionError, OSError, struct.error, TypeError)) as found:
-        places, anew = migrate_everywhere(lender)
-        assert anew > 0, "nothing had to go anew"
     print(f"{wrong}: {found.value}")

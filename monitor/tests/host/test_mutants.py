@@ -1,6 +1,6 @@
-"""Hosts that are wrong on purpose, by their event loop (tests/mutants/wrong_loop.c) or about a guest
-that migrates: each is refused by the test that is for it, and that alone is run. And one of another
-layout than the library's."""
+"""Hosts that are wrong on purpose, by their event loop (tests/mutants/wrong_loop.c) or about a
+guest that migrates: each is refused by the test that is for it, and that alone is run. And one of
+another layout than the library's."""
 
 import os
 import subprocess
@@ -22,14 +22,14 @@ LOOPS = {
     "no-hang-up": "test_strict.py::test_who_waits_and_goes_is_forgotten",
 }
 
-# Hosts and guests' processes that are wrong about a guest that migrates (tests/mutants: wrong_host.c,
-# wrong_lent.c), and the test that has to refuse each.
+# Hosts and guests' processes that are wrong about a guest that migrates (tests/mutants:
+# wrong_host.c, wrong_lent.c), and the test that has to refuse each.
 MOVES = {
-    "26": "test_migrating.py::test_there_is_no_room_for_who_comes",
-    "27": "test_migrating.py::test_a_guest_comes_with_its_balloon[as it was]",
-    "28": "test_migrating.py::test_a_guest_that_migrates_takes_no_pages",
-    "29": "test_migrating.py::test_there_is_no_room_for_who_comes",
-    "30": "test_migrating.py::"
+    "26": "test_arriving.py::test_there_is_no_room_for_who_comes",
+    "27": "test_arriving.py::test_a_guest_comes_with_its_balloon[as it was]",
+    "28": "test_arriving.py::test_a_guest_that_migrates_takes_no_pages",
+    "29": "test_arriving.py::test_there_is_no_room_for_who_comes",
+    "30": "test_arriving.py::"
     "test_a_device_with_fewer_pages_in_its_balloon_than_it_was_to_come_with",
     "31": "test_migrating.py::test_a_balloon_continues_on_another_host[as it was]",
 }

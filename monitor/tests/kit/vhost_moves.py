@@ -38,8 +38,8 @@ def sum_of(data):
 
 
 def comes(client, given, pages):
-    """Says that a client's guest comes from another host, with so many pages given up of so many;
-    returns the answer."""
+    """Says that a client's guest of `pages` pages comes from another host, with `given` of them
+    given up; returns the answer."""
     words = (COMES_AT, 8, OF_CLIENT, given, pages)
     return client.send(SET_CONFIG, struct.pack("<IIIII", *words))
 

@@ -1,5 +1,5 @@
-"""Tests of a Linux guest that migrates between two hosts, each with a lender, whose budgets are below
-what their guests have together: neither is above its budget at any look."""
+"""Tests of a Linux guest that migrates between two hosts, each with a lender, whose budgets are
+below what their guests have together: neither is above its budget at any look."""
 
 
 import linux_kit
