@@ -8,6 +8,7 @@
 #define DAYS_H
 #include "../../../backends/channel/message.h"
 
+#include <poll.h>
 #include <stdbool.h>
 #include <stdint.h>
 
@@ -19,6 +20,19 @@ enum {
     LONGEST = 5 * SECOND / 2,
     PAGES_OF_REQUEST = 256,
     KERNEL_KEEPS = 512
+};
+
+/* What the environment says of a day: each is 0 where it doesn't. */
+struct plan {
+    unsigned seconds, guests, budget, reboots, beyond, slow, killed, overdraft, moves;
+};
+
+/* Messages of one direction that nobody has read yet, the next of them first. As many as a socket
+ * has room for. */
+enum { MOST_MAIL = 64 };
+struct mail {
+    unsigned first, count;
+    struct lending_message messages[MOST_MAIL];
 };
 
 /* What a kernel counts of its reclaim, in pages but for the stalls. */
@@ -41,7 +55,8 @@ struct guest {
      * device. */
     struct lending_message report;
     int listener, channel;
-    bool turns, news; /* it is about to have a turn; it has something to report */
+    struct mail orders, reports; /* to its process, and from there */
+    bool turns, news;            /* it is about to have a turn; it has something to report */
     int64_t reports_at;
     uint64_t answers; /* the number of the question that is to be answered; 0: none */
     int64_t answers_until;
@@ -72,6 +87,7 @@ enum { MOST_GUESTS_OF_DAY = 16, MOST_STEPS = 1024 };
 
 /* All that outlives a lender. */
 struct day {
+    struct plan plan;
     int64_t now;         /* since it began */
     int64_t lender_ends; /* when the lender ends, and until when there is none then */
     int64_t lender_begins;
@@ -95,9 +111,9 @@ extern struct day *day;
 
 /* ---- time.c */
 
-/* Begins a day of this number, or goes on with the one of the lender before; whether it begins. A
- * lender has these words. */
-bool day_begins(uint64_t number, char **words);
+/* Begins the day that the environment names, or goes on with the one of the lender before; whether
+ * it begins. A lender has these words. */
+bool day_begins(char **words);
 
 /* Has something be done of a guest after a while, or after a moment as one of its steps takes; and
  * nothing more of it. */
@@ -107,6 +123,14 @@ void forget(const struct guest *guest);
 
 /* A number from `least` to `most`. */
 uint32_t chance(uint32_t least, uint32_t most);
+
+/* ---- mail.c */
+
+/* What nobody has read of a guest's messages is lost. */
+void mail_forget(struct guest *guest);
+
+/* Says of which of these files of a lender reports are to be read; how many these are. */
+int mail_came(struct pollfd *files, size_t number);
 
 /* ---- process.c */
 
@@ -166,8 +190,5 @@ void town_looks(void);
 
 /* The day ends, by a fault where words say so. */
 void town_ends(const char *fault, const struct guest *guest);
-
-/* What the environment says of a day. */
-unsigned town_number(const char *name);
 
 #endif

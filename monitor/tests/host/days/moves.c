@@ -89,7 +89,7 @@ static void look_at_wants(const struct guest *guest)
     day->had = has;
     int64_t waits = day->now - day->came_at;
     day->longest = waits > day->longest ? waits : day->longest;
-    if (waits > LATE + (town_number("SLOW") > 0 ? LATE_BY_STEPS : 0))
+    if (waits > LATE + (day->plan.slow > 0 ? LATE_BY_STEPS : 0))
         town_ends("is late to get a page that others have", guest);
 }
 

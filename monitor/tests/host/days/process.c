@@ -208,14 +208,12 @@ void process_kicked(struct guest *guest)
 
 void process_hears(struct guest *guest, bool may_be_sent)
 {
-    char byte;
     if (may_be_sent && guest->channel < 0) {
         guest->channel = accept4(guest->listener, NULL, NULL, SOCK_NONBLOCK);
         guest->news |= guest->channel >= 0;
         guest->answers = 0;
     }
-    if (guest->channel >= 0 && (guest->news || (may_be_sent && recv(guest->channel, &byte, 1,
-                                                                    MSG_PEEK | MSG_DONTWAIT) > 0)))
+    if (guest->channel >= 0 && (guest->news || guest->orders.count > 0))
         has_turn(guest);
 }
 
@@ -244,6 +242,7 @@ void process_is_alone(struct guest *guest)
     if (guest->channel >= 0)
         close(guest->channel);
     guest->channel = -1;
+    mail_forget(guest);
 }
 
 void process_begins(struct guest *guest, const char *folder)

@@ -33,7 +33,27 @@ static void map_day(void)
     }
 }
 
-bool day_begins(uint64_t number, char **words)
+/* A number that the environment says. */
+static unsigned number_of(const char *name)
+{
+    const char *word = getenv(name);
+    return word ? (unsigned)strtoul(word, NULL, 10) : 0;
+}
+
+static struct plan planned(void)
+{
+    return (struct plan){.seconds = number_of("SECONDS"),
+                         .guests = number_of("GUESTS"),
+                         .budget = number_of("BUDGET"),
+                         .reboots = number_of("REBOOTS"),
+                         .beyond = number_of("BEYOND"),
+                         .slow = number_of("SLOW"),
+                         .killed = number_of("KILLED"),
+                         .overdraft = number_of("OVERDRAFT"),
+                         .moves = number_of("MOVES")};
+}
+
+bool day_begins(char **words)
 {
     bool goes_on = getenv("GOES_ON");
     lender_words = words;
@@ -45,7 +65,8 @@ bool day_begins(uint64_t number, char **words)
     map_day();
     if (goes_on)
         return false;
-    day->random = number * 2 + 1;
+    day->random = number_of("DAY") * UINT64_C(2) + 1;
+    day->plan = planned();
     return true;
 }
 
@@ -75,7 +96,7 @@ void later(struct guest *guest, act *act, int64_t microseconds)
 
 void soon(struct guest *guest, act *act)
 {
-    int64_t takes = moment() * town_number("SLOW");
+    int64_t takes = moment() * day->plan.slow;
     later(guest, act, takes < LONGEST ? takes : LONGEST);
 }
 
@@ -121,7 +142,7 @@ static void happen(void)
 /* When the lender ends, where it does, and until when there is none then. */
 static void plan_end(void)
 {
-    bool ends = town_number("KILLED") > 0;
+    bool ends = day->plan.killed > 0;
     day->lender_ends = ends ? day->now + chance(SHORTEST_LIFE, LONGEST_LIFE) : INT64_MAX;
     day->lender_begins = ends ? day->lender_ends + chance(0, LONGEST_AWAY) : INT64_MAX;
 }
@@ -145,7 +166,8 @@ int __real_poll_some(struct pollfd *files, nfds_t number, int limit);
 int __wrap_poll_some(struct pollfd *files, nfds_t number, int limit);
 int __wrap_clock_gettime(clockid_t clock, struct timespec *time);
 
-/* Time passes until something comes. The lender sends nothing meanwhile. */
+/* Time passes until something comes. The lender sends nothing meanwhile. What comes of others than
+ * guests is there once no guest has anything to say. */
 int __wrap_poll_some(struct pollfd *files, nfds_t number, int limit)
 {
     int64_t end = limit < 0 ? INT64_MAX : day->now + limit * INT64_C(1000);
@@ -153,7 +175,7 @@ int __wrap_poll_some(struct pollfd *files, nfds_t number, int limit)
         plan_end();
     for (bool first = true;; first = false) {
         happen();
-        int came = __real_poll_some(files, number, 0);
+        int came = mail_came(files, number);
         for (unsigned i = 0; i < day->size; i++)
             process_hears(&day->guests[i], first);
         if (came != 0)
@@ -163,7 +185,7 @@ int __wrap_poll_some(struct pollfd *files, nfds_t number, int limit)
             end_lender();
         day->now = next > day->now ? next : day->now;
         if (at > end)
-            return 0;
+            return __real_poll_some(files, number, 0);
     }
 }
 

@@ -27,12 +27,6 @@ enum {
 /* Seconds after which a deflate, and a new life, waits for good. */
 enum { DEFLATE_WAITS = 30, RESET_WAITS = 300 };
 
-unsigned town_number(const char *name)
-{
-    const char *word = getenv(name);
-    return word ? (unsigned)strtoul(word, NULL, 10) : 0;
-}
-
 static void print_guest(const struct guest *guest)
 {
     const struct lending_message *its = &guest->report;
@@ -111,7 +105,7 @@ void town_looks(void)
     uint64_t held = 0;
     for (unsigned i = 0; i < day->size; i++)
         held += day->guests[i].pages - day->guests[i].report.ballooned;
-    if (held > day->budget + town_number("OVERDRAFT") * MIB)
+    if (held > day->budget + (uint64_t)day->plan.overdraft * MIB)
         town_ends("is the first of all, which have more than the budget", day->guests);
     for (unsigned i = 0; i < day->size; i++) {
         const struct guest *guest = &day->guests[i];
@@ -120,9 +114,9 @@ void town_looks(void)
         else
             look_at(guest, &guest->held, DEFLATE_WAITS, "waits for a deflate");
     }
-    if (town_number("MOVES") > 0)
+    if (day->plan.moves > 0)
         moves_look();
-    if (day->now >= town_number("SECONDS") * (int64_t)SECOND)
+    if (day->now >= day->plan.seconds * (int64_t)SECOND)
         town_ends(NULL, NULL);
 }
 
@@ -132,12 +126,12 @@ void town_looks(void)
 static void __attribute__((constructor)) begin(int count, char **words)
 {
     (void)count;
-    if (!day_begins(town_number("DAY"), words))
+    if (!day_begins(words))
         return;
-    unsigned size = day->size = town_number("GUESTS");
-    bool reboots = town_number("REBOOTS") > 0, moves = town_number("MOVES") > 0;
-    day->budget = town_number("BUDGET") * MIB;
-    day->left = day->budget + town_number("BEYOND") * MIB - (size - reboots) * (OWN + LEFT) * MIB -
+    unsigned size = day->size = day->plan.guests;
+    bool reboots = day->plan.reboots > 0, moves = day->plan.moves > 0;
+    day->budget = day->plan.budget * MIB;
+    day->left = day->budget + day->plan.beyond * MIB - (size - reboots) * (OWN + LEFT) * MIB -
                 (reboots ? MEMORY * MIB : 0);
     for (unsigned i = 0; i < size; i++) {
         struct guest *guest = &day->guests[i];
