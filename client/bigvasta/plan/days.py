@@ -12,8 +12,8 @@ MOST_PAGES = (1 << 32) - 1
 
 
 class Use(NamedTuple):
-    """From this moment on a guest uses this many pages, and of the others so many as page cache
-    (None: it doesn't tell which of these are free); and whether its own work waits for memory."""
+    """From this moment on a guest uses this many pages, and of the others this many are page cache
+    (None: it doesn't tell which of them are free); and whether its own work waits for memory."""
 
     seconds: float
     pages: int

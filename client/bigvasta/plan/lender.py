@@ -94,13 +94,12 @@ class Lender:
 
     def figure(self, guest):
         """Says again what is known of a guest: after each change of what it uses, or of its seat.
-        Of what its balloon leaves it, its page cache has what it has no other use for. What it uses
-        and doesn't have it is about to ask for: that isn't in its balloon any longer."""
+        Of what its balloon leaves it, its page cache has what it has no other use for."""
         seats, its = self.seats, self.figures[guest]
-        seat, cached, unused = seats.seats[guest], self.cached[guest], int(self.unused[guest])
+        seat, cached = seats.seats[guest], self.cached[guest]
         its.pages, its.ballooned = seat.pages, seat.ballooned
-        its.ballooned_then = min(seat.ballooned, unused)
-        its.available = unused - its.ballooned_then
+        its.ballooned_then = seat.ballooned
+        its.available = max(int(self.unused[guest]) - seat.ballooned, 0)
         its.free = UNTOLD if cached is None else max(its.available - cached, 0)
         its.lent, its.asked = seats.lent(guest), seats.asked(guest)
         its.contact = self.contact(guest)
@@ -168,12 +167,13 @@ class Lender:
         """Does what follows of what has happened, until nothing follows any longer."""
         self.news = True
         for _ in range(MOST_ROUNDS):
-            took = self.take_all()
+            while self.take_all() or self.ask_all():
+                pass
             self.decide()
             movers = self.movers()
             for it in movers:
                 self.act(it)
-            if not took and not movers:
+            if not movers:
                 return
         raise Unclear("plan: the guests of a moment don't come to rest")
 
@@ -201,29 +201,35 @@ class Lender:
             self.seats.want(guest, self.targets[guest])
 
     def movers(self):
-        """Returns the guests that run, wait for nothing, and have another target than they read,
-        not what that says in their balloons, or fewer pages than they use."""
+        """Returns the guests that run, wait for nothing, and have another target than they read, or
+        not what that says in their balloons."""
         seats = self.seats
-        acts = (
-            (seats.read_number != seats.number)
-            | (seats.ballooned != seats.target)
-            | (seats.ballooned > self.unused)
-        )
+        acts = (seats.read_number != seats.number) | (seats.ballooned != seats.target)
         return (acts & self.runs & (seats.held == 0)).nonzero()[0].tolist()
 
     def act(self, guest):
         """A guest's driver reads its target. It gives pages up to that, or takes what is above
-        that, which is lent to it already. Where nothing is above that and it uses more than it has,
-        it asks for that."""
+        that, which is lent to it already."""
         self.seats.read(guest)
         report = self.seats.reports[guest]
-        above, lacking = report.ballooned - report.target, report.ballooned - self.unused[guest]
+        above = report.ballooned - report.target
         if above < 0:
             self.moved -= above
             self.seats.give(guest, -above)
-        elif above > 0 or lacking > 0:
-            self.ask(guest, above or int(lacking))
+        elif above > 0:
+            self.ask(guest, above)
         self.figure(guest)
+
+    def ask_all(self):
+        """Guests that use more than they have, and wait for nothing, ask for that: first for what
+        there is room for. Returns whether there are any."""
+        lack = self.runs & (self.seats.held == 0) & (self.seats.ballooned > self.unused)
+        lacking = lack.nonzero()[0].tolist()
+        for guest in lacking:
+            lacks = self.seats.reports[guest].ballooned - int(self.unused[guest])
+            self.ask(guest, min(lacks, self.seats.room()) or lacks)
+            self.figure(guest)
+        return bool(lacking)
 
     def take_all(self):
         """Guests take what they were granted, and newcomers start; returns whether any does."""

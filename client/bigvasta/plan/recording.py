@@ -33,7 +33,7 @@ class Guest:
             add_use(self.uses, self.uses[-1]._replace(seconds=self.pressed_until, pressed=False))
 
     def add(self, calls, line, used):
-        """Adds a line, by which it uses so many pages."""
+        """Adds a line, by which it uses this number of pages."""
         seconds = line.seconds()
         self.relax(seconds)
         self.pressed_until = self.stalls.hear(calls, line, seconds)
