@@ -1,11 +1,10 @@
 """What a host answers to its lines: each number of a guest whose process a test plays, which all
 differ, and those of the host as its status has them."""
 
-import re
 import time
 
-import linux_kit
 import pytest
+from kept import structs
 from linux_host import pairs
 from played import COUNTERS, Listens, Played
 from tenants import AVAILABLE, FREE
@@ -36,17 +35,11 @@ OF_HOST = {"frames": "budget", "floor": "floor", "short": "missing", "lent": "le
 COUNTED = ("looks", "above", "decisions", "changed", "shorts", "admitted", "refused", "gone")
 
 
-def names_of_counters():
-    """Returns the names of a backend's counters, in the order of their header."""
-    with open(f"{linux_kit.MONITOR}/backends/guest/counters.h", encoding="ascii") as header:
-        return re.findall(r"\bCOUNT\((\w+)\)", header.read().split("HINT_COUNTERS")[0])
-
-
 @pytest.fixture
 def played(lend, checked):
     """A host with a guest that reports this, and one that is absent; and what the counters of the
     first are, and what plays its process."""
-    lender, names = lend(1, *SELDOM, program=checked), names_of_counters()
+    lender, names = lend(1, *SELDOM, program=checked), [it for _, it in structs()["counters"]]
     assert len(names) == COUNTERS
     counted = {it: 1001 + number for number, it in enumerate(names)}
     listens = Listens(lender.folder, "a")
