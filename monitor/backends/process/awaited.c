@@ -38,6 +38,7 @@ bool awaited_begin(struct lent *lent, uint32_t pages)
         return false;
     lent->awaited = pages;
     lent->returns = 0;
+    lent->notes.reads = lent->notes.reads && pages == 0; /* its driver isn't there yet */
     return pages > 0;
 }
 

@@ -7,7 +7,7 @@ import os
 import pytest
 from bigvasta.connection import Connection
 from moving import ALL, EACH_WAY, WAYS, continues, with_pages
-from tenants import FREE, eventually
+from tenants import FREE, eventually, read_target
 from test_strict import GIVEN, lent
 from vhost_client import DEFLATE, FEATURES, HAS_PROTOCOL, INFLATE, PAGE, SET_FEATURES
 from vhost_demands import demand_served, word
@@ -48,10 +48,13 @@ def test_a_guest_comes_with_its_balloon(moving, crowded, lend, way):
     later."""
     source, client, bases, data = moving
     lender, other = crowded(ALL - GIVEN_UP)
+    read_target(other)  # no driver of this guest's obeys that
     assert comes(other, GIVEN_UP, ALL) == FINE
     is_lent = {"pages": ALL, "lent": ALL - GIVEN_UP, "ballooned": GIVEN_UP}
     lender.become("a", **is_lent, ready=0)
     lender = WAYS[way](lender, lend)
+    lender.become("a", ballooned=GIVEN_UP)
+    assert lender.guests()["a"]["lent"] == ALL - GIVEN_UP
     lender.set_budget(ALL + ALL - GIVEN_UP)
     lender.become("a", **is_lent, ready=0)
     assert load(other, data)
