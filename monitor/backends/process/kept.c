@@ -188,13 +188,14 @@ static void add(int files[MOST_KEPT_FILES], unsigned *count, int file)
 static void add_of_messages(const struct kept *kept, int files[MOST_KEPT_FILES], unsigned *count)
 {
     const struct kept_state *state = kept_state(kept);
-    const struct files *beside = &kept->inbox.message.files, behind = inbox_behind(&kept->inbox);
+    const struct files *beside = &kept->inbox.message.files,
+                       ahead = inbox_files_ahead(&kept->inbox);
     if (kept->inbox.number != state->messages)
         return;
     for (unsigned i = 0; state->outcome == UNHANDLED && i < beside->count && i < MOST_FILES; i++)
         add(files, count, beside->numbers[i]);
-    for (unsigned i = 0; i < behind.count; i++)
-        add(files, count, behind.numbers[i]);
+    for (unsigned i = 0; i < ahead.count; i++)
+        add(files, count, ahead.numbers[i]);
 }
 
 unsigned kept_files(const struct kept *kept, int files[MOST_KEPT_FILES])

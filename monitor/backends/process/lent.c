@@ -64,9 +64,9 @@ static void keep(struct backend *backend)
     kept_save((struct lent *)backend);
 }
 
-/* Serves the message that is whole in the inbox, which leaves that as this is kept, at the end of the
- * turn: until then another process finds what is left to do of it. Another process goes on with the
- * next message where the count of bytes is half used up. */
+/* Serves the message that is whole in the inbox, which leaves that as this is kept, at the end of
+ * the turn: until then another process finds what is left to do of it. Another process goes on with
+ * the next message where the count of bytes is half used up. */
 static bool serve_message(struct lent *lent)
 {
     struct inbox *inbox = &lent->kept->inbox;

@@ -18,18 +18,18 @@ static bool are_the_next_ones(const struct inbox *inbox)
 }
 
 /* Notes bytes that have come, and the files beside them. The bytes of the head are noted last: what
- * is behind a head counts once that is whole, and a process that goes on where this one ended
+ * comes after a head counts once that is whole, and a process that goes on where this one ended
  * before the last of these notes finds that the head's bytes lack alone. */
 static void note(struct inbox *inbox, size_t length)
 {
     struct message *message = &inbox->message;
-    size_t of_head = least(length, HEAD - inbox->got), behind = length - of_head, of_body = 0;
+    size_t of_head = least(length, HEAD - inbox->got), rest = length - of_head, of_body = 0;
     if (inbox->got + of_head == HEAD) {
         message->request = inbox->head[0];
         message->flags = inbox->head[1];
         message->size = inbox->head[2];
-        of_body = least(behind, message->size - least(inbox->got_body, message->size));
-        inbox->ahead = (uint32_t)(behind - of_body);
+        of_body = least(rest, message->size - least(inbox->got_body, message->size));
+        inbox->ahead = (uint32_t)(rest - of_body);
     }
     if (inbox->got + of_head < HEAD || !are_the_next_ones(inbox))
         files_take(&message->files);
@@ -62,8 +62,8 @@ enum stream_state inbox_read(int socket, struct inbox *inbox)
     return state;
 }
 
-/* The number is last: a process that finds the one before goes on from here. What is behind the
- * message stays where it is until the next read. */
+/* The number is last: a process that finds the one before goes on from here. What was read
+ * ahead stays where it is until the next read. */
 void inbox_next(struct inbox *inbox)
 {
     struct files *files = &inbox->message.files;
@@ -105,7 +105,7 @@ bool inbox_regain(struct inbox *inbox, uint64_t length)
     return true;
 }
 
-struct files inbox_behind(const struct inbox *inbox)
+struct files inbox_files_ahead(const struct inbox *inbox)
 {
     struct files files = {.beside = inbox->message.files.beside};
     if (inbox->got == HEAD && are_the_next_ones(inbox))
@@ -115,7 +115,7 @@ struct files inbox_behind(const struct inbox *inbox)
 
 void inbox_close(struct inbox *inbox)
 {
-    struct files behind = inbox_behind(inbox);
+    struct files ahead = inbox_files_ahead(inbox);
     files_close(&inbox->message.files);
-    files_close(&behind);
+    files_close(&ahead);
 }

@@ -11,7 +11,7 @@ enum { LEAST_BODY = 8 };
 struct inbox {
     struct message message; /* the next one: whole once inbox_read has said so */
     uint32_t head[3];
-    uint32_t ahead; /* once the head is whole: bytes behind the message that were read with it,
+    uint32_t ahead;       /* once the head is whole: bytes of the next one that were read with it,
                              which are in `body`; 0.3.0 has a gap of zeros here */
     size_t got, got_body; /* bytes of its head, and of its body */
     uint64_t number;      /* how many there were before */
@@ -36,8 +36,8 @@ size_t inbox_length(const struct inbox *inbox);
 size_t inbox_bytes(const struct inbox *inbox);
 bool inbox_is_whole(const struct inbox *inbox);
 
-/* The files that came with the bytes behind a message. */
-struct files inbox_behind(const struct inbox *inbox);
+/* The files that came with bytes of the message after this one. */
+struct files inbox_files_ahead(const struct inbox *inbox);
 
 /* Closes all files that nobody took. */
 void inbox_close(struct inbox *inbox);

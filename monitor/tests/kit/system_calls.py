@@ -1,6 +1,6 @@
 """The system calls that a process makes, in their order, by ptrace: `python3 system_calls.py PID`
-writes a line of each with its first three arguments, until it is told to end. With a number behind
-it kills the process where so many calls have begun or ended."""
+writes a line of each with its first three arguments, until it is told to end. `PID N` kills the
+process at the nth place: each call has one as it begins, and one as it ends."""
 
 import collections
 import contextlib

@@ -158,7 +158,7 @@ REAL(void, outbox_regain, struct outbox *outbox)
 REAL(bool, inbox_regain, struct inbox *inbox, uint64_t length)
 {
     bool regained = __real_inbox_regain(inbox, is("lost-bytes") ? 0 : length);
-    if (length > 0 && inbox_behind(inbox).count == 0)
+    if (length > 0 && inbox_files_ahead(inbox).count == 0)
         files_take(&inbox->message.files);
     return regained;
 }

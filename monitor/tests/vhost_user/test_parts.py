@@ -1,5 +1,5 @@
 """Tests of messages whose bytes come in parts, or several at once, and of files beside them: what
-is behind a message is the next one's, whatever was read at once."""
+comes after a message is the next one's, whatever was read at once."""
 
 import array
 import contextlib
@@ -13,20 +13,16 @@ import termios
 import pytest
 from vhost_client import (
     DEFLATE,
-    FEATURES,
     GET_FEATURES,
     GET_PROTOCOL_FEATURES,
     GET_QUEUE_NUM,
     INFLATE,
     OFFERED,
     SET_BACKEND_REQ_FD,
-    SET_OWNER,
     SET_PROTOCOL_FEATURES,
     SET_VRING_ADDR,
     SET_VRING_BASE,
     SET_VRING_CALL,
-    SET_VRING_NUM,
-    VRING_KICK,
 )
 from vhost_demands import demand_refused, word
 from waiting import eventually
@@ -128,7 +124,7 @@ def test_messages_in_one_write(client):
 
 
 def test_each_byte_by_itself(client):
-    """Also of the message behind one without a body."""
+    """Also of the message after one without a body."""
     for it in GETS + ADDRESSES + GETS:
         put(client, bytes([it])), is_read(client)
     is_accepted(client, GET_QUEUE_NUM, struct.pack("<Q", 5))
@@ -136,7 +132,7 @@ def test_each_byte_by_itself(client):
     is_accepted(client, GET_QUEUE_NUM, struct.pack("<Q", 5))
 
 
-def test_files_of_the_message_behind(client, event):
+def test_files_of_the_next_message(client, event):
     """They were read with the one before, which has no body and no file."""
     for _ in range(3):
         with at_once(client):
@@ -146,7 +142,7 @@ def test_files_of_the_message_behind(client, event):
         is_accepted(client, GET_QUEUE_NUM, struct.pack("<Q", 5))
 
 
-def test_more_files_than_a_message_may_have_behind_another_one(serve, event):
+def test_more_files_than_the_next_message_may_have(serve, event):
     client = serve()
     client.accepted(SET_PROTOCOL_FEATURES, word(OFFERED))
     with at_once(client):
