@@ -16,7 +16,7 @@ CONTROL, STATUS = "/run/bigvasta/.control", "/run/bigvasta-status/socket"
 
 # Seconds in which a host has to answer; and bytes: the most of an answer, and of one read.
 LIMIT = 10.0
-MOST_ANSWER, MOST_READ = 1 << 20, 1 << 16
+MOST_ANSWER, MOST_READ = 1 << 22, 1 << 16
 
 # Requests that change nothing; characters of a user's name.
 SHOWS, MOST_NAME = ("status", "log", "events", "changes", "config"), 64

@@ -1,7 +1,8 @@
 /* The lender of a host of many guests: it lends them more memory than it has, and their balloons
  * give back what is missing.
  *
- *     vhost_user_host FOLDER --budget MIB [--floor MIB] [--period MS] [--step N] [--strict]
+ *     vhost_user_host FOLDER --budget MIB [--guests N] [--floor MIB] [--period MS] [--step N]
+ *                     [--strict]
  *                     [--strict-pages] [--events] [--features HEX] [--lines N] [--program PATH]
  *                     [--no-sandbox] [--end-with-lender] [--config FILE] [--state FOLDER]
  *                     [--check FILE] [--control PATH]
@@ -47,6 +48,7 @@
  * --log-level: error, warning, notice, info (as it is) or
  * debug.
  *
+ * --guests: how many guests there may be (64), 1024 at most.
  * --reserve: percent of its pages that each guest keeps of its page cache as long as others have
  * any (5).
  * --overdraft: pages above the budget that are lent where all guests wait for each other (0).
@@ -123,6 +125,14 @@ static bool read_period(const char *word, void *at)
     return read;
 }
 
+static bool read_guests(const char *word, void *at)
+{
+    uint64_t number;
+    bool read = read_number(word, 10, MOST_GUESTS, &number) && number > 0;
+    *(unsigned *)at = read ? (unsigned)number : *(unsigned *)at;
+    return read;
+}
+
 static bool read_patience(const char *word, void *at)
 {
     return !word_read(WORD_SECONDS, word, at);
@@ -157,7 +167,8 @@ static void take_config(struct host *host, const struct config *config)
 }
 
 static const char help[] =
-    "vhost_user_host FOLDER --budget MIB [--keep MIB] [--lowest-budget MIB] [--machine FOLDER] "
+    "vhost_user_host FOLDER --budget MIB [--guests N] [--keep MIB] [--lowest-budget MIB] "
+    "[--machine FOLDER] "
     "[--floor MIB] [--period MS] [--step N] "
     "[--reserve PERCENT] [--overdraft PAGES] [--patience SECONDS] [--on-short PATH] [--cost MS] "
     "[--strict] [--strict-pages] [--events] "
@@ -173,6 +184,7 @@ static enum command_line read_words(struct host *host, struct service *service, 
 {
     const struct option_row rows[] = {
         {"budget", .read = read_mebibytes, .at = &host->budget},
+        {"guests", .read = read_guests, .at = &host->most},
         {"keep", .read = read_mebibytes, .at = &host->machine.keep},
         {"lowest-budget", .read = read_mebibytes, .at = &host->machine.lowest},
         {"machine", .read = read_word, .at = &host->machine.folder},
@@ -198,6 +210,7 @@ static enum command_line read_words(struct host *host, struct service *service, 
         {"version", .answer = "vhost_user_host " VB_VERSION},
         {0}};
     host->features = USUAL_FEATURES;
+    host->most = USUAL_GUESTS;
     host->cost = COST;
     host->step = host->floor = host->reserve = host->lends.overdraft = UINT32_MAX;
     host->machine.keep = host->machine.lowest = UINT32_MAX;
@@ -305,11 +318,11 @@ int main(int count, char **words)
         return line == LINE_WRONG ? 2 : 0;
     if (service.checks)
         return !settings_check(&service.settings, service.checks, &host);
-    process_allow_files(FILES_OF_LENDER + MOST_GUESTS * FILES_OF_SEAT +
+    process_allow_files(FILES_OF_LENDER + host.most * FILES_OF_SEAT +
                         CONTROL_SOCKETS * MOST_CONTROL_CLIENTS);
-    if (!can_seat() || !can_overdraw(&host) || !can_be_shown(host.folder) ||
-        !can_offer(host.features) || !find_program(&host) || !folder_lock(&host) ||
-        !answers_begin(&host.answers))
+    if (!host_make_tables(&host, host.most) || !can_seat() || !can_overdraw(&host) ||
+        !can_be_shown(host.folder) || !can_offer(host.features) || !find_program(&host) ||
+        !folder_lock(&host) || !answers_begin(&host.answers))
         return 2;
     folder_take_over(&host);
     if (!service_begin(&service, &host, host.folder))

@@ -1,6 +1,7 @@
 #include "loop.h"
 
 #include <limits.h>
+#include <stdlib.h>
 #include <time.h>
 
 static struct timespec read_clock(clockid_t clock)
@@ -37,16 +38,27 @@ bool loop_add(struct loop *loop, struct loop_part part)
     if (loop->part_count == MOST_PARTS)
         return false;
     loop->parts[loop->part_count++] = part;
+    if (loop->room == 0) {
+        loop->files = loop->few, loop->served_by = loop->few_served_by;
+        loop->room = FEW_POLLED;
+    }
     return true;
+}
+
+bool loop_reserve(struct loop *loop, nfds_t files)
+{
+    loop->files = calloc(files, sizeof loop->files[0]);
+    loop->served_by = calloc(files, sizeof loop->served_by[0]);
+    loop->room = files;
+    return loop->files && loop->served_by;
 }
 
 void loop_wait_for(struct loop *loop, int file, short events, loop_serve *serve, void *context)
 {
-    if (file < 0 || loop->count == MOST_POLLED)
+    if (file < 0 || loop->count == loop->room)
         return;
     loop->files[loop->count] = (struct pollfd){file, events, 0};
-    loop->served_by[loop->count].serve = serve;
-    loop->served_by[loop->count++].context = context;
+    loop->served_by[loop->count++] = (struct loop_server){serve, context};
 }
 
 void loop_wait_until(struct loop *loop, int64_t moment)

@@ -11,7 +11,7 @@
  * on. */
 enum { LOOP_FAULT = -1, LOOP_ENDS, LOOP_GOES_ON };
 
-enum { MOST_PARTS = 4 };
+enum { MOST_PARTS = 4, FEW_POLLED = 64 };
 
 struct loop;
 
@@ -25,15 +25,20 @@ struct loop_part {
         void *context); /* what each turn does after what came was served, as above; or NULL */
 };
 
+/* What serves a file. */
+struct loop_server {
+    loop_serve *serve;
+    void *context;
+};
+
 struct loop {
     struct loop_part parts[MOST_PARTS];
     unsigned part_count;
+    /* Files for which there is room: FEW_POLLED, where loop_reserve has made no other one. */
+    struct pollfd *files, few[FEW_POLLED];
+    struct loop_server *served_by, few_served_by[FEW_POLLED];
+    nfds_t room;
     /* Of this turn. */
-    struct pollfd files[MOST_POLLED];
-    struct {
-        loop_serve *serve;
-        void *context;
-    } served_by[MOST_POLLED];
     nfds_t count;
     int64_t until;
     int came;       /* files of which something has come; negative: it couldn't wait */
@@ -49,8 +54,11 @@ double loop_processor_seconds(void);
 /* Takes one more part, before the loop runs; false where there is no room. */
 bool loop_add(struct loop *loop, struct loop_part part);
 
-/* While a part says what it waits for: a file, which may be -1, of MOST_POLLED in all; and a
- * moment, by loop_now(). */
+/* Makes room for this many files, once, before the loop runs; false where there is no memory. */
+bool loop_reserve(struct loop *loop, nfds_t files);
+
+/* While a part says what it waits for: a file, which may be -1, of those for which there is room;
+ * and a moment, by loop_now(). */
 void loop_wait_for(struct loop *loop, int file, short events, loop_serve *serve, void *context);
 void loop_wait_until(struct loop *loop, int64_t moment);
 

@@ -123,23 +123,14 @@ bool process_took_reload(int file)
 
 int poll_some(struct pollfd *files, nfds_t count, int limit)
 {
-    struct pollfd some[MOST_POLLED];
-    nfds_t asked = 0, number = 0;
-    for (nfds_t i = 0; i < count; i++)
-        if (files[i].fd >= 0)
-            some[asked++] = files[i];
-    int found = poll(some, asked, limit);
+    int found = poll(files, count, limit);
     bool waited = found >= 0 || errno == EINTR;
     if (!waited) {
         complain("files can't be waited for: %s", strerror(errno));
         poll(NULL, 0, REST);
     }
-    for (nfds_t i = 0; i < count; i++)
-        if (files[i].fd >= 0)
-            files[i].revents = some[number++].revents;
-    for (nfds_t i = 0; i < count; i++)
-        if (found < 0 || files[i].fd < 0)
-            files[i].revents = 0;
+    for (nfds_t i = 0; found < 0 && i < count; i++)
+        files[i].revents = 0;
     return found;
 }
 

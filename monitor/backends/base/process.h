@@ -42,11 +42,8 @@ pid_t process_peer(int connection);
  * is said. */
 int process_accept(int listener);
 
-/* The most files that poll_some waits for at once. */
-enum { MOST_POLLED = 1024 };
-
-/* As poll, for at most MOST_POLLED files of which some may be -1, whatever RLIMIT_NOFILE is. Where
- * it can't wait, which is said, it comes back after a while, and nothing has come. */
+/* As poll, of files that are open. Where it can't wait, which is said, it comes back after a while,
+ * and nothing has come. */
 int poll_some(struct pollfd *files, nfds_t count, int limit);
 
 /* Set once the process can't open files any longer. */

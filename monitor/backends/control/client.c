@@ -10,6 +10,8 @@
 /* Digits of a number with a fraction. */
 enum { MOST_DIGITS = 15 };
 
+size_t most_unread;
+
 struct control_client *client_new(int socket, enum control_rights rights)
 {
     struct control_client *client = calloc(1, sizeof *client);
@@ -53,9 +55,9 @@ static bool make_room(struct control_client *client, size_t length)
     size_t wanted = client->unread_bytes + length;
     if (wanted <= client->unread_room)
         return true;
-    if (wanted > MOST_UNREAD)
+    if (wanted > most_unread)
         return false;
-    size_t room = wanted * 2 < MOST_UNREAD ? wanted * 2 : MOST_UNREAD;
+    size_t room = wanted * 2 < most_unread ? wanted * 2 : most_unread;
     char *unread = realloc(client->unread, room);
     if (!unread)
         return false;

@@ -5,6 +5,7 @@
 #include "../settings/config.h"
 
 #include <stdbool.h>
+#include <stddef.h>
 #include <stdint.h>
 #include <sys/types.h>
 
@@ -12,16 +13,19 @@ struct host;
 struct settings;
 
 /* The version of the protocol; the most bytes of a request with its end of line, and of what a
- * client hasn't read; the most clients of a socket. */
+ * client hasn't read for each guest that there may be; the most clients of a socket. */
 enum {
     CONTROL_VERSION = 1,
     MOST_REQUEST = 4096,
-    MOST_UNREAD = 256 << 10,
+    UNREAD_OF_GUEST = 4096,
     MOST_CONTROL_CLIENTS = 256
 };
 
 /* Seconds after which no more requests are answered in a turn, and no more events told. */
 #define CONTROL_SECONDS 0.001
+
+/* The most bytes that a client hasn't read: one that leaves more isn't served any longer. */
+extern size_t most_unread;
 
 struct control_options {
     const char *path; /* of the socket */

@@ -15,8 +15,8 @@
 #include <string.h>
 #include <time.h>
 
-/* Decisions that are told at a look; the most guests. */
-enum { MOST_DECISIONS_OF_LOOK = 16, MOST_SEEN = MOST_GUESTS };
+/* Decisions that are told at a look. */
+enum { MOST_DECISIONS_OF_LOOK = 16 };
 
 /* What a guest was at the last look. */
 struct seen {
@@ -35,8 +35,8 @@ struct events {
     bool is_short;
     uint32_t budget;
     unsigned next_guest; /* at which the next look begins */
-    unsigned count;
-    struct seen seen[MOST_SEEN];
+    unsigned count, room;
+    struct seen *seen;
 };
 
 /* A look: its first event, and until when it tells more. */
@@ -49,6 +49,13 @@ struct look {
 struct events *events_new(void)
 {
     return calloc(1, sizeof(struct events));
+}
+
+void events_free(struct events *events)
+{
+    if (events)
+        free(events->seen);
+    free(events);
 }
 
 uint64_t events_next(const struct control *control)
@@ -78,20 +85,39 @@ static void tell(struct control *control, const char *event, const char *guest)
     tell_more(control, event, guest, json_object());
 }
 
-static struct seen *seen_of(struct events *events, const char *name)
+/* What was seen of the guest of this name, most likely at this place; NULL where nothing was. */
+static struct seen *seen_of(struct events *events, const char *name, unsigned place)
 {
+    if (place < events->count && !strcmp(events->seen[place].name, name))
+        return &events->seen[place];
     for (unsigned i = 0; i < events->count; i++)
         if (!strcmp(events->seen[i].name, name))
             return &events->seen[i];
     return NULL;
 }
 
+/* Makes room for one more guest; false where there is no memory. */
+static bool make_room(struct events *events)
+{
+    enum { LEAST_ROOM = 16 };
+    unsigned room = events->room > 0 ? 2 * events->room : LEAST_ROOM;
+    if (events->count < events->room)
+        return true;
+    struct seen *seen = realloc(events->seen, room * sizeof seen[0]);
+    if (!seen)
+        return false;
+    events->seen = seen;
+    events->room = room;
+    return true;
+}
+
 /* What was seen of a guest, which may be new. */
-static struct seen *seen_or_new(struct control *control, const struct guest_view *guest)
+static struct seen *seen_or_new(struct control *control, const struct guest_view *guest,
+                                unsigned place)
 {
     struct events *events = control->events;
-    struct seen *seen = seen_of(events, guest->name);
-    if (seen || events->count == MOST_SEEN)
+    struct seen *seen = seen_of(events, guest->name, place);
+    if (seen || !make_room(events))
         return seen;
     seen = &events->seen[events->count++];
     *seen =
@@ -153,9 +179,9 @@ static void tell_manners(struct control *control, const struct seen *seen,
         tell(control, guest->answers ? "answers" : "silent", guest->name);
 }
 
-static void look_at_guest(struct control *control, const struct guest_view *guest)
+static void look_at_guest(struct control *control, const struct guest_view *guest, unsigned place)
 {
-    struct seen *seen = seen_or_new(control, guest);
+    struct seen *seen = seen_or_new(control, guest, place);
     if (!seen)
         return;
     if (guest->refusals > seen->refusals)
@@ -224,11 +250,11 @@ static void look_at_guests(struct control *control, const struct host *host,
     for (unsigned i = 0; i < count; i++) {
         struct guest_view guest;
         host_see_guest(host, i, &guest);
-        struct seen *seen = seen_of(look->events, guest.name);
+        struct seen *seen = seen_of(look->events, guest.name, i);
         if (seen)
             seen->here = true;
         if (i == *next && may_tell(look)) {
-            look_at_guest(control, &guest);
+            look_at_guest(control, &guest, i);
             ++*next;
         }
     }

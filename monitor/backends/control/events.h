@@ -4,8 +4,9 @@
 #define CONTROL_EVENTS_H
 #include "control.h"
 
-/* What was seen at the last look; NULL where there is no memory. */
+/* What was seen at the last look; NULL where there is no memory. And its end, where there is any. */
 struct events *events_new(void);
+void events_free(struct events *events);
 
 /* The number of the next event. */
 uint64_t events_next(const struct control *control);

@@ -81,7 +81,7 @@ void control_close(struct control *control)
         close_socket(&control->sockets[i]);
     if (control->waits >= 0)
         file_close(control->waits);
-    free(control->events);
+    events_free(control->events);
     followers_forget(&control->followers);
     free(control->status.text);
     control->status = (struct made_status){0};

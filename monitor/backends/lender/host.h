@@ -17,9 +17,10 @@
 #include <stdio.h>
 
 enum {
-    /* Of guests, also of those that are leaving, and of memory that is added to each; and of pages
-     * that return to one. */
-    MOST_PLACES = 4 * MOST_GUESTS + 1,
+    /* Of a guest, also of one that is leaving, and of memory that is added to each; and one of
+     * pages that return to a guest. */
+    PLACES_OF_GUEST = 4,
+    MOST_PLACES = PLACES_OF_GUEST * MOST_GUESTS + 1,
     MOST_PATH = 108, /* of a socket's */
     /* questions without statistics, and a guest counts as one that doesn't answer */
     SILENT_AFTER = 3,
@@ -118,6 +119,7 @@ struct seat {
     struct ask ask;        /* what its process has asked for last */
     uint64_t asks;         /* how many asks there were: the number of the last one */
     uint64_t granted_asks; /* the number of the last grant that was noted */
+    uint32_t lent;    /* frames that were lent to it as what a step made of it was looked at last */
     uint64_t granted; /* frames that were lent to it since it came, as it asked for them or was told
                          to take them */
     uint64_t told, told_by; /* the number of the last target that was sent, and that of the first
@@ -206,13 +208,14 @@ struct host {
     uint32_t patience;    /* seconds for which a shortage lasts until the operator is told, and for
                              which the first that waits to come keeps others waiting */
     const char *on_short; /* the command that is run then; NULL or empty: none */
-    VbSeat places[MOST_PLACES];
+    unsigned most;        /* guests that there may be, and as many that are leaving */
+    VbSeat *places;
     size_t place_count; /* how many are, or were, somebody's */
     bool strict, strict_pages, events, no_sandbox, end_with_lender;
-    struct seat *seats[MOST_GUESTS];
+    struct seat **seats;
     unsigned count;
     /* seats that were taken away, whose processes haven't ended yet */
-    struct seat *leaving[MOST_GUESTS];
+    struct seat **leaving;
     unsigned leaving_count;
     uint32_t budget; /* pages: what the operator says, the most that there is for guests */
     struct machine machine;
@@ -246,8 +249,7 @@ struct host {
     uint32_t tier;
     uint64_t looks_asked; /* the number of the last order to look */
     struct host_counters counters;
-    /* the last ones: decision n has its place at n % MOST_DECISIONS */
-    struct decision log[MOST_DECISIONS];
+    struct journal journal;
     uint64_t printed; /* how many decisions `log` has printed or lost */
     struct input input;
     struct answers answers;
@@ -264,6 +266,13 @@ void host_changed(struct host *host, enum reason reason);
 
 /* Serves until a line or a signal says to quit or to leave. */
 void host_run(struct host *host);
+
+/* ---- tables.c */
+
+/* Makes the tables of a host of this many guests; false, which is said, where there is no
+ * memory. And the places that so many have. */
+bool host_make_tables(struct host *host, unsigned guests);
+size_t places_of(unsigned guests);
 
 /* ---- folder.c */
 
@@ -415,6 +424,10 @@ void pressure_hears(struct seat *seat);
 bool seat_is_pressed(const struct seat *seat);
 
 /* ---- policy.c */
+
+/* Makes room for what is known of this many guests, and of those that leave; false where there is
+ * no memory. */
+bool policy_make(unsigned guests);
 
 /* What a guest can spare now. */
 uint32_t policy_spare(const struct seat *seat);

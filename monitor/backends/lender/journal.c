@@ -2,10 +2,26 @@
 #include "host.h"
 
 #include <inttypes.h>
+#include <stdlib.h>
+
+bool journal_make(struct journal *journal, unsigned shares)
+{
+    unsigned room = MOST_SHARES / shares;
+    *journal = (struct journal){.most = room < MOST_DECISIONS ? room : MOST_DECISIONS,
+                                .most_shares = shares};
+    journal->decisions = calloc(journal->most, sizeof journal->decisions[0]);
+    journal->shares = calloc((size_t)journal->most * shares, sizeof journal->shares[0]);
+    return journal->decisions && journal->shares;
+}
 
 void journal_add(struct host *host, const struct decision *decision)
 {
-    host->log[host->counters.decisions++ % MOST_DECISIONS] = *decision;
+    struct journal *journal = &host->journal;
+    size_t place = host->counters.decisions++ % journal->most;
+    struct share *shares = journal->shares + place * journal->most_shares;
+    memcpy(shares, decision->shares, decision->count * sizeof shares[0]);
+    journal->decisions[place] = *decision;
+    journal->decisions[place].shares = shares;
 }
 
 const char *reason_word(enum reason reason)
@@ -36,13 +52,13 @@ const char *tier_word(uint32_t tier)
 uint64_t journal_begin(const struct host *host)
 {
     uint64_t end = host->counters.decisions;
-    return end > MOST_DECISIONS ? end - MOST_DECISIONS : 0;
+    return end > host->journal.most ? end - host->journal.most : 0;
 }
 
 const struct decision *journal_at(const struct host *host, uint64_t number)
 {
     bool is_kept = number >= journal_begin(host) && number < host->counters.decisions;
-    return is_kept ? &host->log[number % MOST_DECISIONS] : NULL;
+    return is_kept ? &host->journal.decisions[number % host->journal.most] : NULL;
 }
 
 static const char *bound_word(enum bound bound)

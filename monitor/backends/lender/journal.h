@@ -8,9 +8,12 @@
 struct host;
 
 enum {
-    MOST_GUESTS = 64,
-    MOST_NAME = 32,       /* bytes of a name, with its end */
-    MOST_DECISIONS = 512, /* that are kept */
+    USUAL_GUESTS = 64,
+    MOST_GUESTS = 1024,
+    MOST_NAME = 32, /* bytes of a name, with its end */
+    /* decisions that are kept: as many as there is room for with each guest's share, and no more */
+    MOST_SHARES = 1 << 16,
+    MOST_DECISIONS = 512,
 };
 
 enum reason { BY_GUESTS, BY_BUDGET, BY_SPARE, BY_MISSING, BY_PRESSURE };
@@ -35,8 +38,17 @@ struct decision {
         [MOST_NAME]; /* BY_SPARE: the guest that is asked for more than it can spare; BY_PRESSURE:
                             the pressed one that gets pages back */
     unsigned count;
-    struct share shares[2 * MOST_GUESTS];
+    const struct share *shares;
 };
+
+struct journal {
+    struct decision *decisions; /* decision n has its place at n % most */
+    struct share *shares;       /* of each place */
+    unsigned most, most_shares; /* decisions; shares of one */
+};
+
+/* Makes room for decisions about up to `shares` guests; false where there is no memory. */
+bool journal_make(struct journal *journal, unsigned shares);
 
 const char *reason_word(enum reason reason);
 

@@ -135,9 +135,10 @@ void limits_follow(struct host *host)
 {
     for (unsigned i = 0; i < host->count; i++) {
         struct seat *seat = host->seats[i];
+        if (!is_limited(seat) || seat->writer.waits)
+            continue;
         uint64_t frames = frames_wanted(seat);
-        if (!is_limited(seat) || seat->writer.waits || seat->writer.asked == frames ||
-            loop_now() < seat->writer.again_at)
+        if (seat->writer.asked == frames || loop_now() < seat->writer.again_at)
             continue;
         speaker_begins(&seat->speaker);
         ask_writer(seat, frames);

@@ -22,11 +22,6 @@ enum {
     STARTS_AHEAD = 64
 };
 
-/* Files that are waited for: of each guest, also of one that leaves, of the service, of lines. */
-enum { OF_SEAT = 4, OF_SERVICE = 2, OF_LINES = 4 };
-_Static_assert(2 * MOST_GUESTS * OF_SEAT + OF_SERVICE + OF_LINES <= (int)MOST_POLLED,
-               "files of a lender");
-
 void host_changed(struct host *host, enum reason reason)
 {
     host->anew = host->news = true;
@@ -165,13 +160,13 @@ static int64_t latest(int64_t one, int64_t other)
 
 /* Waits for a guest's client or process, and for the writer of its limit. A process that ends
  * closes its channel: whether one has ended and has not is looked at once a period. */
-static void wait_for_seat(struct seat *seat)
+static void wait_for_seat(struct seat *seat, int64_t now)
 {
     struct loop *loop = &seat->host->loop;
     int64_t host_comes_at = latest(seat->host->rests_until,
                                    seat->host->paid_until - (int64_t)STARTS_AHEAD * START_EVERY);
     int64_t comes_at = latest(latest(seat->comes_at, seat_has_paid(seat)), host_comes_at);
-    bool waits = !seat->here && seat->listener >= 0, comes = comes_at <= loop_now();
+    bool waits = !seat->here && seat->listener >= 0, comes = comes_at <= now;
     loop_wait_for(loop, seat->writer.channel, POLLIN, take_limit, seat);
     loop_wait_for(loop, waits && comes ? seat->listener : -1, POLLIN, take_client, seat);
     loop_wait_for(loop, seat->channel < 0 || seat->host->looked ? seat->process_file : -1, POLLIN,
@@ -218,8 +213,9 @@ static void wait_for_seats(void *context, struct loop *loop)
     host->processor_at = processor;
     limits_follow(host);
     unsigned first = first_read(host), count = count_seats(host);
+    int64_t now = loop_now();
     for (unsigned i = 0; i < count; i++)
-        wait_for_seat(seat_at(host, (first + i) % count));
+        wait_for_seat(seat_at(host, (first + i) % count), now);
     host->looked = false;
 }
 

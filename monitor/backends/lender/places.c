@@ -47,11 +47,21 @@ static void note_grant(struct seat *seat)
     host->news = true;
 }
 
-/* Notes and sends what a step has made of a guest, which was lent `before` frames. */
-static void follow_step(struct seat *seat, uint32_t before)
+/* Whether a step may have changed a guest: all but the one of its event by a grant, or by another
+ * target. */
+static bool may_have_changed(const struct seat *seat, size_t guest)
 {
     const VbSeat *its = place_of(seat);
-    uint32_t lent = seat_lent(seat);
+    return seat->place == guest || seat->added != NO_PLACE || its->granted != seat->granted_asks ||
+           its->target_number != seat->told;
+}
+
+/* Notes and sends what a step has made of a guest. */
+static void follow_step(struct seat *seat)
+{
+    const VbSeat *its = place_of(seat);
+    uint32_t lent = seat_lent(seat), before = seat->lent;
+    seat->lent = lent;
     if (seat->holds && lent > before)
         seat->granted += lent - before;
     if (seat->holds && its->granted != seat->granted_asks)
@@ -64,19 +74,18 @@ static void join(struct seat *seat);
 
 void places_step(struct host *host, VbHostEvent event)
 {
-    uint32_t before[2 * MOST_GUESTS] = {0};
     struct seat *seat;
-    for (unsigned i = 0; (seat = seat_at(host, i)); i++)
-        before[i] = seat_lent(seat);
     uint32_t code = vb_host_step(&host->lends, host->places, host->place_count, &event);
     if (code != VB_OK) {
         complain("the lender's step refuses event %u: %u", event.kind, code);
         abort();
     }
     for (unsigned i = 0; (seat = seat_at(host, i)); i++)
-        follow_step(seat, before[i]);
+        if (may_have_changed(seat, event.guest))
+            follow_step(seat);
     for (unsigned i = 0; (seat = seat_at(host, i)); i++)
-        join(seat);
+        if (seat->added != NO_PLACE)
+            join(seat);
 }
 
 /* Nobody has any memory there any longer. */
@@ -107,7 +116,7 @@ static void join(struct seat *seat)
 {
     struct host *host = seat->host;
     size_t added = seat->added;
-    if (added == NO_PLACE || host->places[added].granted == 0)
+    if (host->places[added].granted == 0)
         return;
     host->counters.grants++;
     places_step(host, (VbHostEvent){.kind = VB_JOINS, .guest = seat->place, .added = added});

@@ -3,22 +3,47 @@
 #include "measures.h"
 #include "places.h"
 
+#include <stdlib.h>
+
 enum {
     FREE_MEMORY = 4, /* the tags (VIRTIO 1.1, 5.5.6.3) */
     AVAILABLE_MEMORY = 6,
     SLACK_PART = 8, /* this part of the floor is too little to change a target for */
     BAND = 35,      /* percent: who has less than this of its part gets its part */
     PAUSE = 2000,   /* milliseconds in which a guest that took pages itself is asked for no more */
-    MOST_KNOWN = 2 * MOST_GUESTS,
 };
 
 /* The guests, in the order of their seats, and those that are leaving after them. */
 struct guests {
     unsigned count;
-    struct seat *seats[MOST_KNOWN];
-    VbFigures figures[MOST_KNOWN];
-    uint32_t targets[MOST_KNOWN];
+    struct seat **seats;
+    VbFigures *figures;
+    uint32_t *targets;
 };
+
+/* Those that are decided on; those that would be with a newcomer; and what is worked with. */
+static struct guests decided, asked;
+static VbPolicyRoom *rooms;
+static struct share *shares;
+static VbSeat *seats_then;
+
+static bool make_guests(struct guests *guests, unsigned count)
+{
+    guests->seats = calloc(count, sizeof(struct seat *));
+    guests->figures = calloc(count, sizeof guests->figures[0]);
+    guests->targets = calloc(count, sizeof guests->targets[0]);
+    return guests->seats && guests->figures && guests->targets;
+}
+
+bool policy_make(unsigned guests)
+{
+    unsigned known = 2 * guests;
+    rooms = calloc(known, sizeof rooms[0]);
+    shares = calloc(known, sizeof shares[0]);
+    seats_then = calloc(places_of(guests), sizeof seats_then[0]);
+    return make_guests(&decided, known) && make_guests(&asked, known) && rooms && shares &&
+           seats_then;
+}
 
 /* Whether its statistics say what it can spare. */
 static bool is_heard(const struct seat *seat)
@@ -118,19 +143,18 @@ void policy_hears(struct seat *seat)
 
 struct demand policy_demand(const struct host *host)
 {
-    static VbSeat seats[MOST_PLACES];
     VbPolicyBudget budget = budget_of(host);
     struct demand demand = {0, 0};
-    memcpy(seats, host->places, host->place_count * sizeof seats[0]);
+    memcpy(seats_then, host->places, host->place_count * sizeof seats_then[0]);
     for (unsigned i = 0; i < host->count; i++) {
         VbFigures figures = figures_of(host->seats[i]);
-        VbSeat *its = &seats[host->seats[i]->place];
+        VbSeat *its = &seats_then[host->seats[i]->place];
         uint32_t wants = vb_policy_wants(&budget, &figures);
         demand.wanted += wants;
         if (its->held > 0)
             its->held += smaller(wants - smaller(wants, figures.asked), UINT32_MAX - its->held);
     }
-    demand.least_budget = vb_host_least_budget(seats, host->place_count);
+    demand.least_budget = vb_host_least_budget(seats_then, host->place_count);
     return demand;
 }
 
@@ -180,7 +204,6 @@ static void collect(const struct host *host, const struct seat *except, struct g
 
 static VbDecision share_out(struct guests *guests, const struct host *host)
 {
-    static VbPolicyRoom rooms[MOST_KNOWN];
     VbPolicyBudget budget = budget_of(host);
     unsigned count = guests->count;
     return vb_policy_decide(&budget, guests->figures, count, rooms, count, guests->targets, count);
@@ -188,11 +211,10 @@ static VbDecision share_out(struct guests *guests, const struct host *host)
 
 uint64_t policy_lacks(struct host *host, const struct seat *newcomer, uint32_t pages)
 {
-    static struct guests guests;
-    collect(host, newcomer, &guests);
-    add(&guests, (struct seat *)newcomer,
+    collect(host, newcomer, &asked);
+    add(&asked, (struct seat *)newcomer,
         (VbFigures){.pages = pages, .most = UINT32_MAX, .contact = VB_CONTACT_STARTS});
-    return share_out(&guests, host).missing;
+    return share_out(&asked, host).missing;
 }
 
 /* The first guest that is asked for more than it can spare; or, where `pressed` is set, that is
@@ -221,16 +243,16 @@ static void explain(const struct host *host, struct decision *decision)
 
 static void note(struct host *host, const struct guests *guests, VbDecision is)
 {
-    static struct decision decision;
-    decision = (struct decision){.at = loop_now(),
-                                 .frames = host->frames,
-                                 .floor = host->floor,
-                                 .tier = is.tier,
-                                 .missing = is.missing,
-                                 .count = guests->count};
+    struct decision decision = {.at = loop_now(),
+                                .frames = host->frames,
+                                .floor = host->floor,
+                                .tier = is.tier,
+                                .missing = is.missing,
+                                .count = guests->count,
+                                .shares = shares};
     for (unsigned i = 0; i < guests->count; i++) {
         const struct seat *seat = guests->seats[i];
-        struct share *share = &decision.shares[i];
+        struct share *share = &shares[i];
         strcpy(share->name, seat->name);
         share->tiers = tiers_of(host, &guests->figures[i]);
         share->bound = bound_of(seat);
@@ -278,21 +300,20 @@ static void end_hands(const struct host *host)
 
 static void decide(struct host *host)
 {
-    static struct guests guests;
     if (host_awaits(host))
         return;
     host->news = false;
     if (host->anew)
         end_hands(host);
-    collect(host, NULL, &guests);
-    VbDecision is = share_out(&guests, host);
-    if (host->anew || is.missing != host->missing || changes(&guests))
-        note(host, &guests, is);
+    collect(host, NULL, &decided);
+    VbDecision is = share_out(&decided, host);
+    if (host->anew || is.missing != host->missing || changes(&decided))
+        note(host, &decided, is);
     host->counters.shorts += is.tier == VB_TIER_SHORT;
     host->missing = is.missing;
     host->tier = is.tier;
     host->anew = false;
-    host->counters.changed += tell(&guests);
+    host->counters.changed += tell(&decided);
 }
 
 void policy_decide(struct host *host)

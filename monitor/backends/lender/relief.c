@@ -2,6 +2,8 @@
  * has waited too long lets others pass. */
 #include "places.h"
 
+#include <stdlib.h>
+
 enum { STANDS = 1000 }; /* milliseconds in which nothing moves, and a host stands still */
 
 /* The place of the guest that is preferred; SIZE_MAX where none is. */
@@ -34,10 +36,18 @@ void places_relieve(struct host *host)
         places_step(host, (VbHostEvent){.kind = VB_OVERDRAWS, .guest = first});
 }
 
+/* All places but those that don't count. */
+static VbSeat *others;
+
+bool relief_make(size_t places)
+{
+    others = calloc(places, sizeof others[0]);
+    return others;
+}
+
 /* Who waits first of those that restart or come, but for one; SIZE_MAX where nobody does. */
 static size_t first_beside(const struct host *host, size_t except)
 {
-    static VbSeat others[MOST_PLACES];
     for (size_t i = 0; i < host->place_count; i++) {
         bool counts = host->places[i].line != VB_LINE_DEFLATES && i != except;
         others[i] = counts ? host->places[i] : (VbSeat){0};

@@ -99,9 +99,13 @@ static bool name_seat(struct seat *seat, const char *name)
 
 const char *seat_fault(const struct host *host, const char *name)
 {
+    static char full[64];
     if (!is_name(name) || seat_of(host, name))
         return "a name has 1 to 31 letters, digits, - and _, and no other guest has it";
-    return host->count == MOST_GUESTS ? "there are as many guests as can be" : NULL;
+    if (host->count < host->most)
+        return NULL;
+    snprintf(full, sizeof full, "the host has its %u guests: --guests", host->most);
+    return full;
 }
 
 const char *seat_add(struct host *host, const char *name, const struct guest_terms *terms)
@@ -176,8 +180,8 @@ static void close_listener(int listener)
 const char *seat_remove(struct host *host, struct seat *seat)
 {
     unsigned number = 0;
-    if (seat->here && host->leaving_count == MOST_GUESTS)
-        return "too many guests are leaving";
+    if (seat->here && host->leaving_count == host->most)
+        return "as many guests are leaving as there may be: --guests";
     while (host->seats[number] != seat)
         number++;
     host->count--;

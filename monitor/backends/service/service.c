@@ -20,7 +20,7 @@ enum { LOOK_EVERY = 100, GO_ON_AFTER = 5, STATUS_EVERY = 5000 };
 
 void service_defaults(struct service *service)
 {
-    *service = (struct service){.hangup = -1};
+    service->hangup = -1;
     settings_defaults(&service->settings);
 }
 
@@ -157,6 +157,7 @@ static int64_t words_every(void)
 bool service_begin(struct service *service, struct host *host, const char *folder)
 {
     struct settings *settings = &service->settings;
+    most_unread = (size_t)host->most * UNREAD_OF_GUEST;
     for (unsigned i = 0; i < CONTROL_SOCKETS; i++)
         if (!find_socket(service, i, folder))
             return false;

@@ -40,8 +40,10 @@ bool apply_guests(const char *file, const struct config *config, const struct co
 
 bool apply_fits(const char *file, const struct config *config, const struct host *host)
 {
-    bool good = config->count <= MOST_CONFIG_GUESTS ||
-                say_fault("%s: with what was changed there are too many guests", file);
+    bool good =
+        config->count <= host->most ||
+        say_fault("%s: %u guests, with what was changed, and the host may have %u: --guests", file,
+                  config->count, host->most);
     bool strict = usually_strict(config, host);
     if (config->overdraft != UINT32_MAX && config->overdraft > config->budget)
         good = say_fault("%s: overdraft: more than the budget that was set", file);
@@ -102,7 +104,7 @@ void apply_see(const struct host *host, struct config *config)
         KEY_STRICT, KEY_STEP,   KEY_PATIENCE, KEY_OVERDRAFT,     KEY_PERIOD};
     struct host_view view;
     host_see(host, &view);
-    *config = config_empty();
+    config_clear(config);
     snprintf(config->fixed.folder, MOST_CONFIG_WORD, "%s", view.folder);
     snprintf(config->on_short, MOST_CONFIG_WORD, "%s", view.on_short ? view.on_short : "");
     config->budget = view.most_budget, config->keep = view.keep;

@@ -77,7 +77,7 @@ void audit_compare(struct audit *audit, const struct config *before, const struc
     for (unsigned i = 0; i < after->count; i++) {
         const struct config_guest *its = &after->guests[i];
         const struct config_guest *was = config_guest_of((struct config *)before, its->name);
-        unsaid = config_empty();
+        config_clear(&unsaid);
         was = was ? was : config_new_guest(&unsaid, 1, its->name);
         compare(audit, author, its->name, guest_keys, GUEST_KEYS, was, its);
     }

@@ -30,7 +30,7 @@ static void refuse_all(struct changes *changes, const char *file, const char *wh
     if (changes->folder >= 0)
         close(changes->folder);
     changes->folder = -1;
-    changes->lasting = config_empty();
+    config_clear(&changes->lasting);
 }
 
 /* Why nobody but the lender's user may have written something; NULL: it is so. */
@@ -79,8 +79,10 @@ static const char *open_folder(struct changes *changes, bool locks)
 
 void changes_open(struct changes *changes, const char *path, bool locks)
 {
-    *changes = (struct changes){
-        .path = path, .folder = -1, .lasting = config_empty(), .passing = config_empty()};
+    changes->path = path;
+    changes->folder = -1;
+    changes->fault[0] = 0;
+    config_clear(&changes->lasting), config_clear(&changes->passing);
     size_t length = 0;
     if (!path)
         return;
@@ -157,7 +159,7 @@ static const char *become(struct changes *changes, enum lasting lasting, const s
 {
     static char fault[MOST_CHANGES_FAULT + 64];
     if (lasting == UNTIL_RESTART) {
-        changes->passing = *next;
+        config_copy(&changes->passing, next);
         return NULL;
     }
     const char *why = changes->folder >= 0 ? write_lasting(changes, next) : changes->fault;
@@ -166,15 +168,15 @@ static const char *become(struct changes *changes, enum lasting lasting, const s
                  "it can't be kept: %s; --until-restart changes it all the same", why);
         return fault;
     }
-    changes->before = changes->lasting;
-    changes->lasting = *next;
+    config_copy(&changes->before, &changes->lasting);
+    config_copy(&changes->lasting, next);
     return NULL;
 }
 
 void changes_undo(struct changes *changes)
 {
     if (changes->folder >= 0 && !write_lasting(changes, &changes->before))
-        changes->lasting = changes->before;
+        config_copy(&changes->lasting, &changes->before);
 }
 
 static struct config *changes_of(struct changes *changes, enum lasting lasting)
@@ -186,7 +188,7 @@ const char *changes_keep_size(struct changes *changes, const struct config *file
                               enum lasting lasting, enum config_key key, uint32_t pages)
 {
     static struct config next;
-    next = *changes_of(changes, lasting);
+    config_copy(&next, changes_of(changes, lasting));
     uint32_t bit = UINT32_C(1) << key;
     memcpy(key_value(&config_keys[key], &next), &pages, sizeof pages);
     bool is_files = config_says(file->says, key) && key_is_same(&config_keys[key], &next, file);
@@ -233,7 +235,7 @@ const char *changes_keep_terms(struct changes *changes, const struct config *fil
                                enum lasting lasting, const struct config_guest *guest, bool is_new)
 {
     static struct config next;
-    next = *changes_of(changes, lasting);
+    config_copy(&next, changes_of(changes, lasting));
     struct config_guest *files = config_guest_of((struct config *)file, guest->name),
                         *its = config_guest_of(&next, guest->name);
     if (its && is_new)
@@ -254,7 +256,7 @@ const char *changes_keep_removal(struct changes *changes, const struct config *f
                                  enum lasting lasting, const char *name)
 {
     static struct config next;
-    next = *changes_of(changes, lasting);
+    config_copy(&next, changes_of(changes, lasting));
     struct config_guest *its = config_guest_of(&next, name);
     bool is_marked = lasting == UNTIL_RESTART || config_guest_of((struct config *)file, name);
     if (its)

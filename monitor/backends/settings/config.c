@@ -214,20 +214,19 @@ static void check(struct reader *reader)
         fault_at(reader, reader->lines[KEY_LOWEST_BUDGET], "lowest_budget", "more than the budget");
 }
 
-struct config config_empty(void)
+void config_clear(struct config *config)
 {
-    return (struct config){
-        .budget = UINT32_MAX,
-        .keep = UINT32_MAX,
-        .lowest_budget = UINT32_MAX,
-        .floor = UINT32_MAX,
-        .reserve = UINT32_MAX,
-        .step = UINT32_MAX,
-        .overdraft = UINT32_MAX,
-        .patience = UINT32_MAX,
-        .lines = UINT32_MAX,
-        .level = UINT32_MAX,
-        .fixed.sockets = {[MAY_CHANGE] = {.mode = UINT32_MAX}, [MAY_LOOK] = {.mode = UINT32_MAX}}};
+    memset(config, 0, offsetof(struct config, guests));
+    config->budget = config->keep = config->lowest_budget = config->floor = UINT32_MAX;
+    config->reserve = config->step = config->overdraft = config->patience = UINT32_MAX;
+    config->lines = config->level = UINT32_MAX;
+    for (unsigned i = 0; i < CONTROL_SOCKETS; i++)
+        config->fixed.sockets[i].mode = UINT32_MAX;
+}
+
+void config_copy(struct config *to, const struct config *from)
+{
+    memcpy(to, from, offsetof(struct config, guests) + from->count * sizeof from->guests[0]);
 }
 
 /* Reads what there is of a file, and one byte more than may be; NULL with errno where it can't. */
@@ -262,7 +261,7 @@ bool config_read(const char *path, struct config *config)
 {
     struct reader reader = {.path = path, .config = config};
     char *bytes = read_bytes(path, &reader.left);
-    *config = config_empty();
+    config_clear(config);
     if (!bytes)
         return say_fault("%s: %s", path, strerror(errno));
     reader.next = bytes;
@@ -279,7 +278,7 @@ bool changes_parse(const char *path, const char *bytes, size_t length, struct co
     size_t end = strlen(changes_end);
     struct reader reader = {
         .path = path, .config = config, .next = bytes, .left = length, .of_changes = true};
-    *config = config_empty();
+    config_clear(config);
     if (length < end || memcmp(bytes + length - end, changes_end, end) != 0)
         return say_fault("%s: its end is missing", path);
     parse(&reader);

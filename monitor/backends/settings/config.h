@@ -2,12 +2,13 @@
  * wrongly. */
 #ifndef CONFIG_H
 #define CONFIG_H
+#include "../lender/journal.h"
 #include "../lender/view.h"
 
 /* Guests that a file names, and of which something was changed, also those that were removed; bytes
  * of a word with its end. */
 enum {
-    MOST_CONFIG_GUESTS = 64,
+    MOST_CONFIG_GUESTS = MOST_GUESTS,
     MOST_CHANGED_GUESTS = 2 * MOST_CONFIG_GUESTS,
     MOST_CONFIG_NAME = 32,
     MOST_CONFIG_WORD = 128
@@ -51,11 +52,13 @@ struct config {
                        not said */
     uint32_t says;  /* a bit for each key that the file says, as config_keys.h numbers them */
     unsigned count;
-    struct config_guest guests[MOST_CHANGED_GUESTS];
+    struct config_guest guests[MOST_CHANGED_GUESTS]; /* last: those that aren't there take none of
+                                                        the machine's memory */
 };
 
-/* A configuration that says nothing. */
-struct config config_empty(void);
+/* Makes it a configuration that says nothing; and the same as another one. */
+void config_clear(struct config *config);
+void config_copy(struct config *to, const struct config *from);
 
 /* Reads a file into a configuration; false where it can't be read or says something wrong, and each
  * fault is a line of say_fault(): the file, the line, the key and what should be there. */

@@ -16,7 +16,7 @@ enum { MOST_FAULT = 256 };
 
 void settings_defaults(struct settings *settings)
 {
-    *settings = (struct settings){.config = config_empty()};
+    config_clear(&settings->config);
     for (unsigned i = 0; i < CONTROL_SOCKETS; i++)
         settings->sockets[i].mode = 0660;
 }
@@ -73,7 +73,7 @@ static bool can_replace(const struct settings *settings, const struct config *co
 {
     const char *section, *key;
     static struct config whole;
-    whole = *config;
+    config_copy(&whole, config);
     changes_put_over(&settings->changes, &whole);
     if (!apply_fits(settings->file, &whole, settings->host))
         return false;
@@ -89,7 +89,7 @@ static void take_again(struct settings *settings)
         say_fault("%s: the old configuration stays", settings->file);
         return;
     }
-    settings->config = whole = config;
+    config_copy(&settings->config, &config), config_copy(&whole, &config);
     take_config(settings);
     changes_put_over(&settings->changes, &whole);
     apply_sizes(settings->file, settings->host, &whole);
@@ -137,7 +137,7 @@ bool settings_check(const struct settings *settings, const char *file, const str
 static const struct config *whole(const struct settings *settings)
 {
     static struct config all;
-    all = settings->config;
+    config_copy(&all, &settings->config);
     changes_put_over(&settings->changes, &all);
     return &all;
 }

@@ -56,7 +56,7 @@ def members(header, struct):
         text = re.search(rf"(?s)struct {struct} \{{(.*?)\n\}};", file.read())[1]
     found = {}
     for line in re.sub(r"(?s)/\*.*?\*/", "", text).split(";"):
-        its = re.fullmatch(r"(?s)\s*((?:const |struct |enum )?\w+)\s+(.*)", line)
+        its = re.fullmatch(r"(?s)\s*((?:const )?(?:struct |enum )?\w+)\s+(.*)", line)
         for name in its[2].split(",") if its else ():
             found[re.match(r"\s*\*?(\w+)", name)[1]] = its[1]
     return found
@@ -163,7 +163,7 @@ class Made:
             tier="VB_TIER_CACHE",
             who="guest-1",
             count=2,
-            shares=shares,
+            shares=Array("share", shares),
         )
 
     def tiers(self):
@@ -171,8 +171,20 @@ class Made:
         return {it: self.value("uint32_t", "") for it in ("pages", "spare")}
 
 
+class Array:
+    """An array of structs to which a pointer leads."""
+
+    def __init__(self, of, values):
+        self.of, self.values = of, values
+
+    def __iter__(self):
+        return iter(self.values)
+
+
 def written(value):
     """Returns a value as C has it."""
+    if isinstance(value, Array):
+        return f"(const struct {value.of}[]){written(value.values)}"
     if isinstance(value, dict):
         return "{" + ", ".join(f".{name} = {written(it)}" for name, it in value.items()) + "}"
     if isinstance(value, list):

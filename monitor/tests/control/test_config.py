@@ -149,11 +149,6 @@ WRONG = (
         "[guest web.1]\nleast = 9M",
         "line 17: guest web.1: a guest's name has 1 to 31 letters, digits, - and _",
     ),
-    (
-        "[guest web-1]",
-        "\n".join(f"[guest {it}]" for it in range(63)) + "\n[guest web-1]",
-        "line 82: guest web-2: there are as many guests as can be",
-    ),
     ("[log]", "[status]\nmode = 8\n[log]", "line 14: mode: an octal mode, as 0660"),
     (
         "[log]",

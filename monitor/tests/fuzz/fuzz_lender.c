@@ -150,7 +150,7 @@ static void check_line(void)
     size_t first = vb_host_first(host.places, host.place_count);
     uint32_t asked = first == SIZE_MAX ? 0 : vb_seat_asked(&host.places[first]);
     demand(first == SIZE_MAX || places_owed(&host) + asked > host.lends.frames);
-    for (unsigned i = 0; i < MOST_PLACES; i++) {
+    for (unsigned i = 0; i < host.place_count; i++) {
         const VbSeat *its = &host.places[i];
         demand(its->pages <= MOST_SET && (!vb_seat_waits(its) || vb_seat_asked(its) > 0));
         demand(its->granted > 0 || vb_seat_asked(its) <= most_frames);
@@ -236,7 +236,7 @@ static void begin_once(void)
     static const char *const names[SEATS] = {"a", "b", "c"};
     if (host.folder)
         return;
-    demand(mkdtemp(folder) && answers_begin(&host.answers));
+    demand(mkdtemp(folder) && answers_begin(&host.answers) && host_make_tables(&host, SEATS));
     host.folder = folder;
     demand(folder_lock(&host));
     host.program = "/bin/false";
@@ -252,7 +252,7 @@ static void begin_once(void)
 static void begin(void)
 {
     unsigned kind = next_byte();
-    memset(host.places, 0, sizeof host.places);
+    memset(host.places, 0, host.place_count * sizeof host.places[0]);
     host.lends = (VbHost){.overdraft = kind & 16 ? OVERDRAFT : 0};
     now = (struct timespec){1, 0};
     host.budget = host.frames = most_frames = FRAMES;

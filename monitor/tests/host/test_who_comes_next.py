@@ -149,7 +149,9 @@ def test_as_many_guests_as_there_are_seats_may_be_leaving(lend):
         played.append(Played(lender, f"g{number}", pages=1))
         lender.demand(f"remove g{number}")
     played.append(Played(lender, "last", pages=1))
-    assert lender.ask("remove last") == "error: too many guests are leaving"
+    assert (
+        lender.ask("remove last") == "error: as many guests are leaving as there may be: --guests"
+    )
     played.pop(0).leave()
     eventually(lambda: lender.ask("remove last") == "ok")
     for it in played:

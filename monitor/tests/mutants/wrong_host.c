@@ -188,14 +188,14 @@ void __wrap_host_changed(struct host *host, enum reason reason)
 void __wrap_limits_follow(struct host *host)
 {
     static VbSeat places[MOST_PLACES];
-    memcpy(places, host->places, sizeof places);
-    for (unsigned i = 0; i < MOST_PLACES && wrong() == LOWERS_EARLY; i++) {
+    memcpy(places, host->places, host->place_count * sizeof places[0]);
+    for (unsigned i = 0; i < host->place_count && wrong() == LOWERS_EARLY; i++) {
         VbSeat *its = &host->places[i];
         if (its->granted > 0 && its->target > its->ballooned)
             its->ballooned = its->least_target = its->target;
     }
     __real_limits_follow(host);
-    memcpy(host->places, places, sizeof places);
+    memcpy(host->places, places, host->place_count * sizeof places[0]);
 }
 
 bool __wrap_limit_allows(const struct seat *seat)

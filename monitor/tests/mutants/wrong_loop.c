@@ -27,7 +27,7 @@ struct wait {
  * number of a file was waited for by first. */
 static struct {
     struct loop *loop;
-    struct wait now[MOST_POLLED], before[MOST_POLLED], first[MOST_NUMBER];
+    struct wait now[MOST_NUMBER], before[MOST_NUMBER], first[MOST_NUMBER];
     unsigned count, count_before;
     bool came; /* a moment has come */
 } waits;
