@@ -31,6 +31,7 @@ pub mod Lower
 pub mod RoomLeft
 pub mod Limits
 pub mod Proceeding
+pub mod Telling
 mod SeatFacts
 mod SystemFacts
 mod RunFacts

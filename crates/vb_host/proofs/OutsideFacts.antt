@@ -3,6 +3,7 @@ use Rattle.std.proofs.Common.{◌≡◌, ℕ, true, false, List, [], ◌∷◌, 
 use Rattle.vb_host.specs.declared.report.Report.{Report}
 use Rattle.vb_host.specs.declared.seat.Seat.{Seat}
 use Rattle.vb_host.specs.Lending.{joined_at, may_join_at}
+use Rattle.vb_host.specs.Outside.{believed_outside, taken_unasked, tells_memory, with_outside}
 use Rattle.vb_host.specs.Promises.{keeps, used}
 use Rattle.vb_host.specs.Seats.{apart, asked, heard, is_news, lent, newcomer, taken_over, uncounting}
 use Rattle.vb_host.specs.System.{Confirms, Does, Forgets, Gives, Grants, Hears, Host, Limits, Obeys, Process, Reads, Reports, Sends, Shrinks, Step, TakesOver, Targets, Wants}
@@ -48,6 +49,34 @@ stays_outside = (refl, refl, refl)
 -- what appears without being taken away isn't counted, nor is the balloon of that report; its deflate is
 appears : (heard 9 (report 33 8 0) (seat 7) ≡ seat 7) × (heard 9 (record (report 33 8 0) { held = 10; deflates = 3 }) (seat 7) ≡ record (seat 7) { held = 10; deflates = 3; turn = 9 })
 appears = (refl, refl)
+
+-- ---- how many may be outside by a report, and which pages were taken unasked
+
+believes : map (λ r. believed_outside r (seat 7)) (report 30 7 0 ∷ report 30 3 0 ∷ report 30 8 0 ∷ report 30 99 10 ∷ report 26 99 10 ∷ report 20 99 10 ∷ report 19 99 10 ∷ report 34 99 10 ∷ []) ≡ 7 ∷ 3 ∷ 7 ∷ 17 ∷ 13 ∷ 7 ∷ 6 ∷ 17 ∷ []
+believes = refl
+
+-- where more is taken away than there is, and where the pages of a granted deflate have left the balloon; those of one that waits haven't
+believes_at_ends : map (λ r. believed_outside r (seat 7)) (report 30 99 99 ∷ report 0 99 99 ∷ record (report 30 7 0) { held = 3 } ∷ record (report 30 7 0) { held = 3; deflates = 3 } ∷ []) ≡ 67 ∷ 37 ∷ 4 ∷ 7 ∷ []
+believes_at_ends = refl
+
+-- none of a balloon that doesn't count
+believes_uncounted : map (λ r. believed_outside r (uncounting (seat 7))) (report 30 7 0 ∷ report 30 8 0 ∷ report 30 99 10 ∷ []) ≡ 7 ∷ 7 ∷ 17 ∷ []
+believes_uncounted = refl
+
+takes_unasked : map (λ r. taken_unasked r (seat 7)) (report 30 7 0 ∷ report 34 7 0 ∷ report 29 7 0 ∷ report 20 7 10 ∷ report 19 7 10 ∷ record (report 30 7 0) { held = 3 } ∷ record (report 30 7 0) { held = 3; deflates = 3 } ∷ [])
+    ≡ 0 ∷ 0 ∷ 1 ∷ 0 ∷ 1 ∷ 3 ∷ 0 ∷ []
+takes_unasked = refl
+
+takes_uncounted : map (λ s. taken_unasked (report 30 7 0) s) (uncounting (seat 7) ∷ record (seat 7) { uncounted = 1 } ∷ []) ≡ 0 ∷ 30 ∷ []
+takes_uncounted = refl
+
+-- with one more outside a report says nothing of memory
+tells_of_memory : map (λ outside. tells_memory (report 26 outside 10) (seat 7)) (13 ∷ 14 ∷ []) ≡ true ∷ false ∷ []
+tells_of_memory = refl
+
+corrects : (heard 9 (with_outside (believed_outside (report 26 14 10) (seat 7)) (report 26 14 10)) (seat 7) ≡ record (seat 13) { pages = 50; ballooned = 26; removed = 10 })
+    × (heard 9 (report 26 14 10) (seat 7) ≡ seat 7)
+corrects = (refl, refl)
 
 -- ---- memory with pages outside joins no guest
 

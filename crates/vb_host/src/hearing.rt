@@ -8,7 +8,7 @@ use crate::{Report, Seat};
 
 impl Seat {
     /// The pages of its memory of which none was taken away since its last report.
-    fn left(&self, report: &Report) -> u32
+    pub(crate) fn left(&self, report: &Report) -> u32
         ensures { result ≡ left report.now self.now }
     {
         let taken = report.removed.saturating_sub(self.removed);

@@ -10,6 +10,7 @@ mod least;
 mod lending;
 mod line;
 mod memory;
+mod outside;
 mod report;
 mod seat;
 mod turns;
@@ -25,5 +26,6 @@ pub use laws::{
 pub use least::{least_budget, the_least_budget_suffices};
 pub use lending::{happen, step};
 pub use line::{first_in_line, owed, room, waited};
+pub use outside::a_report_tells_of_memory;
 pub use report::{Report, WaitingLine};
 pub use seat::Seat;
