@@ -47,6 +47,8 @@ REFERENCE(seat_asked);
 REFERENCE(seat_waits);
 REFERENCE(seat_due_target);
 REFERENCE(seat_due_grant);
+REFERENCE(seat_outside);
+REFERENCE(seat_taken);
 REFERENCE(policy_tiers);
 REFERENCE(policy_wants);
 REFERENCE(policy_decide);

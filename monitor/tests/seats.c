@@ -35,6 +35,14 @@ void print_seat(size_t place, const VbSeat *seat)
             seat->deferred);
 }
 
+void expect(bool is_so, const char *what)
+{
+    if (!is_so) {
+        fprintf(stderr, "seats: %s\n", what);
+        exit(1);
+    }
+}
+
 int main(int count, char **words)
 {
     if (vb_host_version() != VB_HOST_VERSION) {
@@ -46,6 +54,7 @@ int main(int count, char **words)
     check_passing();
     check_lines();
     check_orders();
+    check_memories();
     check_targets();
     check_refused();
     check_largest();

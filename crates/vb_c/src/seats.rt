@@ -4,6 +4,7 @@ ghost use Rattle.std.specs.Prelude.{◌≡◌, ◌-◌, ◌^◌, min};
 ghost use Rattle.vb_virtio.specs.Tests.{one_if};
 ghost use Rattle.vb_host.specs.Least.{least_budget};
 ghost use Rattle.vb_host.specs.Lending.{owed, room};
+ghost use Rattle.vb_host.specs.Outside.{believed_outside, taken_unasked};
 ghost use Rattle.vb_host.specs.Seats.{asked, due_grant, due_target, lent, waits};
 ghost use Rattle.vb_c.specs.Seats.{event_of, lending_of, FirstFor, StepsFor};
 
@@ -168,6 +169,22 @@ pub extern "C" fn vb_seat_due_grant(seat: &Seat, report: &Report) -> u32
     ensures { result ≡ one_if (due_grant report.now seat.now) }
 {
     u32::from(seat.due_grant(report))
+}
+
+/// Of the pages that a report says to be outside those that may be.
+#[unsafe(no_mangle)]
+pub extern "C" fn vb_seat_outside(seat: &Seat, report: &Report) -> u32
+    ensures { result ≡ believed_outside report.now seat.now }
+{
+    seat.believed_outside(report)
+}
+
+/// The pages that a guest has taken unasked, by a report.
+#[unsafe(no_mangle)]
+pub extern "C" fn vb_seat_taken(seat: &Seat, report: &Report) -> u32
+    ensures { result ≡ taken_unasked report.now seat.now }
+{
+    seat.taken_unasked(report)
 }
 
 /// What is lent to all guests together.

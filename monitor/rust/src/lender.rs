@@ -108,6 +108,20 @@ impl Seat {
         // SAFETY: the pointers are of `&`.
         unsafe { vb_seat_due_grant(self, report) != 0 }
     }
+
+    /// How many of the pages that a report says to be outside may be: no more than were, and were
+    /// taken away since the last one, but for what has left the balloon.
+    pub fn believed_outside(&self, report: &Report) -> u32 {
+        // SAFETY: the pointers are of `&`.
+        unsafe { vb_seat_outside(self, report) }
+    }
+
+    /// How many pages have left its balloon by a report that neither were granted nor went with
+    /// memory that was taken away.
+    pub fn taken_unasked(&self, report: &Report) -> u32 {
+        // SAFETY: the pointers are of `&`.
+        unsafe { vb_seat_taken(self, report) }
+    }
 }
 
 /// A lender: a budget, an overdraft, and what is known of each guest.

@@ -68,6 +68,15 @@ fn orders_are_due_until_a_report_shows_them() {
 }
 
 #[test]
+fn a_report_may_say_no_more_of_memory_than_there_was() {
+    let seat = Seat { pages: 60, ballooned: 30, outside: 7, deflates: 6, granted: 6, ..Seat::default() };
+    let report = Report { ballooned: 26, outside: 14, removed: 10, deflates: 6, ..Report::default() };
+    assert_eq!((seat.believed_outside(&report), seat.taken_unasked(&report)), (13, 0));
+    let more = Report { ballooned: 19, ..report };
+    assert_eq!((seat.believed_outside(&more), seat.taken_unasked(&more)), (6, 1));
+}
+
+#[test]
 fn an_overdraft_is_lent_once_all_others_have_reached_their_targets() {
     let mut lender = host();
     lender.step(Event::Wants { guest: 0, pages: 40 });

@@ -1,17 +1,7 @@
 /* Seats that no events need lead to: who waits first, which orders are due, which targets are
  * possible, what is refused, and the largest numbers. */
 #include "seats.h"
-#include <stdio.h>
-#include <stdlib.h>
 #include <string.h>
-
-static void expect(bool is_so, const char *what)
-{
-    if (!is_so) {
-        fprintf(stderr, "seats: %s\n", what);
-        exit(1);
-    }
-}
 
 /* ---- who waits first: by lines, then turns, then places */
 
