@@ -124,31 +124,11 @@ uint32_t ask_returned(const struct seat *seat, const struct lending_message *rep
     return smaller(report->pages - smaller(report->pages, its->pages), left);
 }
 
-/* The pages that have left its balloon with a grant that its process hasn't obeyed yet. */
-static uint32_t granted_pages(const VbSeat *its, const VbReport *report)
-{
-    return report->deflates == its->granted ? report->held : 0;
-}
-
 uint32_t ask_taken(const struct seat *seat)
 {
     const VbSeat *its = place_of(seat);
     const VbReport report = ask_report(seat);
-    uint32_t gone = (uint32_t)(report.removed - its->removed);
-    uint32_t had = its->ballooned - smaller(its->ballooned, gone);
-    uint32_t has = report.ballooned - smaller(report.ballooned, granted_pages(its, &report));
-    return seat->holds && !its->uncounted && has < had ? had - has : 0;
-}
-
-/* What is outside of its memory's slots, as far as a report may say it: where more is, that was in
- * no slot, and its process deviates. */
-static uint32_t taken_outside(const VbSeat *its, const VbReport *report, uint32_t outside)
-{
-    uint32_t stays = report->ballooned - smaller(report->ballooned, granted_pages(its, report));
-    uint32_t gave = its->ballooned - smaller(its->ballooned, stays);
-    uint64_t taken = report->removed - its->removed;
-    uint64_t most = its->outside + taken - (gave < taken ? gave : taken);
-    return outside < most ? outside : (uint32_t)most;
+    return seat->holds && !its->uncounted ? vb_seat_taken(its, &report) : 0;
 }
 
 VbReport ask_report(const struct seat *seat)
@@ -165,9 +145,11 @@ VbReport ask_report(const struct seat *seat)
                        .read_target = read_target(seat),
                        .held = held_pages(seat, what),
                        .line = lines[what],
+                       .outside = ask_outside(seat),
                        .target_number = its->target_number - !target_is_received(seat),
                        .deflates = seat->asks,
                        .removed = its->removed + (is_smaller ? its->pages - message->pages : 0)};
-    report.outside = taken_outside(its, &report, ask_outside(seat));
+    /* What is outside beyond that was in no slot: its process deviates. */
+    report.outside = vb_seat_outside(its, &report);
     return report;
 }
