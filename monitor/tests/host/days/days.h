@@ -27,9 +27,9 @@ struct plan {
     unsigned seconds, guests, budget, reboots, beyond, slow, killed, overdraft, moves;
 };
 
-/* Messages of one direction that nobody has read yet, the next of them first. As many as a socket
- * has room for. */
-enum { MOST_MAIL = 64 };
+/* Messages of one direction that nobody has read yet, the next of them first. As many as the kernel
+ * has room for in a socket. */
+enum { MOST_MAIL = 93 };
 struct mail {
     unsigned first, count;
     struct lending_message messages[MOST_MAIL];
