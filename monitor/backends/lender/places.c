@@ -197,6 +197,12 @@ static void hear_newcomer(struct seat *seat)
         hear(seat, 0);
 }
 
+/* Whether memory that is added to it has its place in line, or may have one now. */
+static bool may_add(const struct seat *seat)
+{
+    return seat->added != NO_PLACE || seat_has_paid(seat) <= loop_now();
+}
+
 static void take_over(struct seat *seat, uint32_t pages, VbReport report)
 {
     places_step(seat->host,
@@ -234,7 +240,7 @@ void place_hears(struct seat *seat)
         hear_newcomer(seat);
     } else {
         hear(seat, take_back(seat));
-        hear_of_added(seat, room_wanted(seat));
+        hear_of_added(seat, may_add(seat) ? room_wanted(seat) : 0);
     }
 }
 

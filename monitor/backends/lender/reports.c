@@ -108,7 +108,7 @@ static void answer_room(struct seat *seat)
         refuse("no room for %s: %s are missing", size_text(wanted, size),
                size_text(missing, other));
         turn_away(seat, REFUSED_ROOM, missing);
-    } else if (!seat->holds) {
+    } else if (!seat->holds && (seat_pages(seat) == 0 || seat_has_paid(seat) <= loop_now())) {
         host->counters.admitted += seat_pages(seat) == 0;
         place_admits(seat);
         host_changed(host, BY_GUESTS);
@@ -166,11 +166,14 @@ static void check_version(char words[MOST_WORDS])
         words[0] = 0;
 }
 
-/* The pages for which it waits since this report, as its client brings them. */
+/* The pages for which it waits since this report, as its client brings them: none of those that were
+ * outside of its slots. */
 static uint32_t brings(const struct seat *seat, const struct lending_message *message)
 {
-    bool is_new = message->waits == WAIT_ROOM && message->wait != seat->report.wait;
-    return is_new ? message->wanted - smaller(message->wanted, seat_pages(seat)) : 0;
+    bool has_waited = seat->report.waits == WAIT_ROOM && message->wait == seat->report.wait;
+    uint32_t has = seat_pages(seat) + ask_returned(seat, message);
+    bool is_new = message->waits == WAIT_ROOM && !has_waited;
+    return is_new ? message->wanted - smaller(message->wanted, has) : 0;
 }
 
 /* Passes its report on, with what it asks for. */

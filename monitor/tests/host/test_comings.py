@@ -8,9 +8,9 @@ import pytest
 from played import WAIT_ROOM, Played
 from tenants import FREE, eventually
 from test_later_lender import QUICK
-from test_strict import STRICT
+from test_strict import STRICT, Later
 from test_turns import connect
-from vhost_client import Client
+from vhost_client import ADD_MEM_REG, BY_MESSAGES, OFFERED, REM_MEM_REG, Client
 
 # Seconds: what a client costs, what memory of the budget's size does, and what a seat may owe.
 OF_CLIENT, OF_BUDGET, MOST_OWED = 2, 30, 60
@@ -88,3 +88,29 @@ def test_memory_is_paid_for_once_for_each_wait(lend, waits):
     lender.become("a", here=0)
     assert any(it.startswith(OFTEN) for it in lender.said()) == (waits > 1)
     b.leave()
+
+
+# Pages of a slot, and seconds in which slots come and go.
+SLOT, LONG = 64, 6
+
+
+def test_a_slot_that_comes_and_goes_is_slowed_like_a_client(lend):
+    """Each is half of the budget, for which others would have to give."""
+    lender = lend(1, *STRICT, *COSTS)
+    lender.set_budget(2 * SLOT)
+    client = Client(lender.add("a"))
+    client.begin(OFFERED & ~BY_MESSAGES), client.negotiate()
+    client.accepted(ADD_MEM_REG, client.region_body(0), client.files[:1])
+    begin, count = time.monotonic(), 0
+    while (seconds := time.monotonic() - begin) < LONG:
+        adds = Later(lambda: client.accepted(ADD_MEM_REG, client.region_body(1), client.files[1:]))
+        if adds.waits(LONG - seconds):
+            break
+        adds.ends()
+        lender.become("a", pages=2 * SLOT)
+        client.accepted(REM_MEM_REG, client.region_body(1))
+        lender.become("a", pages=SLOT)
+        count += 1
+    seconds = time.monotonic() - begin
+    assert 0 < count <= most_clients(OF_BUDGET / 2, seconds)
+    client.leave()
