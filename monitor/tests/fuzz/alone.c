@@ -78,17 +78,6 @@ void alone_acts(void)
     demand(left++ < MOST_LEFT);
 }
 
-/* The bytes of a device that moves count as far as its length says. */
-void backend_clear(struct backend *backend)
-{
-    uint8_t *bytes = (uint8_t *)backend;
-    size_t sent = offsetof(struct backend, transfer.bytes), moved = offsetof(struct backend, moved),
-           set = offsetof(struct backend, moved.set), rest = moved + sizeof backend->moved;
-    memset(bytes, 0, sent);
-    memset(bytes + moved, 0, set - moved);
-    memset(bytes + rest, 0, sizeof *backend - rest);
-}
-
 static void drop(enum saying saying, const char *words)
 {
     (void)saying, (void)words;
@@ -117,7 +106,7 @@ void alone_runs(unsigned kind)
                                .hints = kind & 8,
                                .discards_hints = kind & 16,
                                .lives_on = true};
-    backend_clear(&alone);
+    memset(&alone, 0, sizeof alone);
     process_is_shut = false;
     say_through = drop;
     demand(backend_start(&alone, &options));

@@ -15,7 +15,4 @@ void alone_acts(void);
 /* As many pages are counted as the set of the balloon has. */
 void check_set(const struct backend *backend);
 
-/* Makes a backend what it is before it has begun. */
-void backend_clear(struct backend *backend);
-
 #endif

@@ -1,6 +1,6 @@
 /* A guest's process of a host that lends, fuzzed: any messages, bytes and files of its client, any
  * rings and memory, and any orders of its lender, in any order; now and then another process goes
- * on with what is kept. Or one without a lender (alone.c), whose guest may migrate. After each step
+ * on with what is kept. Or one without a lender (alone.c). Its guest may migrate. After each step
  * its count of pages in the balloon is that of its set, and in the end no file is left open. */
 #include "../../backends/process/lent.c"
 #include "alone.h"
@@ -147,8 +147,7 @@ void __wrap_kept_save(struct lent *lent)
 static int process_begins(void)
 {
     ends_at = 0;
-    backend_clear(&fuzzed.backend);
-    memset((uint8_t *)&fuzzed + sizeof fuzzed.backend, 0, sizeof fuzzed - sizeof fuzzed.backend);
+    memset(&fuzzed, 0, sizeof fuzzed);
     demand(prepare(&fuzzed, &options, kept));
     demand(kept_regain(kept));
     return guard(go_on, &fuzzed);
@@ -190,6 +189,8 @@ static int another_goes_on(void)
         changes_used(memory, &fuzzed.backend.rings[next_below(QUEUES)]);
     for (unsigned i = 0; i < memory->count; i++)
         munmap(memory->regions[i].host, memory->regions[i].length);
+    if (fuzzed.backend.log.bits)
+        munmap(fuzzed.backend.log.bits, fuzzed.backend.log.place.bytes);
     kept->unnoted = 0;
     if (!kept_state(kept)->outcome && next_byte() % 4)
         reads();
@@ -211,11 +212,13 @@ static int comes(unsigned kind)
                                .discards_hints = kind & 16};
     memset(kept, 0, offsetof(struct kept, set));
     memset(kept_there.moves, 0, sizeof kept_there.moves);
+    kept_there.room.amid = false;
     kept_clear(kept);
     demand(outbox_begin(&kept->outbox));
     demand(!socketpair(AF_UNIX, SOCK_SEQPACKET | SOCK_CLOEXEC | SOCK_NONBLOCK, 0, ends));
     struct kept_state *state = &kept->states[0];
     state->socket = client_comes();
+    client.migrates = true;
     lender = ends[0];
     state->notes.channel = ends[1];
     state->notes.later = later;

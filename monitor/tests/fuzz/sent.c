@@ -1,4 +1,5 @@
 #include "sent.h"
+#include "../../backends/balloon/rings.h"
 
 #include "script.h"
 
@@ -80,13 +81,14 @@ static void put_migration(struct sent *sent, unsigned choice)
     sent->kinds[sent->files++] = choice / 16 == 15 ? NOTHING : loads ? SOURCE : PIPE;
 }
 
-/* A part of the configuration, or a command of the control area. */
+/* A part of the configuration, or a command of the control area, or that a guest comes. */
 static void put_config(struct sent *sent, unsigned choice)
 {
-    enum { COMMANDS = 224, COMMAND_AT = 20, OF_CLIENT = 1 };
+    enum { COMMANDS = 224, COMMAND_AT = 20, COMES_AT = 208, COMES = 14, OF_CLIENT = 1 };
     static const uint8_t sizes[] = {16, 4, 0, 200};
     const uint32_t head[] = {choice / 4 % 4 * 4, sizes[choice % 4], choice / 16},
-                   command[] = {COMMAND_AT, 8, OF_CLIENT, choice % 16 == 15 ? 2 : 1, choice % 5};
+                   command[] = {choice % 16 == COMES ? COMES_AT : COMMAND_AT, 8, OF_CLIENT,
+                                choice % 16 == 15 ? 2 : 1, choice % 5};
     bool commands = sent->request == SET_CONFIG && choice >= COMMANDS;
     memcpy(sent->body, commands ? command : head, commands ? sizeof command : sizeof head);
     sent->size = commands ? sizeof command : (uint32_t)sizeof head + sizes[choice % 4];
