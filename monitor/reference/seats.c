@@ -175,13 +175,11 @@ static bool is_done(const VbSeat *seat)
 
 static VbSeat arrived(uint32_t pages, uint32_t ballooned)
 {
-    return (VbSeat){
-        .pages = pages,
-        .ballooned = pages,
-        .least_target = pages,
-        .target = pages,
-        .wanted = ballooned,
-    };
+    return (VbSeat){.pages = pages,
+                    .ballooned = pages,
+                    .least_target = pages,
+                    .target = pages,
+                    .wanted = ballooned};
 }
 
 /* By the first report to a later lender: each deflate before the one that is held was granted. */
@@ -322,7 +320,8 @@ static VbSeat seat_then(const VbHost *host, const VbSeat *seats, size_t count,
                         const VbHostEvent *event)
 {
     VbSeat seat = seats[event->guest];
-    bool may = is_covered(&seat) || may_go(seats, count, event->guest, host->frames);
+    bool may = event->kind == VB_GRANTS &&
+               (is_covered(&seat) || may_go(seats, count, event->guest, host->frames));
     switch (event->kind) {
     case VB_HEARS:
         return heard(seat, &event->report, next_turn(seats, count));

@@ -4,7 +4,7 @@
 #define CONTROL_EVENTS_H
 #include "control.h"
 
-/* What was seen at the last look; NULL where there is no memory. And its end, where there is any. */
+/* What was seen at the last look; NULL where there is no memory. And the end of that. */
 struct events *events_new(void);
 void events_free(struct events *events);
 

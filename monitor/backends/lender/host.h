@@ -269,8 +269,8 @@ void host_run(struct host *host);
 
 /* ---- tables.c */
 
-/* Makes the tables of a host of this many guests; false, which is said, where there is no
- * memory. And the places that so many have. */
+/* Makes the tables of a host of this many guests; false, which is said, where there is no memory.
+ * And the places that these have. */
 bool host_make_tables(struct host *host, unsigned guests);
 size_t places_of(unsigned guests);
 

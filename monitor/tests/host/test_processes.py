@@ -65,14 +65,16 @@ def test_the_lender_has_no_file_of_a_client(lend, come):
         assert "memfd" not in maps.read()
 
 
-def test_a_lender_allows_itself_files_for_all_guests_and_clients(plain, tmp_path):
-    """Four for each of 64 guests, and one for each of 256 clients of two control sockets."""
-    words = ["sh", "-c", 'ulimit -S -n 50; exec "$0" "$@"', plain, str(tmp_path), "--budget", "5"]
+@pytest.mark.parametrize("more, guests", (((), 64), (("--guests", "300"), 300)))
+def test_a_lender_allows_itself_files_for_all_guests_and_clients(plain, tmp_path, more, guests):
+    """Four for each guest, and one for each of 256 clients of two control sockets."""
+    script = 'ulimit -S -n 50; exec "$0" "$@"'
+    words = ["sh", "-c", script, plain, str(tmp_path), "--budget", "5", *more]
     with subprocess.Popen(words, stdin=subprocess.PIPE, stdout=subprocess.PIPE, text=True) as host:
         assert host.stdout.readline() == "ready\n"
         most, _ = resource.prlimit(host.pid, resource.RLIMIT_NOFILE)
         host.communicate("quit\n", timeout=PATIENCE)
-    assert host.returncode == 0 and most >= 4 * 64 + 2 * 256
+    assert host.returncode == 0 and most >= 4 * guests + 2 * 256
 
 
 def children_of(process):
