@@ -96,7 +96,8 @@ def numbers_of(said):
     return dict(zip(words[0::2], map(int, words[1::2])))
 
 
-# Wrong hosts of tests/mutants/wrong_host.c, and what the first of the days says of each.
+# Wrong hosts of tests/mutants/wrong_host.c, and what one of the first days says of each.
+FOUND_IN = 10
 HAVE_MORE, WAITS = "have more than the budget", "waits for a deflate"
 WRONG = {
     "11": WAITS,
@@ -155,6 +156,9 @@ def test_a_day_of_one_number_is_always_the_same(host, tmp_path_factory):
 def test_a_wrong_host_is_found(number, tmp_path_factory, monkeypatch):
     monkeypatch.setenv("HOST_WRONG", number)
     host = linux_kit.built("simulated-wrong/vhost_user_host")
-    status, said = live(host, str(tmp_path_factory.mktemp("d")), 1, KINDS["shift"][0])
-    print(f"wrong host {number}: {said.splitlines()[0]}")
+    for day in range(1, 1 + FOUND_IN):
+        status, said = live(host, str(tmp_path_factory.mktemp("d")), day, KINDS["shift"][0])
+        if status != 0:
+            break
+    print(f"wrong host {number}, day {day}: {said.splitlines()[0]}")
     assert status == 1 and WRONG[number] in said, said
