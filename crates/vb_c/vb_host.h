@@ -184,8 +184,8 @@ uint32_t vb_seat_due_target(const VbSeat *seat, const VbReport *report);
 /* 1 where its process holds a deflate that was granted, by its last report, else 0. */
 uint32_t vb_seat_due_grant(const VbSeat *seat, const VbReport *report);
 /* How many of the pages that a report says to be outside may be: no more than were, and were taken
- * away since the last one, but for what has left the balloon meanwhile. VB_HEARS of that report with
- * as many, or fewer, says what there is outside; with more it says nothing of memory. */
+ * away since the last one, but for what has left the balloon meanwhile. VB_HEARS of that report
+ * with as many, or fewer, says what there is outside; with more it says nothing of memory. */
 uint32_t vb_seat_outside(const VbSeat *seat, const VbReport *report);
 /* How many pages have left its balloon by a report that neither were granted nor went with memory
  * that was taken away: where there are any, VB_HEARS of that report says nothing of memory. */

@@ -1,6 +1,5 @@
 /* A host's lender, in plain C: the rules as vb_host.h says them, one seat at a time. */
-#include "reference.h"
-#include "vb_host.h"
+#include "seats.h"
 
 static uint64_t least(uint64_t one, uint64_t other)
 {
@@ -69,28 +68,6 @@ uint32_t vb_seat_due_grant(const VbSeat *seat, const VbReport *report)
 
 /* ---- a report */
 
-/* The pages that a report leaves in the balloon: not those of a deflate that was granted. */
-static uint64_t stays(const VbSeat *seat, const VbReport *report)
-{
-    bool was_granted = report->deflates == seat->granted;
-    return seat->uncounted ? 0 : without(report->ballooned, was_granted ? report->held : 0);
-}
-
-/* Each page that left the balloon was one of memory that was taken away. */
-uint32_t vb_seat_taken(const VbSeat *seat, const VbReport *report)
-{
-    uint64_t with_memory = without(report->removed, seat->removed);
-    return (uint32_t)without(seat->ballooned, stays(seat, report) + with_memory);
-}
-
-/* Nothing that left the balloon has a frame. */
-uint32_t vb_seat_outside(const VbSeat *seat, const VbReport *report)
-{
-    uint64_t taken = least(without(report->removed, seat->removed), seat->pages);
-    uint64_t left = without(seat->ballooned, stays(seat, report));
-    return (uint32_t)least(report->outside, without(seat->outside + taken, left));
-}
-
 /* The seat with what a report says of memory, where these pages are in the balloon: no page but of
  * what was taken away has left the balloon, or is outside. */
 static VbSeat remembered(VbSeat seat, uint64_t ballooned, const VbReport *report)
@@ -111,7 +88,7 @@ static VbSeat remembered(VbSeat seat, uint64_t ballooned, const VbReport *report
 static VbSeat counted(VbSeat seat, const VbReport *report)
 {
     bool was_granted = report->deflates == seat.granted;
-    seat = remembered(seat, stays(&seat, report), report);
+    seat = remembered(seat, stays_ballooned(&seat, report), report);
     seat.held = was_granted ? 0 : report->held;
     seat.line = report->line;
     seat.deflates = report->deflates;

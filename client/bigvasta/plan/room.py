@@ -1,7 +1,5 @@
 """Whether a host has room for another guest, by what its guests can spare: the library says so."""
 
-import ctypes
-
 from bigvasta.plan import library
 from bigvasta.plan.library import CONTACT_HEARD, CONTACT_STARTS, UNTOLD
 from bigvasta.sizes import PAGE

@@ -41,8 +41,8 @@ HEAD = "guest,seconds,size,used,free,ballooned,target,oom_kills,weight,priority"
 
 
 class Obedient(Played):
-    """The process of a guest that uses as many pages as it is set to, and puts into its balloon what
-    it is told at once."""
+    """The process of a guest that uses as many pages as it is set to, and at once puts into its
+    balloon what it is told."""
 
     def __init__(self, lender, name, used, cached):
         self.used, self.cached, self.kills, self.told = used, cached, 0, 0
