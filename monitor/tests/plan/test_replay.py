@@ -28,10 +28,10 @@ def day_of(**guests):
 # that it can spare: it gets that back, and b gives 30.
 TWO = day_of(a=((0, 10), (10, 80), 30), b=((0, 90), (20, 20), 30))
 
-# Of 300 pages 100 are missing: a gives 50, b 40, c 10, so that 10 more stay to each than it uses. At
-# 10 a is reset, and asks for 50; b can spare 50, and c 20: 30 too few. Both give 10: 50 + 50 + 80
-# are lent. At 20 b can spare 30, and asks for 20, for which there is room: it gets them before a.
-# Now 50 are too few. At 30 c can spare 80, and its part is 75, as b's is 25: it gives 55, and a
+# Of 300 pages 100 are missing: a gives 50, b 40, c 10, so that 10 more stay to each than it uses.
+# At 10 a is reset, and asks for 50; b can spare 50, and c 20: 30 too few. Both give 10: 50 + 50 +
+# 80 are lent. At 20 b can spare 30, and asks for 20, for which there is room: it gets them before
+# a. Now 50 are too few. At 30 c can spare 80, and its part is 75, as b's is 25: it gives 55, and a
 # gets its 50. Then a can spare 100. Of what it can spare b has 5 left, and c 5 of 80, less than a
 # third of its part, which is 40: a gives 60, b gets its 30, and c 35.
 RESET = day_of(a=((0, 40), (10, 0), 40), b=((0, 50), (20, 70), 40), c=((0, 80), (30, 20), 40))
@@ -56,12 +56,12 @@ ALONE = day_of(a=((0, 10), 30), b=((0, 100), 20))
 
 # With a floor of 16 a can spare 64 and b 24: a gives 45 and b 5, so that 19 stay to each. At 10 and
 # 20 a can spare 50 and 47, of which its part is 12 and 10: what its target leaves, with 2 (an
-# eighth of the floor), is 7 and 4, no less than 35 percent of that. At 30 it can spare 46, and has 3
-# of 10: it gives its part, 36, and b 14.
+# eighth of the floor), is 7 and 4, no less than 35 percent of that. At 30 it can spare 46, and has
+# 3 of 10: it gives its part, 36, and b 14.
 SLACK = day_of(a=((0, 20), (10, 34), (20, 37), (30, 38), 40), b=((0, 60), 40))
 
-# a and b use 40 each, and a has 50 as page cache: b gives the 50 that are missing. At 10 b can spare
-# 20: a gives the 10 that are free, and 20 of its page cache.
+# a and b use 40 each, and a has 50 as page cache: b gives the 50 that are missing. At 10 b can
+# spare 20: a gives the 10 that are free, and 20 of its page cache.
 CACHED = Day(
     (
         Recorded("a", 100, (Use(0.0, 40, 50),), 20.0),
@@ -71,9 +71,9 @@ CACHED = Day(
     20.0,
 )
 
-# a and b can spare 60 each, and give 25. At 10 a is pressed: it gives no more than it has given, and
-# gets its part of that, 17 of 25; b gives 17. Then a gives no more than 8, and gets all of them. At
-# 15 each gives 25.
+# a and b can spare 60 each, and give 25. At 10 a is pressed: it gives no more than it has given,
+# and gets its part of that, 17 of 25; b gives 17. Then a gives no more than 8, and gets all of
+# them. At 15 each gives 25.
 PRESSED = Day(
     (
         Recorded("a", 100, (Use(0.0, 40), Use(10.0, 40, None, True), Use(15.0, 40)), 20.0),
