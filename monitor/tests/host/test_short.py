@@ -37,3 +37,23 @@ def test_one_guest_proceeds_until_it_asks_no_more(lend, come):
         lender.become("a", waits="deflate")
     lender.set_budget(206)
     eventually(lambda: granted(guests) == [4, 1])
+
+
+# A floor of 40 pages.
+FLOOR = ("--floor", "160K", "--reserve", "0", "--period", "100", "--step", "0", "--strict")
+
+
+def test_who_does_not_wait_gives_all_but_a_quarter_of_the_floor(lend, come):
+    """Once one waits and all is given that leaves each the floor."""
+    lender = lend(1, *FLOOR)
+    a, b = guests = [come(lender, name, {FREE: free}) for name, free in (("a", 90), ("b", 100))]
+    lender.set_budget(256 - 50 - 60)
+    for name, guest, count in zip("ab", guests, (50, 60)):
+        lender.become(name, asked=count)
+        guest.give(GIVEN[:count])
+        guest.figures[FREE] = 40
+        lender.become(name, ballooned=count, lent=128 - count, free=40)
+    a.take(GIVEN[:30])
+    lender.become("b", asked=60 + 40 - 10)
+    b.give(GIVEN[60:90])
+    eventually(lambda: granted(guests) == [1, 0])
