@@ -111,7 +111,8 @@ OF_ALL = (
 )
 TERMS_ARE = (
     "a name, and of least=MIB, most=MIB, priority=NUMBER, weight=NUMBER from 1 on, strict=0 or 1, "
-    "overhead=MIB, limit=cgroup:PATH or tmpfs:MOUNT, user=NAME, memory=MIB, start=MIB what is wanted"
+    "overhead=MIB, limit=cgroup:PATH or tmpfs:MOUNT, user=NAME, memory=MIB, start=MIB what is "
+    "wanted"
 )
 SIZES = ("least", "most", "overhead", "memory", "start")
 NO_TERMS = (
