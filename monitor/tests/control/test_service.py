@@ -146,7 +146,7 @@ def test_a_manager_is_told_what_there_is_once_in_a_while(program, folder, manage
     """Also where it has no watchdog, or one that waits longer."""
     words = (str(folder), "--budget", "480M")
     host = manager.start(program, folder, *words, watchdog=int(watchdog * 1e6))
-    manager.until("READY")
+    manager.until("STATUS")
     begin = time.monotonic()
     assert manager.until("STATUS")["STATUS"] == "0 guests, 0 of 480 MiB held, 0 wait"
     assert time.monotonic() - begin > STATUS_EVERY / 2
