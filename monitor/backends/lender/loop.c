@@ -3,8 +3,6 @@
 #include "measures.h"
 #include "places.h"
 
-#include <signal.h>
-#include <sys/pidfd.h>
 #include <unistd.h>
 
 /* Seconds for messages in a turn. */
@@ -54,21 +52,6 @@ static void each_seat(struct host *host, void (*act)(struct seat *seat))
         act(seat_at(host, i));
 }
 
-/* The process of a guest that was removed is told to end once more, and is killed where it hasn't
- * in time. */
-static void hurry(struct seat *seat)
-{
-    if (loop_now() < seat->leaves_until) {
-        seat_leave(seat);
-        return;
-    }
-    speaker_begins(&seat->speaker);
-    complain("its process doesn't end, and is killed");
-    speaker_ends();
-    pidfd_send_signal(seat->process_file, SIGKILL, NULL, 0);
-    seat->leaves_until = INT64_MAX;
-}
-
 /* Counts what the host holds, decides, and asks for new statistics. */
 static void look(struct host *host)
 {
@@ -85,7 +68,7 @@ static void look(struct host *host)
     places_relieve(host), places_defer(host);
     shortage_look(host);
     for (unsigned i = 0; i < host->leaving_count; i++)
-        hurry(host->leaving[i]);
+        seat_hurry(host->leaving[i]);
     for (unsigned i = 0; i < host->count; i++) {
         if (!seat_is_due(host->seats[i]))
             continue;

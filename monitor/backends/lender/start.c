@@ -269,11 +269,29 @@ bool host_awaits(const struct host *host)
     return false;
 }
 
+static void kill_process(const struct seat *seat)
+{
+    pidfd_send_signal(seat->process_file, SIGKILL, NULL, 0);
+}
+
+void seat_hurry(struct seat *seat)
+{
+    if (loop_now() < seat->leaves_until) {
+        seat_leave(seat);
+        return;
+    }
+    speaker_begins(&seat->speaker);
+    complain("its process doesn't end, and is killed");
+    speaker_ends();
+    kill_process(seat);
+    seat->leaves_until = INT64_MAX;
+}
+
 void seat_disown(struct seat *seat)
 {
     seat->refused = true;
     place_uncounts(seat);
-    pidfd_send_signal(seat->process_file, SIGKILL, NULL, 0);
+    kill_process(seat);
     file_close(seat->channel);
     seat->channel = -1;
     host_changed(seat->host, BY_GUESTS);

@@ -95,7 +95,7 @@ static void operator_says(void)
     rewind(host.answers.out);
 }
 
-/* What is shown of the host and of a guest, to whoever asks. */
+/* What clients are shown of the host and of a guest. */
 static void show(unsigned number)
 {
     struct host_view all;
