@@ -166,8 +166,8 @@ static void check_version(char words[MOST_WORDS])
         words[0] = 0;
 }
 
-/* The pages for which it waits since this report, as its client brings them: none of those that were
- * outside of its slots. */
+/* The pages for which it waits since this report, as its client brings them: none of those that
+ * were outside of its slots. */
 static uint32_t brings(const struct seat *seat, const struct lending_message *message)
 {
     bool has_waited = seat->report.waits == WAIT_ROOM && message->wait == seat->report.wait;
