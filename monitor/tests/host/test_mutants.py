@@ -32,6 +32,7 @@ MOVES = {
     "30": "test_arriving.py::"
     "test_a_device_with_fewer_pages_in_its_balloon_than_it_was_to_come_with",
     "31": "test_migrating.py::test_a_balloon_continues_on_another_host[as it was]",
+    "32": "test_migrating.py::test_what_the_device_writes_is_logged[killed]",
 }
 
 HERE = os.path.dirname(os.path.realpath(__file__))

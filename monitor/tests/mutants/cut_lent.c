@@ -16,8 +16,7 @@
  *     handles-twice  calls the handler of a message again that was handled
  *     no-call        tells no driver of what the process before has used
  *     no-log         logs nothing any longer
- *     log-lacks-last doesn't mark what the process before has written last
- *     no-transfer    knows nothing of a device that is saved or loaded
+ *     no-load        knows nothing of a device that is loaded
  *     any-part       goes on with such a one, though the process before ended amid a part of it
  */
 #include "../../backends/process/lent.h"
@@ -94,17 +93,17 @@ REAL(void, dirty_log_mark, struct dirty_log *log, uint64_t guest, uint64_t lengt
 REAL(bool, migration_regain, struct backend *backend, struct log_place place,
      const struct ring rings[QUEUES])
 {
-    static const struct ring none[QUEUES];
     if (is("no-log"))
         place.bytes = 0;
-    return __real_migration_regain(backend, place, is("log-lacks-last") ? none : rings);
+    return __real_migration_regain(backend, place, rings);
 }
 
 REAL(void, transfer_regain, struct backend *backend, const struct transfer *transfer)
 {
     const struct transfer none = {0};
     backend->room->amid = backend->room->amid && !is("any-part");
-    __real_transfer_regain(backend, is("no-transfer") ? &none : transfer);
+    bool forgets = is("no-load") && transfer->state == TRANSFER_LOADS;
+    __real_transfer_regain(backend, forgets ? &none : transfer);
 }
 
 REAL(void, inbox_next, struct inbox *inbox)

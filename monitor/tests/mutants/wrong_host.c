@@ -26,7 +26,7 @@
  *    26  admits each guest that comes from another host
  *    27  lends a guest that comes from another host all its memory
  *
- * 5, 8 and 28 to 31 are wrong in guests' processes (wrong_lent.c).
+ * 5, 8 and 28 to 32 are wrong in guests' processes (wrong_lent.c).
  */
 #include "../../backends/lender/places.h"
 

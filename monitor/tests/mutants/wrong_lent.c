@@ -7,6 +7,7 @@
  *    29  a guest that comes from another host has no room before it has memory
  *    30  a device is loaded that has fewer pages in its balloon than it was to come with
  *    31  the target of a device that is loaded is taken, whatever the lender wants
+ *    32  what the process before has written last isn't marked in the log
  */
 #include "../../backends/process/lent.h"
 
@@ -19,6 +20,7 @@ enum {
     COMES_AT_ONCE,
     COMES_WITH_LESS,
     TAKES_TARGET,
+    LACKS_LAST,
     /* Where the target of a device is in its bytes (docs/LINUX.md, docs/INTEGRATION.md). */
     TARGET_AT = 32 + 46
 };
@@ -34,6 +36,9 @@ bool __real_awaited_comes(struct backend *, uint32_t, uint32_t);
 bool __wrap_awaited_comes(struct backend *, uint32_t, uint32_t);
 bool __real_moved_load(struct backend *, const uint8_t *, size_t);
 bool __wrap_moved_load(struct backend *, const uint8_t *, size_t);
+
+bool __real_migration_regain(struct backend *, struct log_place, const struct ring *);
+bool __wrap_migration_regain(struct backend *, struct log_place, const struct ring *);
 
 static int wrong(void)
 {
@@ -84,4 +89,11 @@ bool __wrap_moved_load(struct backend *backend, const uint8_t *bytes, size_t len
         balloon_set_target(&backend->balloon, target);
     }
     return loads;
+}
+
+bool __wrap_migration_regain(struct backend *backend, struct log_place place,
+                             const struct ring *rings)
+{
+    static const struct ring none[QUEUES];
+    return __real_migration_regain(backend, place, wrong() == LACKS_LAST ? none : rings);
 }
