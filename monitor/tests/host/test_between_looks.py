@@ -3,8 +3,9 @@
 import time
 
 import pytest
+from kept import Kept
 from played import ORDER_GRANT, ORDER_LOOK, TELL_REPORT, VERSION, Message, Played
-from tenants import FREE, eventually
+from tenants import FREE, eventually, process_of
 from test_channels import channel
 from test_strict import GIVEN, STRICT, used
 from vhost_client import DEFLATE, INFLATE, PAGE
@@ -77,6 +78,39 @@ def a_deflate_is_held(lender, come):
     used(guest, DEFLATE, 1)
 
 
+def two_have_given(lender, come):
+    """Returns two guests that have given 50 of their 128 pages, so that there is room for no
+    more."""
+    guests = [come(lender, it, {FREE: 100}) for it in ("a", "b")]
+    lender.set_budget(156)
+    for it in ("a", "b"):
+        has_target(lender, it, 50)
+    for it in guests:
+        it.give(GIVEN[:50])
+    for it in ("a", "b"):
+        lender.become(it, ballooned=50, lent=78)
+    return guests
+
+
+def a_deflate_waits_for_another_guest(lender, come):
+    """It is granted by what that one gives."""
+    one, other = two_have_given(lender, come)
+    other.take(GIVEN[:20])
+    time.sleep(HEARD)
+    one.give(GIVEN[50:70])
+    used(other, DEFLATE, 1)
+
+
+def a_target_waits_for_another_guest(lender, come):
+    """It falls by what that one gives."""
+    one, other = two_have_given(lender, come)
+    process = Kept(process_of(lender, "a"))
+    lender.demand("a target 0"), lender.demand("b target 70")
+    time.sleep(HEARD)
+    other.give(GIVEN[50:70])
+    eventually(lambda: process["target_pages"] == 30)
+
+
 def statistics_are_waited_for(lender, come):
     """Who can be asked, and doesn't answer, is waited for until it is clear that it won't soon."""
     come(lender, "a", {FREE: 100}).answers = False
@@ -88,6 +122,8 @@ STORIES = (
     pages_are_taken_unasked,
     pages_are_taken_that_nobody_granted,
     a_deflate_is_held,
+    a_deflate_waits_for_another_guest,
+    a_target_waits_for_another_guest,
     statistics_are_waited_for,
 )
 
