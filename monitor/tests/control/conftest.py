@@ -7,6 +7,7 @@ import linux_kit
 import pytest
 from hosts import Answering, Host
 from keeping import Kept
+from planner import library, shared
 from waiting import patience_from_now
 
 
@@ -16,6 +17,7 @@ PROGRAMS = (
     "wrong-checked/vhost_user_host",
     "libvb.so",
 )
+__all__ = ("library", "shared")
 
 
 @pytest.fixture(scope="session")

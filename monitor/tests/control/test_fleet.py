@@ -9,13 +9,12 @@ import threading
 import pytest
 from bigvasta.cli import main
 from bigvasta.commands import fleet
+from bigvasta.connection import MOST_ANSWER
 from fakes import Fake, drip
 from made_status import guest, status
-from planner import shared
 from served import serving
 from waiting import PATIENCE
 
-__all__ = ("shared",)
 MIB = 1 << 20
 
 # Of 480 MiB: two guests of 256 can't spare 256 of theirs. Of 1024: a guest spares all. Of 300: they
@@ -170,7 +169,7 @@ STRANGERS = (
     (b"SSH-2.0-x\r\n", "the host went away amid an answer"),
     (b"HTTP/1.1 200 OK\r\n\r\n<html>\n", "the host's answer is no JSON"),
     (b"HTTP/1.1 200 OK\r\n\r\n{}\n", "the host doesn't speak version 1 of the protocol"),
-    (b"x" * (3 << 20), "the host's answer is too long"),
+    (b"x" * (MOST_ANSWER + (2 << 20)), "the host's answer is too long"),
 )
 
 

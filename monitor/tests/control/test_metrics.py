@@ -267,7 +267,7 @@ def queries_of_the_page():
         return re.findall(r"'query=(.*?)'", page.read())
 
 
-def test_days_that_the_planner_reads(host, arrive, prometheus, tmp_path):
+def test_days_that_the_planner_reads(host, arrive, prometheus, tmp_path, library):
     """A guest, and a client that has handed over no memory yet, whose size is 0."""
     day, lending_day = queries_of_the_page()
     arrive("web-1", strict=True)
@@ -290,7 +290,7 @@ def test_days_that_the_planner_reads(host, arrive, prometheus, tmp_path):
     unused = host.guest("web-1")["available"] + host.guest("web-1")["ballooned"]
     found = [
         (it.name, it.pages, it.uses[-1].pages)
-        for it in reading.read(str(tmp_path / "day.json")).guests
+        for it in reading.read(library, str(tmp_path / "day.json")).guests
     ]
     assert found == [("web-1", 128, 128 - unused // PAGE)]
     (tmp_path / "lending.json").write_text(eventually(lambda: answer(lending_day)))

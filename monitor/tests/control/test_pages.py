@@ -49,7 +49,7 @@ def test_pages_are_well_formed(name):
 
 @pytest.mark.parametrize("name", ("bigvasta-host.conf.5", "vhost_user_host.1"))
 def test_the_period_has_the_bounds_that_its_page_says(program, folder, name):
-    least, most = re.search(r"from (\d+) to (\d+)", page(name)).groups()
+    least, most = re.search(r"(?s)\n\.B\S* \S*period\b.*?from (\d+) to (\d+)", page(name)).groups()
     for period, status in (
         (int(least) - 1, 2),
         (int(least), 0),
