@@ -11,5 +11,6 @@ int main(void)
     struct balloon_result result = balloon_notify_all(none);
     return (int)(balloon_save(none, &byte, 0) + balloon_restore(none, &byte, 0) +
                  balloon_write_status(none, 0, &result) + balloon_ask_statistics(none).code +
-                 balloon_set_regions(none, 0, 0) + vb_host_owed(0, 0) + vb_policy_decide(0, 0, 0, 0, 0, 0, 0).code + vb_version());
+                 balloon_set_regions(none, 0, 0) + vb_host_owed(0, 0) +
+                 vb_policy_decide(0, 0, 0, 0, 0, 0, 0).code + vb_version());
 }
