@@ -177,7 +177,8 @@ static void check_budget(void)
 }
 
 /* A guest whose process waits, by the last report that is believed, has its place in line, or its
- * process was answered by the number of that wait. */
+ * process was answered by the number of that wait; or it waits for memory for which its seat is
+ * still to pay. */
 static void check_wait(unsigned number)
 {
     const struct seat *seat = host.seats[number];
@@ -191,7 +192,8 @@ static void check_wait(unsigned number)
                       (seat->added != NO_PLACE && vb_seat_waits(&host.places[seat->added]));
     bool is_heard = seat->holds && seat_is_taken(seat) && seat->channel >= 0 && seat->lost == 0;
     bool waits = holds_answer || (report->held_pages > 0 && is_in);
-    demand(!is_heard || !waits || is_in_line || was_answered || was_granted);
+    bool pays = report->waits == WAIT_ROOM && seat_has_paid(seat) > loop_now();
+    demand(!is_heard || !waits || is_in_line || was_answered || was_granted || pays);
 }
 
 static void check(void)
