@@ -35,9 +35,11 @@ uint32_t ask_without(const struct seat *seat, uint32_t pages)
     return can ? pages - smaller(pages, most) : 0;
 }
 
+/* Who comes with all of its memory in its balloon asks for a page of it: a grant lets it in. */
 uint32_t ask_comes_without(const struct seat *seat, uint32_t pages)
 {
-    uint32_t given = comes(seat) ? smaller(seat->report.ballooned, pages) : 0;
+    uint32_t most = pages - smaller(pages, 1);
+    uint32_t given = comes(seat) ? smaller(seat->report.ballooned, most) : 0;
     return given > 0 ? given : ask_without(seat, pages);
 }
 

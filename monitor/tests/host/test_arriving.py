@@ -101,6 +101,13 @@ def test_a_device_with_fewer_pages_in_its_balloon_than_it_was_to_come_with(movin
     lender.become("a", lent=ALL - GIVEN_UP - 1)
 
 
+def test_who_comes_with_all_of_its_memory_in_its_balloon_is_answered(crowded):
+    """It is lent a page, by whose grant it is let in."""
+    lender, other = crowded(1)
+    assert comes(other, ALL, ALL) == FINE
+    lender.become("a", pages=ALL, lent=1, waits="nothing")
+
+
 def test_who_comes_and_goes_gives_all_back(crowded):
     lender, other = crowded(ALL)
     assert comes(other, GIVEN_UP, ALL) == FINE
