@@ -313,7 +313,11 @@ def test_what_the_host_did_itself(tmp_path, shared):
     """Of 200 pages on 150 one guest of two waits for a second of four: a picture and a plan have it
     beside the replays."""
     day = recording([150] * 5, **{name: rows(text) for name, text in WAITS.items()})
-    metrics = {"bigvasta_guest_available_bytes": 0, "bigvasta_guest_ballooned_bytes": 40 * PAGE}
+    metrics = {
+        "bigvasta_guest_available_bytes": 0,
+        "bigvasta_guest_free_bytes": 0,
+        "bigvasta_guest_ballooned_bytes": 40 * PAGE,
+    }
     path, picture = tmp_path / "day.json", tmp_path / "day.svg"
     path.write_text(
         answer(
