@@ -335,11 +335,7 @@ def test_what_the_host_did_itself(tmp_path, shared):
         str(path),
         "--library",
         shared,
-        "--floor",
-        "0",
-        "--budgets",
-        "600K",
-        "--draw",
+        *"--floor 0 --budgets 600K --draw".split(),
         str(picture),
     )
     assert json.loads(run(*words, "--json"))["host"] == {
