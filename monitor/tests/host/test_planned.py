@@ -148,9 +148,14 @@ def settle(lender, wanted):
     assert seen() == wanted, differs()
 
 
-def test_a_host_wants_of_its_guests_what_a_replay_does(lend, planned):
-    options = ("--period", "100", "--step", "0", "--strict", "--reserve", str(RESERVE))
-    lender, guests = lend(2 * FRAMES * PAGE >> 20, "--floor", "0", *options), {}
+# Of so many days one is as the replay: the host decides whenever a report has come, and what it
+# decides between two reports of a line may stay. Seconds for a line, but of the last day.
+DAYS, SECONDS = 4, 15
+
+
+def play(lender, planned):
+    """Plays the day."""
+    guests = {}
     try:
         for _, name, used, cached, _ in ROWS[:3]:
             guests[name] = Obedient(lender, name, used, cached)
@@ -164,3 +169,17 @@ def test_a_host_wants_of_its_guests_what_a_replay_does(lend, planned):
     finally:
         for it in guests.values():
             it.leave()
+
+
+def test_a_host_wants_of_its_guests_what_a_replay_does(lend, planned, monkeypatch):
+    options = ("--period", "100", "--step", "0", "--strict", "--reserve", str(RESERVE))
+    for number in range(1, DAYS + 1):
+        lender = lend(2 * FRAMES * PAGE >> 20, "--floor", "0", *options)
+        try:
+            with monkeypatch.context() as patched:
+                if number < DAYS:
+                    patched.setattr("waiting.PATIENCE", SECONDS)
+                return play(lender, planned)
+        except AssertionError:
+            if number == DAYS:
+                raise
