@@ -182,7 +182,8 @@ static void check_budget(void)
 
 /* A guest whose process waits, by the last report that is believed, has its place in line, or its
  * process was answered by the number of that wait; or it waits for memory for which its seat is
- * still to pay. */
+ * still to pay. One that was seen to hold pages beyond its memory has its place by its next
+ * report. */
 static void check_wait(unsigned number)
 {
     const struct seat *seat = host.seats[number];
@@ -194,7 +195,9 @@ static void check_wait(unsigned number)
     bool was_granted = report->held_pages > 0 && processes[number].granted == report->held_wait;
     bool is_in_line = vb_seat_waits(place_of(seat)) ||
                       (seat->added != NO_PLACE && vb_seat_waits(&host.places[seat->added]));
-    bool is_heard = seat->holds && seat_is_taken(seat) && seat->channel >= 0 && seat->lost == 0;
+    bool holds_beyond = place_of(seat)->outside > report->outside;
+    bool is_heard = seat->holds && seat_is_taken(seat) && seat->channel >= 0 && seat->lost == 0 &&
+                    !holds_beyond;
     bool waits = holds_answer || (report->held_pages > 0 && is_in);
     bool pays = report->waits == WAIT_ROOM && seat_has_paid(seat) > loop_now();
     demand(!is_heard || !waits || is_in_line || was_answered || was_granted || pays);
