@@ -148,7 +148,7 @@ def settle(lender, wanted):
     assert seen() == wanted, differs()
 
 
-# Of so many days one is as the replay: the host decides whenever a report has come, and what it
+# Of these days one is as the replay: the host decides whenever a report has come, and what it
 # decides between two reports of a line may stay. Seconds for a line, but of the last day.
 DAYS, SECONDS = 4, 15
 
