@@ -82,7 +82,7 @@ class Lender:
             0,
         )
         # Whether there is something new to decide on, and whether targets so far don't count.
-        self.news, self.anew = True, True
+        self.news, self.from_scratch = True, True
 
     # ---- what the host knows of a guest
 
@@ -117,7 +117,7 @@ class Lender:
         self.since[guest] = self.now
         self.note(guest, use)
         self.seats.arrive(guest, self.guests[guest].pages)
-        self.anew |= self.seats.lent(guest) > 0
+        self.from_scratch |= self.seats.lent(guest) > 0
         self.figure(guest)
 
     def begin(self, guests):
@@ -135,7 +135,7 @@ class Lender:
         """A guest goes, and its memory with it; what it waited for has ended."""
         self.seats.arrive(guest, 0)
         self.end_wait(guest)
-        self.runs[guest], self.anew = False, True
+        self.runs[guest], self.from_scratch = False, True
         self.figure(guest)
 
     def use(self, guest, use):
@@ -181,7 +181,7 @@ class Lender:
         """Has the library decide the targets; returns its answer. Those so far don't count where
         guests have come or gone."""
         first, count = self.seats.first(), self.count
-        self.so_far[:] = 0 if self.anew else self.seats.wanted
+        self.so_far[:] = 0 if self.from_scratch else self.seats.wanted
         self.firsts[:] = 0
         if first is not None:
             self.firsts[first] = 1
@@ -195,8 +195,8 @@ class Lender:
             return
         missing, wanted = self.ask_library().missing, self.seats.wanted
         changed = (wanted != self.decided).nonzero()[0].tolist()
-        self.decisions += bool(self.anew or changed or missing != self.missing)
-        self.missing, self.news, self.anew = missing, False, False
+        self.decisions += bool(self.from_scratch or changed or missing != self.missing)
+        self.missing, self.news, self.from_scratch = missing, False, False
         for guest in sorted(changed, key=lambda it: self.decided[it] < wanted[it]):
             self.seats.want(guest, self.targets[guest])
 

@@ -115,7 +115,8 @@ void transfer_regain(struct backend *backend, const struct transfer *transfer)
 {
     backend->transfer = *transfer;
     if (transfer_has_file(transfer) && backend->room->amid)
-        fail(backend, "its process has ended amid the device's state, which has to go anew");
+        fail(backend, "its process ended during the transfer of the device's state, which has to "
+                      "be restarted");
 }
 
 static int serve(void *context, int file)

@@ -38,7 +38,7 @@ bool transfer_load(struct backend *backend, int file);
  * came by it is loaded; else it is said why not. There is no transfer after that. */
 bool transfer_ends(struct backend *backend);
 
-/* Another process goes on with a transfer. Where the one before has ended amid a part of it, it has
+/* Another process resumes a transfer. Where the one before has ended amid a part of it, it has
  * failed, which is said. */
 void transfer_regain(struct backend *backend, const struct transfer *transfer);
 

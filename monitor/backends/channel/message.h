@@ -78,6 +78,12 @@ struct lending_message {
     char words[MOST_WORDS]; /* of a report: the version of the process */
 };
 
+/* The pages outside of its memory's slots by a report; one with terms doesn't say. */
+static inline uint32_t lending_outside(const struct lending_message *report)
+{
+    return report->has_terms ? 0 : report->outside;
+}
+
 /* The files with which a guest's process begins: where its client comes, its end of the channel,
  * and where a later lender comes. */
 enum { CLIENT_FILE = 3, CHANNEL_FILE, LATER_FILE, FILES_OF_GUEST };

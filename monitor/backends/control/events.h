@@ -4,8 +4,10 @@
 #define CONTROL_EVENTS_H
 #include "control.h"
 
-/* What was seen at the last look; NULL where there is no memory. And the end of that. */
+/* Makes room for what is seen at each look; NULL where there is no memory. */
 struct events *events_new(void);
+
+/* Frees it; it may be NULL. */
 void events_free(struct events *events);
 
 /* The number of the next event. */

@@ -113,7 +113,7 @@ static uint32_t held_pages(const struct seat *seat, enum guest_wait what)
 uint32_t ask_outside(const struct seat *seat)
 {
     const VbSeat *its = place_of(seat);
-    uint32_t says = seat->report.has_terms ? 0 : seat->report.outside;
+    uint32_t says = lending_outside(&seat->report);
     uint32_t keeps = its->uncounted ? smaller(its->outside, pages_beyond(seat)) : 0;
     return says > keeps ? says : keeps;
 }
@@ -121,8 +121,7 @@ uint32_t ask_outside(const struct seat *seat)
 uint32_t ask_returned(const struct seat *seat, const struct lending_message *report)
 {
     const VbSeat *its = place_of(seat);
-    uint32_t says = report->has_terms ? 0 : report->outside;
-    uint32_t left = its->outside - smaller(its->outside, says);
+    uint32_t left = its->outside - smaller(its->outside, lending_outside(report));
     return smaller(report->pages - smaller(report->pages, its->pages), left);
 }
 

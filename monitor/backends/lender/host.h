@@ -269,10 +269,12 @@ void host_run(struct host *host);
 
 /* ---- tables.c */
 
-/* Makes the tables of a host of this many guests; false, which is said, where there is no memory.
- * And the places that these have. */
-bool host_make_tables(struct host *host, unsigned guests);
+/* How many places of seats this many guests need. */
 size_t places_of(unsigned guests);
+
+/* Allocates the tables of a host of this many guests; false, which is said, where there is no
+ * memory. */
+bool host_make_tables(struct host *host, unsigned guests);
 
 /* ---- folder.c */
 

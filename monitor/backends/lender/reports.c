@@ -8,9 +8,8 @@ enum { MOST_VERSION = 32 };
  * pages that isn't one; NULL: all may be. */
 static const char *number_fault(const struct lending_message *report)
 {
-    const uint32_t pages[] = {report->pages,          report->wanted,
-                              report->ballooned,      report->held_pages,
-                              report->ballooned_then, report->has_terms ? 0 : report->outside};
+    const uint32_t pages[] = {report->pages,      report->wanted,         report->ballooned,
+                              report->held_pages, report->ballooned_then, lending_outside(report)};
     for (unsigned i = 0; i < sizeof pages / sizeof pages[0]; i++)
         if (pages[i] > MOST_SET)
             return "more pages than a guest may have";
@@ -23,9 +22,8 @@ static const char *number_fault(const struct lending_message *report)
  * outside of slots, than the earlier one has kept. */
 static bool has_more(const struct seat *seat, const struct lending_message *report)
 {
-    uint32_t outside = report->has_terms ? 0 : report->outside;
     if (seat->adopts)
-        return report->pages + outside > seat_frames(seat);
+        return report->pages + lending_outside(report) > seat_frames(seat);
     return report->pages > seat_pages(seat) + ask_returned(seat, report);
 }
 

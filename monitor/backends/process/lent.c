@@ -65,8 +65,8 @@ static void keep(struct backend *backend)
 }
 
 /* Serves the message that is whole in the inbox, which leaves that as this is kept, at the end of
- * the turn: until then another process finds what is left to do of it. Another process goes on with
- * the next message where the count of bytes is half used up. */
+ * the turn: until then another process finds what is left to do of it. Another process continues
+ * with the next message where the count of bytes is half used up. */
 static bool serve_message(struct lent *lent)
 {
     struct inbox *inbox = &lent->kept->inbox;

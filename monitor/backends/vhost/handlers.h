@@ -27,7 +27,7 @@ handler set_vring_enable, vring_kick;
 /* migration.c */
 handler set_log_base, set_device_state_fd, check_device_state;
 
-/* Another process goes on with the log that is there, and with these rings; false where it can't,
+/* Another process resumes the log that is there, and these rings; false where it can't,
  * which is said. */
 bool migration_regain(struct backend *backend, struct log_place place,
                       const struct ring kept[QUEUES]);

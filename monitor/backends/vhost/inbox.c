@@ -18,7 +18,7 @@ static bool are_the_next_ones(const struct inbox *inbox)
 }
 
 /* Notes bytes that have come, and the files beside them. The bytes of the head are noted last: what
- * comes after a head counts once that is whole, and a process that goes on where this one ended
+ * comes after a head counts once that is whole, and a process that continues where this one ended
  * before the last of these notes finds that the head's bytes lack alone. */
 static void note(struct inbox *inbox, size_t length)
 {
@@ -62,7 +62,7 @@ enum stream_state inbox_read(int socket, struct inbox *inbox)
     return state;
 }
 
-/* The number is last: a process that finds the one before goes on from here. What was read
+/* The number is last: a process that finds the one before continues from here. What was read
  * ahead stays where it is until the next read. */
 void inbox_next(struct inbox *inbox)
 {

@@ -72,7 +72,7 @@ enum outcome set_device_state_fd(struct backend *backend, struct message *messag
     return answer_u64(backend, message, NO_FILE_COMES | !begun);
 }
 
-/* What has come through the pipe is kept before that is answered: it comes once. */
+/* What has come through the pipe is kept before the reply: it comes once. */
 enum outcome check_device_state(struct backend *backend, struct message *message)
 {
     if (backend->keep)

@@ -99,7 +99,7 @@ def test_the_counters_of_the_host(played):
     assert {it: line[it] for it in COUNTED} == {it: host["counters"][it] for it in COUNTED}
 
 
-# Seconds for which new reports are waited for before a line is answered by the old ones.
+# Seconds for which new reports are waited for before a line's reply is of the old ones.
 NEW_REPORTS = 0.3
 
 # Lines that a host refuses, and why.
@@ -160,7 +160,7 @@ def test_a_line_is_answered_by_reports_that_came_after_it(played):
 
 
 def test_a_line_waits_for_a_report_no_longer_than_for_a_while(played):
-    """It is answered by the last one then."""
+    """The reply is of the last one then."""
     lender, _, guest = played
     with guest.lock:
         begin = time.monotonic()

@@ -1,4 +1,4 @@
-"""A guest's process that is killed between any two system calls of its turns: another one goes on
+"""A guest's process that is killed between any two system calls of its turns: another one continues
 with what was kept, and the client notices nothing."""
 
 import array

@@ -16,7 +16,7 @@ WIDE = ("--floor", "0", "--period", "100", "--step", "0")
 # installed program is to go on; and, by how many bytes had been read, from where they are counted.
 KEPT_FILE, RENEWS, COUNTED_FROM = 190, 16, 32
 
-# The bytes of a client after which another process goes on; how many bytes a question for the
+# The bytes of a client after which another process continues; how many bytes a question for the
 # configuration has; the option of a socket that counts them (socket(7)), and pidfd_getfd(2).
 MOST_COUNTED, QUESTION, SO_PEEK_OFF, PIDFD_GETFD = 1 << 29, HEAD + 28, 42, 438
 

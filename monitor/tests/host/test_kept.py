@@ -77,7 +77,7 @@ ELSEWHERE = {
     "kept.inbox.ahead": ("test_between_calls.py", "test_messages_that_are_read_at_once"),
     "outcome": ("test_anew.py", "handles-twice"),
     "moves.serial": ("test_migrating.py", "test_another_program_knows_nothing_of_a_log"),
-    "room.amid": ("test_migrating_anew.py", "test_a_migration_that_is_cut_off_anywhere"),
+    "room.amid": ("test_migration_cut.py", "test_a_migration_that_is_cut_off_anywhere"),
 }
 
 # What is 0 for each guest of these tests: a kick is an eventfd, no memory has huge pages, and the

@@ -17,7 +17,7 @@
  *     no-call        tells no driver of what the process before has used
  *     no-log         logs nothing any longer
  *     no-load        knows nothing of a device that is loaded
- *     any-part       goes on with such a one, though the process before ended amid a part of it
+ *     any-part       resumes such a one, though the process before ended amid a part of it
  */
 #include "../../backends/process/lent.h"
 #include "../../backends/vhost/handlers.h"
@@ -156,10 +156,10 @@ REAL(void, outbox_regain, struct outbox *outbox)
 /* The files beside what was read are noted twice, as where the process before ended just then. */
 REAL(bool, inbox_regain, struct inbox *inbox, uint64_t length)
 {
-    bool regained = __real_inbox_regain(inbox, is("lost-bytes") ? 0 : length);
+    bool restored = __real_inbox_regain(inbox, is("lost-bytes") ? 0 : length);
     if (length > 0 && inbox_files_ahead(inbox).count == 0)
         files_take(&inbox->message.files);
-    return regained;
+    return restored;
 }
 
 REAL(void, files_take, struct files *files)

@@ -111,7 +111,7 @@ extern struct day *day;
 
 /* ---- time.c */
 
-/* Begins the day that the environment names, or goes on with the one of the lender before; whether
+/* Begins the day that the environment names, or resumes the one of the lender before; whether
  * it begins. A lender has these words. */
 bool day_begins(char **words);
 

@@ -1,5 +1,5 @@
-"""A guest's process that ends amid a migration, and another one that goes on with it: each write is
-in the log, and the device is saved and loaded, the second time where a part of it was amid."""
+"""A guest's process that ends amid a migration, and another one that resumes it: each write is in
+the log, and the device is saved and loaded, the second time where a part of it was amid."""
 
 import os
 import struct
@@ -11,8 +11,8 @@ from vhost_client import INFLATE, Client
 from vhost_logs import log_base, log_file, logged, page_of_used, set_logging
 from vhost_moves import PROTOCOL, load, saved, stopped
 
-# Lives in which a device may have to go anew: the calls of a turn in which a part of it goes.
-MOST_ANEW = 40
+# Lives in which a transfer may have to be restarted: the calls of a turn in which a part goes.
+MOST_RESTARTED = 40
 
 
 def try_twice(act):
@@ -50,27 +50,29 @@ def migrate(lender, name):
     os.close(file)
     client.leave()
     lender.demand(f"remove {name}")
-    anew = [it for it in lender.said() if it.startswith(f"{name}: ") and "to go anew" in it]
-    assert unsaved + unloaded == len(anew), f"{unsaved} and {unloaded} failed: {anew}"
-    return anew
+    restarted = [
+        it for it in lender.said() if it.startswith(f"{name}: ") and "to be restarted" in it
+    ]
+    assert unsaved + unloaded == len(restarted), f"{unsaved} and {unloaded} failed: {restarted}"
+    return restarted
 
 
 def migrate_everywhere(lender):
     """Such lives that are cut off in one place each, until one isn't; returns how many there were,
-    and in how many of them something had to go anew."""
-    anew = 0
+    and in how many of them a transfer had to be restarted."""
+    restarted = 0
     for place in range(1, MOST_CUTS, 3):
-        anew += len(migrate(lender, f"cut-{place}"))
+        restarted += len(migrate(lender, f"cut-{place}"))
         if not [it for it in lender.said() if f"cut-{place}: its process has ended by" in it]:
             break
-    return place, anew
+    return place, restarted
 
 
 @pytest.mark.timeout(900)
 def test_a_migration_that_is_cut_off_anywhere(lend, cutting):
     lender = lend(64, *WIDE, "--strict", "--lines", "10000", "--program", cutting)
-    places, anew = migrate_everywhere(lender)
-    assert LEAST_CUTS < places < MOST_CUTS and 0 < anew < MOST_ANEW, (places, anew)
+    places, restarted = migrate_everywhere(lender)
+    assert LEAST_CUTS < places < MOST_CUTS and 0 < restarted < MOST_RESTARTED, (places, restarted)
 
 
 # Of a migration.
@@ -87,6 +89,6 @@ def test_a_migration_that_goes_on_wrongly_is_found(lend, cutting, wrong, monkeyp
         monkeypatch.setattr(f"{it}.PATIENCE", 2)
     lender = lend(64, *WIDE, "--strict", "--lines", "10000", "--program", cutting)
     with pytest.raises((AssertionError, OSError, struct.error, TypeError)) as found:
-        places, anew = migrate_everywhere(lender)
-        assert anew > 0, "nothing had to go anew"
+        places, restarted = migrate_everywhere(lender)
+        assert restarted > 0, "no transfer had to be restarted"
     print(f"{wrong}: {found.value}")
