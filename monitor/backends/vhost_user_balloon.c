@@ -28,7 +28,7 @@
  * skipped. --keep: the host keeps all memory. --hints: and FREE_PAGE_HINT. --discard-hints: pages
  * that are hinted are discarded, else they are counted alone. --events: notifications as messages
  * aren't offered, so a client uses events. --state: the device is kept in this file, and a backend
- * that finds one there goes on with its target and its `actual`. --lines: what is said in a second
+ * that finds one there resumes with its target and its `actual`. --lines: what is said in a second
  * at most (20). --help, --version and --print-capabilities are answered.
  */
 #include "balloon/backend.h"

@@ -31,7 +31,7 @@
  *                         it serves
  *     NAME counters, NAME ask, NAME statistics
  *     leave               the lender ends alone: guests and their processes live on, and the next
- *                         lender of the folder goes on with them
+ *                         lender of the folder takes them over
  *     quit                end, and all guests' service; so do the signals SIGTERM and SIGINT, and
  *                         without --config SIGHUP
  *
@@ -62,8 +62,8 @@
  * the end breaks a rule. --features, --events, --lines: as for vhost_user_balloon. --no-sandbox:
  * guests' processes may make any system call. --end-with-lender: the kernel ends them with the
  * lender.
- * --leave: signals end the lender alone, as the line `leave` does: a service that starts anew goes
- * on with its guests.
+ * --leave: signals end the lender alone, as the line `leave` does: a service that restarts takes
+ * its guests over.
  */
 #include "base/options.h"
 #include "lender/host.h"

@@ -202,7 +202,7 @@ static uint32_t serve_chain(const Call *call)
     return next_portion(call);
 }
 
-/* The walk goes on in the copy for as long as it has the next descriptor. */
+/* The walk continues in the copy for as long as it has the next descriptor. */
 uint32_t after_row(const Call *call)
 {
     VbNotice *notice = call->notice;

@@ -30,7 +30,7 @@ static int keep(void *context, const struct balloon_region *region, uint64_t fro
     return 0;
 }
 
-/* A driver that begins anew, over the memory that there is. */
+/* A driver that restarts, over the memory that there is. */
 static void begin(uint64_t features, uint16_t size)
 {
     const VbSettings settings = {.offered = FEATURES, .reserved_pages = RESERVED};

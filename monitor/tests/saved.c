@@ -258,7 +258,7 @@ static void impossible_devices_are_not_saved(void)
     EXPECT(vb_save(&good, (VbHeld){.statistics = 64}, bytes, sizeof bytes) == VB_OK);
 }
 
-/* A balloon goes on where it was; not over other memory, or with a queue in a hole. */
+/* A balloon continues where it was; not over other memory, or with a queue in a hole. */
 static void a_balloon_goes_on(void)
 {
     uint8_t bytes[VB_STATE_BYTES], again[VB_STATE_BYTES];
@@ -292,7 +292,7 @@ static void a_balloon_goes_on(void)
     EXPECT(balloon_notify(&it->balloon, VB_INFLATE).pages == 1);
 }
 
-/* No balloon goes on of which any one queue has a part in the hole; the last of four places of a
+/* No balloon continues of which any one queue has a part in the hole; the last of four places of a
  * queue has none there. */
 static void no_queue_lies_in_a_hole(void)
 {

@@ -1,5 +1,5 @@
 """The links of pages, for tools/check-sources: each leads to a file that is there, and to a heading
-that it has."""
+that it has; each source that a page names is there, too."""
 
 import os
 import re
@@ -10,6 +10,10 @@ ROOT = os.path.realpath(os.path.join(os.path.dirname(__file__), "../.."))
 LINK = re.compile(r"\]\(([^()\s]+)\)")
 HEADING = re.compile(r"(?m)^#+ (.*)$")
 CODE = re.compile(r"(?ms)^```.*?^```$|`[^`\n]*`")
+NAMED = re.compile(r"`([\w/.-]*\w\.(?:py|[ch]|rt|antt))`")
+
+# The page whose older entries name files that were there.
+HISTORY = "CHANGELOG.md"
 
 
 def read(path):
@@ -18,15 +22,20 @@ def read(path):
         return file.read()
 
 
-def pages():
-    """Returns the names of all pages, from the top."""
+def files(*patterns):
+    """Returns the names of all files, or of those that match a pattern, from the top."""
     listed = subprocess.run(
-        ["git", "-C", ROOT, "ls-files", "-co", "--exclude-standard", "*.md"],
+        ["git", "-C", ROOT, "ls-files", "-co", "--exclude-standard", "--", *patterns],
         stdout=subprocess.PIPE,
         text=True,
         check=True,
     )
     return [it for it in listed.stdout.splitlines() if os.path.isfile(f"{ROOT}/{it}")]
+
+
+def pages():
+    """Returns the names of all pages, from the top."""
+    return files("*.md")
 
 
 def anchor(heading):
@@ -57,3 +66,17 @@ def dead():
                 elif place and place not in anchors(read(file)):
                     found.append(f"{page}:{number}: {file} has no heading #{place}")
     return found
+
+
+def missing():
+    """Returns the sources that pages name and that aren't there, each with its page and line; NAME
+    in one is for any."""
+    there = ["/" + it for it in files()]
+    return [
+        f"{page}:{number}: no file is named {name}"
+        for page in pages()
+        if page != HISTORY
+        for number, line in enumerate(read(page).splitlines(), 1)
+        for name in NAMED.findall(line)
+        if "NAME" not in name and not any(it.endswith("/" + name) for it in there)
+    ]

@@ -65,7 +65,7 @@ cat /root/why && test -s /root/before
 cp /etc/bigvasta/host.conf /root/host.conf && systemctl show -p MainPID bigvasta-host > /root/main
 """
 
-# Whose configuration was changed keeps it; the host starts anew, and the guest and its process
+# Whose configuration was changed keeps it; the host restarts, and the guest and its process
 # stay. Another guest comes to the new host.
 NEW_SERVICE = f"""
 rm -r {DROP_IN}

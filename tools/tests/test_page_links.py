@@ -1,5 +1,5 @@
-"""Tests which links tools/lib/page_links.py takes for dead: each page is one of a small
-repository."""
+"""Tests which links tools/lib/page_links.py takes for dead, and which sources for missing: each
+page is one of a small repository."""
 
 import subprocess
 
@@ -44,3 +44,23 @@ def test_a_link_goes_from_its_page(tmp_path, monkeypatch):
     subprocess.run(["git", "init", "-q", str(tmp_path)], check=True)
     monkeypatch.setattr(page_links, "ROOT", str(tmp_path))
     assert page_links.dead() == ["docs/OTHER.md:1: no file docs/PAGE.md"]
+
+
+# A line of a page beside src/there.py, and the source of it that is missing.
+NAMES = (
+    ("`there.py`, `src/there.py`, `proofs/NAME.antt`, `none.md`, none.py", []),
+    ("`here.py` and `there.py`", ["PAGE.md:1: no file is named here.py"]),
+    ("`lib/there.py`", ["PAGE.md:1: no file is named lib/there.py"]),
+    ("`re.py`", ["PAGE.md:1: no file is named re.py"]),
+)
+
+
+@pytest.mark.parametrize("line, said", NAMES)
+def test_named_sources(line, said, tmp_path, monkeypatch):
+    (tmp_path / "src").mkdir()
+    (tmp_path / "src/there.py").write_text("")
+    for page in ("PAGE.md", "CHANGELOG.md"):
+        (tmp_path / page).write_text(f"{line}\n")
+    subprocess.run(["git", "init", "-q", str(tmp_path)], check=True)
+    monkeypatch.setattr(page_links, "ROOT", str(tmp_path))
+    assert page_links.missing() == said

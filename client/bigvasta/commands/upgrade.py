@@ -77,7 +77,7 @@ def run(asked):
         version = earlier.get(name, guest["version"])
         if now and now["version"] != after["host"]["version"]:
             stay.append(name)
-            tell(f"{name}: {now['version'] or 'unknown'} stays, until its client comes anew")
+            tell(f"{name}: {now['version'] or 'unknown'} stays, until its client reconnects")
         elif now and now["process"] == guest["process"]:
             stay.append(name)
             tell(f"{name}: {now['version']} stays: its process doesn't answer, or waits for memory")

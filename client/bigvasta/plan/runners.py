@@ -56,7 +56,7 @@ class Processes:
 
 
 class Scheduler:
-    """The workers of a Dask scheduler. What a worker had that goes is done anew on another one."""
+    """The workers of a Dask scheduler. What a worker had that goes is done again on another one."""
 
     def __init__(self, address, out):
         self.address, self.out = address, out

@@ -38,9 +38,9 @@ struct options {
     bool ends_with_lender;      /* the kernel ends it as its lender ends */
     bool open;                  /* it isn't shut in a sandbox */
     bool lives_on;              /* the end of the control pipe isn't the end of the process */
-    bool goes_on;               /* it goes on with what another program has kept of this guest */
+    bool goes_on;               /* it resumes with what another program has kept of this guest */
     const char *user;           /* the number of its client's user; NULL: any */
-    uint64_t layout; /* somebody asks whether this program goes on with what is kept in this layout;
+    uint64_t layout; /* somebody asks whether this program resumes with what is kept in this layout;
                         0: nobody */
 };
 
@@ -95,7 +95,7 @@ struct backend {
     unsigned remarks; /* what was said of it, at most MOST_REMARKS lines */
 };
 
-/* Says something of a client that goes on being served; but not for ever. */
+/* Says something of a client that is still served; but not for ever. */
 void remark(struct backend *backend, const char *format, ...) __attribute__((format(printf, 2, 3)));
 
 /* The options of such a process, as rows of a table (options.h). */

@@ -16,7 +16,7 @@
 #include <unistd.h>
 
 /* Microseconds after which a call is broken off that was to come back at once. TRIES: a look at an
- * eventfd is made anew where somebody else has read it meanwhile. */
+ * eventfd is made again where somebody else has read it meanwhile. */
 enum { MOMENT = 1000, TRIES = 4 };
 
 void event_close(struct event *event)

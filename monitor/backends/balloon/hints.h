@@ -12,7 +12,7 @@ struct backend;
 bool hints_line(struct backend *backend, const char *line);
 
 /* Goes on from a device of another process, which was reset since: where it had these options, the
- * ids of rounds go on after its own, and else anew. */
+ * ids of rounds continue after its own, and else from the first. */
 void hints_go_on(struct backend *backend, VbBalloon before);
 
 #endif

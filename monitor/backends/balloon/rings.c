@@ -74,7 +74,7 @@ void configuration_write(VbDevice *device, uint32_t offset, uint32_t number)
 
 /* No ring runs any longer: a round of hints is stopped, as by a driver's reset, which this may be.
  * The rings may go on where they were, so `actual` and the set of pages in the balloon stay until
- * the first ring starts anew. So does poison_val, which QEMU writes before it tells the features,
+ * the first ring restarts. So does poison_val, which QEMU writes before it tells the features,
  * until it is written again, as each driver does that knows it. */
 static bool rest(struct backend *backend)
 {
@@ -139,7 +139,7 @@ bool rings_run(const struct backend *backend)
     return false;
 }
 
-/* Where a queue starts, in guest addresses: it goes on after what was used, so what was taken and
+/* Where a queue starts, in guest addresses: it resumes after what was used, so what was taken and
  * not used is served again, as requests are served in order. */
 static bool find_start(struct backend *backend, unsigned number, VbQueueStart *at)
 {
@@ -153,12 +153,12 @@ static bool find_start(struct backend *backend, unsigned number, VbQueueStart *a
         !memory_word(&backend->memory, at->used + RING_INDEX_AT, &at->next))
         return refuse("queue %u isn't in the guest's memory", number);
     if (ring->based && (ring->base > UINT16_MAX || (uint16_t)(ring->base - at->next) > ring->size))
-        return refuse("queue %u goes on at %u, and its used index is %u", number, ring->base,
+        return refuse("queue %u resumes at %u, and its used index is %u", number, ring->base,
                       at->next);
     return true;
 }
 
-/* The queue of inflates starts anew: at 0 a new life begins, with nothing in the balloon; else the
+/* The queue of inflates restarts: at 0 a new life begins, with nothing in the balloon; else the
  * last one continues. Where a device was loaded that says at which index it continues, so does its
  * driver at that one, and at another one a new life begins. */
 static bool begin_life(struct backend *backend, uint16_t position)
@@ -264,7 +264,7 @@ void rings_keep(const struct backend *backend, struct ring kept[QUEUES])
     }
 }
 
-/* Finds where a ring goes on that ran in another process: what that one has used since it was kept
+/* Finds where a ring resumes that ran in another process: what that one has used since it was kept
  * is seen in the guest's memory. */
 static bool find_used(struct backend *backend, unsigned number)
 {

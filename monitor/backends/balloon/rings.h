@@ -16,7 +16,7 @@ enum { QUEUES = 5 };
 /* What a client has told of one queue; addresses are the client's. */
 struct ring {
     uint64_t table, avail, used;
-    uint32_t size, base; /* base: the index at which it goes on */
+    uint32_t size, base; /* base: the index at which it resumes */
     struct event kick, call, fault;
     bool placed, based; /* the addresses were told, and the index */
     bool enabled, started;
@@ -85,11 +85,11 @@ bool ring_describes(const struct backend *backend, uint32_t kind, uint64_t guest
 /* Whether all rings that run lie in memory where they lay; else says which doesn't. */
 bool rings_hold(struct backend *backend);
 
-/* Stops a ring until it is started anew, and notes at which index it goes on. */
+/* Stops a ring until it is restarted, and notes at which index it resumes. */
 void ring_end(struct backend *backend, unsigned number);
 
 /* Stops all rings and forgets what was told of them, but for the files for interrupts and the index
- * at which each goes on: QEMU 7.2 resets the status before it asks for that. */
+ * at which each resumes: QEMU 7.2 resets the status before it asks for that. */
 void rings_halt(struct backend *backend);
 
 /* As rings_halt, and forgets the indexes, too. */
@@ -102,7 +102,7 @@ void rings_keep(const struct backend *backend, struct ring kept[QUEUES]);
 bool rings_regain(struct backend *backend, const struct told *told, const struct ring kept[QUEUES],
                   bool was_ready);
 
-/* The end of a driver's life without another one that goes on: nothing is in the balloon any
+/* The end of a driver's life without another one after it: nothing is in the balloon any
  * longer. */
 bool rings_reset(struct backend *backend);
 

@@ -7,7 +7,7 @@
 
 #include <stdint.h>
 
-/* What serving and a turn come to: the loop goes on; it ends; or it ends since something can't go
+/* What serving and a turn come to: the loop continues; it ends; or it ends since something can't go
  * on. */
 enum { LOOP_FAULT = -1, LOOP_ENDS, LOOP_GOES_ON };
 

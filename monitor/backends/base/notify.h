@@ -8,7 +8,7 @@
  * wants none. */
 int64_t notify_every(void);
 
-/* It is ready; it reads its configuration anew; it ends; a word for its watchdog, with a line about
+/* It is ready; it reloads its configuration; it ends; a word for its watchdog, with a line about
  * what there is. */
 void notify_ready(void);
 void notify_reloads(void);

@@ -41,10 +41,10 @@ static sigset_t ending(void)
 }
 
 /* Standard output and error once more, by files that don't block; the same where they can't be
- * opened anew. */
+ * reopened. */
 static int standard[STDERR_FILENO + 1] = {STDIN_FILENO, STDOUT_FILENO, STDERR_FILENO};
 
-static void open_anew(int file)
+static void reopen(int file)
 {
     char path[32];
     struct stat its;
@@ -52,8 +52,8 @@ static void open_anew(int file)
         return; /* a plain file doesn't wait, and has its place in the old one; a socket is sent
                   * to */
     snprintf(path, sizeof path, "/proc/self/fd/%d", file);
-    int anew = open(path, O_WRONLY | O_NONBLOCK | O_CLOEXEC | O_NOCTTY);
-    standard[file] = anew < 0 ? file : anew;
+    int again = open(path, O_WRONLY | O_NONBLOCK | O_CLOEXEC | O_NOCTTY);
+    standard[file] = again < 0 ? file : again;
 }
 
 int file_of_output(void)
@@ -75,8 +75,8 @@ void process_begin(void)
     for (int file = 0; file <= STDERR_FILENO; file++)
         if (fcntl(file, F_GETFD) < 0 && open("/dev/null", O_RDWR) != file)
             abort();
-    open_anew(STDOUT_FILENO);
-    open_anew(STDERR_FILENO);
+    reopen(STDOUT_FILENO);
+    reopen(STDERR_FILENO);
     setvbuf(stdout, NULL, _IOLBF, 0);
     signal(SIGPIPE, SIG_IGN);
     sigset_t signals = ending();

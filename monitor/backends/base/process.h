@@ -13,7 +13,7 @@
 void process_begin(void);
 
 /* Writes to standard output or standard error without waiting, whatever they are: how many bytes;
- * -1 where there is no room. A pipe or a terminal is opened anew for it, as how its file blocks is
+ * -1 where there is no room. A pipe or a terminal is reopened for it, as how its file blocks is
  * shared with other processes. */
 ssize_t file_put(int standard, const void *bytes, size_t length);
 
@@ -59,7 +59,7 @@ bool file_look(int file, struct stat *its);
 int file_number(int file, const char *name);
 
 /* Closes a file; says where that fails. Where closing is put off, it is closed at the next
- * files_let_go: until then a process that goes on where this one was may want it. */
+ * files_let_go: until then a process that takes over where this one was may want it. */
 void file_close(int file);
 
 /* Whether closing is put off from now on; and closes what was put off. */

@@ -34,7 +34,7 @@ extern uint64_t lines_dropped;
 /* Says why the client isn't served any longer; returns false. */
 bool refuse(const char *format, ...) __attribute__((format(printf, 1, 2)));
 
-/* Says something while all goes on. */
+/* Says something while all continues. */
 void complain(const char *format, ...) __attribute__((format(printf, 1, 2)));
 
 /* Says that a client has gone. */

@@ -1,6 +1,6 @@
 /* What the lender and a guest's process say to each other: messages of one size over a
  * SOCK_SEQPACKET socket, in both directions. Neither waits for the other: a message for which there
- * is no room is dropped and counted. Nothing is lost by that, since each report says all anew, and
+ * is no room is dropped and counted. Nothing is lost by that, since each report says all again, and
  * each order is given again until a report shows that it was obeyed. */
 #ifndef MESSAGE_H
 #define MESSAGE_H
@@ -23,10 +23,10 @@ enum lending_kind {
     /* Of a guest's process. */
     TELL_REPORT,  /* all that it is */
     TELL_REFUSED, /* its client isn't served any longer, by `words` */
-    TELL_REMARK,  /* words, while all goes on */
+    TELL_REMARK,  /* words, while all continues */
     TELL_GONE,    /* its client has gone; the process ends */
     /* Of the lender: the numbers above stay, as processes of other versions know them. */
-    ORDER_RENEW, /* another process goes on, of the program that is there now */
+    ORDER_RENEW, /* another process takes over, of the program that is there now */
 };
 
 /* For what a guest's process waits before it answers its client. */

@@ -261,7 +261,7 @@ struct host {
     bool reminds, ends; /* it is the reminder; a signal has told the host to end */
 };
 
-/* The guests, the budget or the floor have changed: targets are decided anew at the next look. */
+/* The guests, the budget or the floor have changed: targets are decided again at the next look. */
 void host_changed(struct host *host, enum reason reason);
 
 /* Serves until a line or a signal says to quit or to leave. */

@@ -149,7 +149,7 @@ int host_find(const struct host *host, const char *name);
 struct guest_terms host_usual_terms(const struct host *host);
 
 /* What may be changed: NULL, or why it wasn't, in words for one line. Numbers are pages. Each is
- * looked at anew at once. */
+ * looked at again at once. */
 const char *host_set_budget(struct host *host, uint32_t pages);
 
 /* Sets how many pages the machine is to keep available (0: it needn't), and below which budget it

@@ -195,7 +195,7 @@ static int await(struct keeper *keeper, pid_t process)
     return status;
 }
 
-/* Whether the program that is there now goes on with what is kept. */
+/* Whether the program that is there now resumes with what is kept. */
 static bool suits(const struct keeper *keeper)
 {
     char layout[MOST_LINE];
@@ -228,7 +228,7 @@ static void become(const struct keeper *keeper)
         fcntl(files[i], F_SETFD, FD_CLOEXEC);
 }
 
-/* Whether another process goes on where one has ended by this status. */
+/* Whether another process takes over where one has ended by this status. */
 static bool goes_on(struct keeper *keeper, int status)
 {
     struct kept *kept = keeper->kept;

@@ -1,4 +1,4 @@
-/* What of a guest's process outlives it, in a memfd: another process goes on with it, on the same
+/* What of a guest's process outlives it, in a memfd: another process takes it over, on the same
  * client.
  *
  * A state is all that the process is between two steps. There are two, and one word says which one
@@ -14,7 +14,7 @@
 #include "../vhost/inbox.h"
 #include "../vhost/outbox.h"
 
-/* A program goes on with what another one has kept in the same layout. A count of bytes begins at
+/* A program resumes with what another one has kept in the same layout. A count of bytes begins at
  * COUNT_BEGINS, and goes down. */
 enum { KEPT_LAYOUT = 1, COUNT_BEGINS = 1 << 30 };
 
@@ -130,7 +130,7 @@ bool kept_restore(struct lent *lent);
 /* How many bytes of its client were noted, also of a message that isn't whole. */
 uint64_t kept_bytes(const struct kept *kept);
 
-/* How many bytes of the client were read that weren't noted; and begins the count anew, where those
+/* How many bytes of the client were read that weren't noted; and restarts the count, where those
  * that were are noted. */
 uint64_t kept_unnoted(const struct kept *kept);
 void kept_count_anew(struct kept *kept);

@@ -39,7 +39,7 @@ static bool admit(struct backend *backend)
     return true;
 }
 
-/* The hook for a driver that begins anew: what is in the balloon has to be lent before. */
+/* The hook for a driver that restarts: what is in the balloon has to be lent before. */
 static bool empties(struct backend *backend)
 {
     return lent_await((struct lent *)backend, WAIT_RESET, backend->ballooned);
@@ -260,10 +260,10 @@ static bool begin(struct lent *lent, const struct options *options, struct kept 
     if (!prepare(lent, options, kept))
         return false;
     if (kept->ended_by > 0)
-        complain("its process has ended by signal %u: another one goes on", kept->ended_by);
+        complain("its process has ended by signal %u: another one takes over", kept->ended_by);
     if (kept->stays)
         complain(
-            "its process stays of version %s: the program that is there now can't go on with it",
+            "its process stays of version %s: the program that is there now can't take it over",
             VB_VERSION);
     files_put_off(true);
     process_is_shut = HAS_SANDBOX && !options->open;

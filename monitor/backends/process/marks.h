@@ -25,7 +25,7 @@ bool marks_follow(struct backend *backend, struct marks *marks, uint64_t end);
 void marks_begin(struct marks *marks, uint64_t *set, bool holds);
 
 /* A guest's set has this many words, which another process has filled; its memory is there again. A
- * deflate that was held is told anew, and its set is empty until then. */
+ * deflate that was held is told again, and its set is empty until then. */
 void marks_regain(struct backend *backend, struct marks *marks, uint64_t words);
 
 #endif

@@ -54,7 +54,7 @@ static bool end_session(struct backend *backend)
 }
 
 /* A session begins: where a device is plugged again over one connection, its memory and its queues
- * are told anew. QEMU negotiates protocol features and hands over its channel before that, so these
+ * are told again. QEMU negotiates protocol features and hands over its channel before, so these
  * stay. */
 enum outcome set_owner(struct backend *backend, struct message *message)
 {

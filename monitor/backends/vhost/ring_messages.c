@@ -77,7 +77,7 @@ enum outcome set_vring_addr(struct backend *backend, struct message *message)
     return DONE;
 }
 
-/* Stops the ring, and answers where it goes on. */
+/* Stops the ring, and answers where it resumes. */
 enum outcome get_vring_base(struct backend *backend, struct message *message)
 {
     uint32_t words[2] = {message_u32(message, 0), 0};
@@ -130,7 +130,7 @@ enum outcome set_vring_kick(struct backend *backend, struct message *message)
                                                                                             : STOP;
 }
 
-/* Who is called anew may have missed a call. */
+/* Who is called again may have missed a call. */
 enum outcome set_vring_call(struct backend *backend, struct message *message)
 {
     struct ring *ring = ring_of(backend, message_u64(message, 0) & NUMBER_OF_EVENT);

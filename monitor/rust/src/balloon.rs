@@ -90,7 +90,7 @@ impl Balloon {
         }
     }
 
-    /// Guest memory was mapped anew, and ends elsewhere. A driver whose rings lay elsewhere has to reset the device.
+    /// Guest memory was remapped, and ends elsewhere. A driver whose rings lay elsewhere has to reset the device.
     ///
     /// # Errors
     /// `BadArgument` where no device has such memory; nothing is changed.

@@ -31,7 +31,7 @@ impl Pause {
         self.pieces = room.pieces;
     }
 
-    /// Puts the notice where it goes on, and goes on.
+    /// Puts the notice where it resumes, and resumes it.
     fn go_on(&mut self, notice: &mut Notice, balloon: &mut raw::Balloon, regions: &[Region], room: &mut Room) {
         *notice = std::mem::take(&mut self.notice);
         room.pieces = self.pieces;

@@ -40,7 +40,7 @@ pub(crate) fn state_error(code: u32) -> StateError {
 }
 
 impl State {
-    /// The index at which a queue goes on, as [`Balloon::stop_queue`](crate::Balloon::stop_queue) answers it; none where it has no
+    /// The index at which a queue resumes, as [`Balloon::stop_queue`](crate::Balloon::stop_queue) answers it; none where it has no
     /// place.
     pub fn next_index(&self, kind: Kind) -> Option<u16> {
         let (mut stopped, mut next) = (self.0, 0);

@@ -125,7 +125,7 @@ class Answering(threading.Thread):
         try:
             while not self.ended.wait(0.02):
                 while select.select([self.client.own], [], [], 0)[0]:
-                    # Another process that goes on may tell of what was used long ago.
+                    # Another process that takes over may tell of what was used long ago.
                     if self.client.told(PATIENCE) == STATISTICS and self.client.is_all_used(
                         STATISTICS
                     ):

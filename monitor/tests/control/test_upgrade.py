@@ -1,4 +1,4 @@
-"""An upgrade of a host whose guests live on: the next host goes on with the processes that there
+"""An upgrade of a host whose guests live on: the next host takes over the processes that there
 are, and shows which are of another version."""
 
 import os
@@ -115,7 +115,7 @@ def test_a_process_whose_program_does_not_go_on_stays(program, folder, tmp_path)
         installed / "vhost_user_balloon", 0o755
     )
     ran = bigvasta(host.control, "upgrade")
-    said = [f"host: {OLDER} -> {version()}", f"a: {OLDER} stays, until its client comes anew"]
+    said = [f"host: {OLDER} -> {version()}", f"a: {OLDER} stays, until its client reconnects"]
     assert (ran.returncode, ran.stdout.splitlines()) == (5, said)
     eventually(lambda: host.guest("a")["answers"])
     assert host.guest("a")["memory"] > 0

@@ -87,7 +87,7 @@ def test_a_scheduler_of_this_machine(shared, wanted, tmp_path):
 @pytest.mark.skipif(lacks() != "", reason=lacks())
 def test_a_worker_that_is_killed_amid(shared, tmp_path):
     """The scheduler and the client are in one namespace, three workers each in their own. One is
-    killed as a tenth is done, with what it has replayed and replays: the others do that anew."""
+    killed as a tenth is done, with what it has replayed and replays: the others do that again."""
     wanted = run(*LARGE, "--library", shared)
     with Machines(tmp_path, f"vb{os.getpid()}") as machines:
         machines.tie(4)

@@ -48,5 +48,5 @@ class Aside:
         said = os.read(self.reads, 1000)
         os.close(self.reads)
         _, status = os.waitpid(self.child, 0)
-        assert status == 0, "what goes on beside the test has failed"
+        assert status == 0, "what continues beside the test has failed"
         return json.loads(said)

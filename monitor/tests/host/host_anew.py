@@ -39,13 +39,13 @@ class Killer(threading.Thread):
             self.town.ended.set()
 
     def kill(self, name, its):
-        """Kills a guest's process, and waits for the one that goes on."""
+        """Kills a guest's process, and waits for the one that takes over."""
         os.kill(its["process"], signal.SIGKILL)
         self.killed += 1
         self.inflates += its["ballooned"] < its["target"]
         eventually(
             lambda: self.town.host.guests()[name]["process"] not in (0, its["process"]),
-            f"nobody goes on with {name}",
+            f"nobody takes over {name}",
         )
 
 

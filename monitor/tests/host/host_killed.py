@@ -1,5 +1,5 @@
 """Days of a strict host whose lender is killed again and again, and its guests' processes too: a
-later lender goes on with the guests, and no look finds them above the budget, not even while no
+later lender takes over the guests, and no look finds them above the budget, not even while no
 lender is there."""
 
 import os
@@ -22,7 +22,7 @@ EVERY, AWAY, LOOKS = 5, 0.5, 5
 # what was killed has gone on, on a machine that has other work.
 LONG_EVERY, PROCESS_EVERY, GOES_ON_IN = 90, 30, 120
 
-# Counters of a lender, which the next one counts anew.
+# Counters of a lender, which the next one counts from 0.
 COUNTED = ("decisions", "changed", "grants", "gone", "refused", "shorts")
 
 
@@ -39,7 +39,7 @@ class Town(linux_host.Town):
             return super().sample()
 
     def note_counters(self):
-        """Adds what the lender has counted, before another one counts anew."""
+        """Adds what the lender has counted, before another one counts from 0."""
         counters = self.host.counters()
         self.counted.update({it: counters[it] for it in COUNTED})
 
@@ -73,12 +73,12 @@ class Town(linux_host.Town):
         )
 
     def kill_process(self, name):
-        """Kills a guest's process, and waits for the one that goes on."""
+        """Kills a guest's process, and waits for the one that takes over."""
         with self.changes:
             process = self.host.guests()[name]["process"]
             os.kill(process, signal.SIGKILL)
             gone_on = lambda: self.host.guests()[name]["process"] not in (0, process)
-            eventually(gone_on, f"nobody goes on with {name}", GOES_ON_IN)
+            eventually(gone_on, f"nobody takes over {name}", GOES_ON_IN)
             self.processes += 1
 
 

@@ -20,7 +20,7 @@ PAIR_BUDGET, FLOOR = 430, 12
 
 
 class Lives(threading.Thread):
-    """A guest that fills its memory and reboots, or panics and is started anew, over and over."""
+    """A guest that fills its memory and reboots, or panics and is restarted, over and over."""
 
     def __init__(self, town, member, count):
         super().__init__(daemon=True)

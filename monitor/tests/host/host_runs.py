@@ -270,7 +270,7 @@ def lives_run(bench):
 
 
 def silence(town, victim, others):
-    """A guest stops, and counts as one that can spare what is ballooned alone; then it goes on."""
+    """A guest stops, and counts as one that can spare what is ballooned alone; then it resumes."""
     victim.guest.process.send_signal(signal.SIGSTOP)
     try:
         eventually(
@@ -289,7 +289,7 @@ def silence(town, victim, others):
         victim.guest.process.send_signal(signal.SIGCONT)
     eventually(
         lambda: town.host.guests()[victim.name]["answers"],
-        "a guest that goes on doesn't answer",
+        "a guest that continues doesn't answer",
         10,
     )
 

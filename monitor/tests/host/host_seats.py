@@ -122,7 +122,7 @@ def region(client, number, request):
 
 
 def plugged_again(town, client):
-    """A guest whose device is plugged again has no pages until it hands over its memory anew."""
+    """A guest whose device is plugged again has no pages until it hands over its memory again."""
     client.negotiate(protocol=OFFERED)
     client.add_memory()
     for number in range(4):

@@ -102,7 +102,7 @@ class Guest(threading.Thread):
 
     def answer(self, told):
         """Reads its target once that has changed, and tells its statistics where it is asked:
-        another process that goes on may tell of what was used long ago."""
+        another process that takes over may tell of what was used long ago."""
         if told is None and self.reads:
             read_target(self.client)
         if told == STATISTICS and self.answers and self.client.is_all_used(STATISTICS):

@@ -1,4 +1,4 @@
-"""A guest's process that ends amid its work, and another one that goes on with it on the same
+"""A guest's process that ends amid its work, and another one that takes it over on the same
 client, which notices nothing."""
 
 import os
@@ -146,7 +146,7 @@ def test_a_process_that_is_cut_off_anywhere(lend, cutting, way, strict, each):
     assert place and place > LEAST_CUTS, f"{place} places"
 
 
-# How a client stops all queues: Linux disables them, QEMU asks where each goes on, and before that
+# How a client stops all queues: Linux disables them, QEMU asks where each resumes, and before that
 # tells of a reset.
 STOPS = {
     "disabled": lambda client: [client.enable(number, 0) for number in range(4)],
@@ -237,7 +237,7 @@ def test_a_process_that_is_killed_amid_work(lend, way, strict):
     said = [
         it
         for it in lender.said()
-        if it == "a: its process has ended by signal 9: another one goes on"
+        if it == "a: its process has ended by signal 9: another one takes over"
     ]
     assert (len(said), lender.counters()["gone"]) == (KILLS, 0)
     client.leave()

@@ -156,7 +156,7 @@ def test_a_target_alone_lowers_no_limit(seats):
 
 
 def test_nothing_is_granted_before_the_limit_is_raised(seats):
-    """Its writer is held up: the guest has nothing until that goes on, and nobody else waits."""
+    """Its writer is held up: the guest has nothing until that continues, and nobody else waits."""
     lender, a, b = seats
     a.gives(GIVEN)
     writer = writer_of(lender, "a")

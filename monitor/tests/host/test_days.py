@@ -136,7 +136,7 @@ def test_where_too_much_is_wanted_guests_wait_for_good(host, tmp_path_factory):
 
 
 def test_an_overdraft_has_guests_go_on_that_wait_for_each_other(host, tmp_path_factory):
-    """What they want is a little more than what fits. With 4 MiB more each goes on in turn, and at
+    """What they want is a little more than what fits. With 4 MiB more each proceeds in turn, and at
     no step have they more than that."""
     day = Day(3, 480, beyond=60)
     status, said = live(host, str(tmp_path_factory.mktemp("d")), 2, day)

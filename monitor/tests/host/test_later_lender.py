@@ -1,4 +1,4 @@
-"""A lender that goes, and the next one, which goes on with the guests that there are."""
+"""A lender that goes, and the next one, which takes over the guests that there are."""
 
 import os
 import signal

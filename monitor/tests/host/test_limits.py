@@ -46,7 +46,7 @@ def test_a_limit_is_lowered_after_pages_came(one):
 
 
 def test_a_limit_is_raised_before_its_grant(one):
-    """Its writer is held up: the guest has nothing until that goes on, and nobody else waits."""
+    """Its writer is held up: the guest has nothing until that continues, and nobody else waits."""
     lender, a, b, its = one
     a.give(GIVEN[:50])
     lender.become("a", limit=78)

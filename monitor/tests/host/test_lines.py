@@ -28,7 +28,7 @@ def given(lend, come):
 
 def begin_anew(guest):
     """A guest's driver ends, to which nothing is lent ahead then though its target falls, and
-    begins anew, which may have to wait."""
+    restarts, which may have to wait."""
     guest.ended.set(), guest.join()
     for number in range(4):
         assert guest.client.enable(number, 0) == bytes(8)

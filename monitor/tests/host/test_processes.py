@@ -224,7 +224,7 @@ def test_another_process_goes_on_where_one_is_killed(lend, come):
     eventually(lambda: process_of(lender, "a") != process)
     assert (lender.counters()["gone"], process_of(lender, "b")) == (0, other)
     lender.become("a", here=1, ready=1, answers=1)
-    assert lender.said()[-1] == "a: its process has ended by signal 9: another one goes on"
+    assert lender.said()[-1] == "a: its process has ended by signal 9: another one takes over"
 
 
 def test_a_keeper_that_is_killed_ends_its_guest_alone(lend, come):

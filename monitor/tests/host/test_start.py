@@ -161,10 +161,10 @@ def test_it_begins_anew_with_its_start(small):
     lender.become("a", ballooned=100, lent=ALL - 100)
     with Connection(f"{lender.folder}/.control") as control:
         control.ask("guest", name="a", start=START * PAGE)
-    anew = begins_anew(guest)
-    assert anew.waits() and waits_of(lender, "a") == "reset"
+    restarted = begins_anew(guest)
+    assert restarted.waits() and waits_of(lender, "a") == "reset"
     lender.set_budget(START)
-    anew.ends()
+    restarted.ends()
     lender.become("a", ballooned=WITHOUT, lent=START, waits="nothing", cooperates=1)
     assert its.pages() == OVERHEAD + START
 

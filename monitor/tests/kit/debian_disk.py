@@ -93,7 +93,7 @@ def change(root):
     for it in UNWANTED:
         os.symlink("/dev/null", f"{units}/{it}")
     for it in ("etc", "var"):
-        # So that nothing is made anew as for an update.
+        # So that nothing is made again as for an update.
         with open(f"{root}/{it}/.updated", "w", encoding="utf-8"):
             pass
 

@@ -134,7 +134,7 @@ class Uml(OverSocket):
 
     forms, has_control, patience, most_guests = ("messages", "events"), False, 1, 64
 
-    # Whether the device of a guest that reboots connects anew.
+    # Whether the device of a guest that reboots reconnects.
     reboots_anew = True
 
     def __init__(self, folder, suite=None):

@@ -291,7 +291,7 @@ class Client:
             self.accepted(request, struct.pack("<Q", number), [events[number]])
 
     def stop_ring(self, number):
-        """Stops a ring; returns where it goes on."""
+        """Stops a ring; returns where it resumes."""
         answered, base = struct.unpack(
             "<II", self.send(GET_VRING_BASE, struct.pack("<II", number, 0))
         )

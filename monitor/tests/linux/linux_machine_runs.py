@@ -37,7 +37,7 @@ DIMM = 128
 # The descriptors of the largest queue.
 MOST_DESCRIPTORS = 1024
 
-# MiB of a guest whose memory goes on above 4 GiB, and the part of what is free that goes into its
+# MiB of a guest whose memory continues above 4 GiB, and the part of what is free that goes into its
 # balloon: Linux keeps some of each zone.
 LARGE, MOST = 4096, 0.9
 
@@ -68,11 +68,11 @@ def stop(machine):
 def go_on(machine):
     """Lets the machine go on."""
     machine.control.do("cont")
-    become(machine, "a machine that goes on has no device", lambda now: now["status"] == 15)
+    become(machine, "a machine that continues has no device", lambda now: now["status"] == 15)
 
 
 def pause_run(machine, chance):
-    """The machine is stopped, and goes on, while its balloon is filled or emptied."""
+    """The machine is stopped, and continues, while its balloon is filled or emptied."""
     kept = keep(machine, "keep", machine.memory // 6)
     fill_memory(machine)
     machine.guest.do("free")
@@ -134,7 +134,7 @@ def plug_again(machine):
 
 
 def plug_run(machine, _):
-    """With each of some balloons the machine is stopped and goes on, and the device is unplugged
+    """With each of some balloons the machine is stopped and continues, and the device is unplugged
     and plugged again: the balloon is what it was, and the guest has as much less memory by its own
     word."""
     kept = keep(machine, "keep", machine.memory // 6)
@@ -198,7 +198,7 @@ def dimm_run(machine, _):
 
 
 def begin_anew(machine, how):
-    """Has the guest begin anew with pages in its balloon: its driver begins with none, and reaches
+    """Has the guest restart with pages in its balloon: its driver begins with none, and reaches
     the target."""
     mib = machine.memory // 4
     inflate_filled(machine, mib)
@@ -206,11 +206,11 @@ def begin_anew(machine, how):
     inflated = machine.backend.counters()["inflated"]
     how()
     machine.guest.boot()
-    settle(machine, "the balloon of a guest that began anew")
+    settle(machine, "the balloon of a guest that restarted")
     counters = machine.backend.counters()
     demand(
         counters["inflated"] - inflated == mib * PAGES_PER_MIB,
-        f"after a guest began anew: {counters}",
+        f"after a guest restarted: {counters}",
     )
     machine.control.do("set-action", reboot="shutdown")
     audit(machine)

@@ -25,7 +25,7 @@ def program(folder, name, text):
 
 @pytest.fixture
 def boot(tmp_path):
-    """Boots a guest whose console says this, and goes on for a while; returns why it isn't ready,
+    """Boots a guest whose console says this, and continues for a while; returns why it isn't ready,
     if it isn't."""
     guests = []
 

@@ -17,7 +17,7 @@ Under QEMU also:
 
     written   at each sample `actual` is what is in the balloon, but for the one request that the
               driver has posted
-    pause     the machine is stopped and goes on, amid inflates and deflates
+    pause     the machine is stopped and continues, amid inflates and deflates
     plug      with pages in its balloon the machine is stopped, and the device is unplugged, and
               plugged again over the same connection; it has five queues
     dimm      memory is plugged in, and goes into the balloon

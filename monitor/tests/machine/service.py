@@ -137,14 +137,14 @@ def amid_inflates():
 
 
 def processes():
-    """Kills the guest's process, again and again; another one goes on."""
+    """Kills the guest's process, again and again; another one takes over."""
     before, came = goes_on(), guest()["counters"]["clients"]
     for number in range(KILLS):
         time.sleep(random.random() * 0.2)
         seen = amid_inflates()
         os.kill(seen["process"], signal.SIGKILL)
         eventually(
-            lambda: guest()["process"] not in (0, seen["process"]), "nobody goes on with the guest"
+            lambda: guest()["process"] not in (0, seen["process"]), "nobody takes over the guest"
         )
         begun = len(answers())
         eventually(lambda: len(answers()) > begun, "the guest does nothing more")
@@ -157,7 +157,7 @@ def processes():
 
 
 def another_lender(act):
-    """Does something after which another lender is there, which goes on with the guest and its
+    """Does something after which another lender is there, which takes over the guest and its
     process."""
     before, process, lender = goes_on(), guest()["process"], process_of(HOST)
     act(lender)
@@ -171,13 +171,13 @@ def another_lender(act):
 
 
 def lender():
-    """Kills the lender, which the service manager starts anew."""
+    """Kills the lender, which the service manager restarts."""
     another_lender(lambda process: os.kill(process, signal.SIGKILL))
     assert run("systemctl", "show", "--value", "-p", "NRestarts", HOST).strip() == "1"
 
 
 def restart():
-    """Restarts the service; the service manager reads its units anew before."""
+    """Restarts the service; the service manager reloads its units before."""
     run("systemctl", "daemon-reload")
     another_lender(lambda _: run("systemctl", "restart", HOST))
 

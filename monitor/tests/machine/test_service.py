@@ -1,5 +1,5 @@
 """The installed service under systemd, with a guest at work whose limit is `memory.max` of its own
-cgroup: processes are killed, started anew and upgraded, and the guest's client notices nothing
+cgroup: processes are killed, restarted and upgraded, and the guest's client notices nothing
 (service.py says what is done, and what is demanded)."""
 
 import pytest

@@ -1,4 +1,4 @@
-/* A guest's process that aborts in one place, so that another one goes on: that of the guest
+/* A guest's process that aborts in one place, so that another one takes over: that of the guest
  * `cut-N` or `cut-N-..` at the Nth of these places that it comes by, which are before and after
  * each call that this file is put before. Later processes of that guest don't end, but those of the
  * guest `cut-always`, each at the first place.
@@ -10,7 +10,7 @@
  *     answers-twice  answers a message that was answered already
  *     lost-bytes     doesn't know of bytes that were read as the process before ended
  *     lost-files     nor of files
- *     old-state      goes on with the state that was kept before the last one
+ *     old-state      resumes with the state that was kept before the last one
  *     new-number     holds a deflate that was held before by a new number
  *     ungranted      waits for the grant of a deflate that was granted
  *     handles-twice  calls the handler of a message again that was handled

@@ -3,8 +3,8 @@
  * BACKEND_WRONG names the one that it is:
  *
  *     no-call           a used buffer isn't told by the event of its queue
- *     serves-stopped    a ring that was stopped goes on being served at its kicks
- *     base-0            a ring that stops answers that it goes on at 0
+ *     serves-stopped    a ring that was stopped is still served at its kicks
+ *     base-0            a ring that stops answers that it resumes at 0
  *     no-reply          an answer that the client waits for doesn't come
  *     no-change         a change of the configuration isn't told
  *     keeps-slot        a region that the client takes away stays
@@ -23,7 +23,7 @@
  *     old-round         hints are told whose round's id wasn't read
  *     after-done        hints are told whose round has ended
  *     discards-kept     hints are discarded that are to be kept
- *     ids-anew          the ids of rounds begin anew with each process
+ *     ids-anew          the ids of rounds restart with each process
  *
  * Three are right, but for their age or their machine:
  *

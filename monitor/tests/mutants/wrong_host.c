@@ -4,8 +4,8 @@
  *     1  asks each guest for the same
  *     2  asks each guest for what the guest before it should give
  *     3  leaves no guest its floor
- *     4  goes on counting the pages of guests that have gone
- *     7  doesn't decide anew when the floor changes
+ *     4  still counts the pages of guests that have gone
+ *     7  doesn't decide again when the floor changes
  *     9  lowers a guest's limit by its target, before its pages came
  *    10  grants a deflate before the guest's limit is raised
  *    11  tells a guest all of a target that falls, and lends only a part of that

@@ -40,7 +40,7 @@ RESET = day_of(a=((0, 40), (10, 0), 40), b=((0, 50), (20, 70), 40), c=((0, 80), 
 # b can spare 50, and a has 10 left of its part, 30: b gives 20, and a gets them.
 NEWCOMER = day_of(a=((0, 80), (30, 40), 50), b=((10, 50), 50))
 
-# The same, but that a goes on as it was: b never starts.
+# The same, but that a continues as it was: b never starts.
 REFUSED = day_of(a=((0, 80), 50), b=((10, 50), 50))
 
 # a gives 50. At 10 c asks for its 100: a can spare 90 and b 40, 20 too few, and 10 + 60 are lent.

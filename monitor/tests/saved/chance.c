@@ -48,7 +48,7 @@ void any_restored_device_works(void)
            (unsigned)ROUNDS);
 }
 
-/* Pages, or a buffer of one figure, from rings that begin anew with each life of the device. */
+/* Pages, or a buffer of one figure, from rings that restart with each life of the device. */
 static void any_request(uint32_t kind)
 {
     if (guest.balloon.state.device.status == 0) {

@@ -204,7 +204,7 @@ static void what_is_refused(void)
     free_memory(&guest);
 }
 
-/* A saved balloon goes on with what it holds. */
+/* A saved balloon resumes with what it holds. */
 static void it_is_saved(void)
 {
     static struct guest guest;

@@ -1,7 +1,7 @@
 /* A device that moves, and its target. */
 #include "test.h"
 
-/* The state goes to another balloon over a copy of the memory, and the driver goes on where it
+/* The state goes to another balloon over a copy of the memory, and the driver continues where it
   * was. */
 static void a_device_moves(void)
 {

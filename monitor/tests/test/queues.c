@@ -63,7 +63,7 @@ static void count_calls(void *context, const VbStatistic *figures, uint32_t coun
     ++*(unsigned *)context;
 }
 
-/* A buffer that is held is forgotten with its queue, which goes on at the buffer: it is taken
+/* A buffer that is held is forgotten with its queue, which resumes at the buffer: it is taken
  * again. */
 static void a_held_buffer_is_taken_again(void)
 {

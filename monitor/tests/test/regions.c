@@ -1,4 +1,4 @@
-/* Regions that touch, have bounds or are mapped anew, and queues that aren't there. */
+/* Regions that touch, have bounds or are remapped, and queues that aren't there. */
 #include "test.h"
 
 #ifndef RUST_SHIM

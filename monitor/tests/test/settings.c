@@ -32,7 +32,7 @@ static void settings_are_for_themselves(void)
 }
 
 #ifndef RUST_SHIM
-/* A balloon is made anew in any bytes. */
+/* A balloon is made again in any bytes. */
 static void nothing_is_left_of_other_bytes(void)
 {
     static struct guest guest;

@@ -15,7 +15,7 @@ static VbQueueStart ring_of(uint16_t size, uint16_t next)
     return (VbQueueStart){TABLE, AVAIL, USED, size, next};
 }
 
-/* A balloon whose queue of inflates goes on at an index, and what the driver has there. */
+/* A balloon whose queue of inflates resumes at an index, and what the driver has there. */
 static void begin(struct guest *guest, uint16_t size, uint16_t next)
 {
     struct balloon_result result;

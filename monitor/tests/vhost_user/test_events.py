@@ -69,7 +69,7 @@ def test_a_ring_goes_on_where_it_was(start_by_events):
     assert client.counter("status") == 15
     client.tell_place(INFLATE, base=3)
     client.give_events(INFLATE)
-    client.called(INFLATE)  # where it goes on, it calls once
+    client.called(INFLATE)  # where it resumes, it calls once
     demand_served(client, INFLATE, [FIRST + 9])
     assert client.used(INFLATE)[0] == 4
     assert client.holes() == [FIRST + it for it in (0, 1, 2, 9)]

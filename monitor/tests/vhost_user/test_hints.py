@@ -180,7 +180,7 @@ def test_poisoned_hints_are_kept(serve_well):
     hint(client, told=True)
 
 
-# How a driver's life ends while another one's rings begin anew: a reset that is told as such, as
+# How a driver's life ends while another one's rings restart: a reset that is told as such, as
 # status 0, or as stopped queues alone.
 ENDS = {
     "a reset": lambda client: client.accepted(RESET_DEVICE),

@@ -86,7 +86,7 @@ def test_a_device_goes_on_where_it_was(start_by_events):
     client.accepted(SET_STATUS, word(0))
     assert client.counter("status") == 0
     client.accepted(SET_FEATURES, word(FEATURES | vhost_client.HAS_PROTOCOL))
-    client.go_on(bases, order=(2, 3, 1, 0))  # one that begins at 0 before the one that goes on
+    client.go_on(bases, order=(2, 3, 1, 0))  # one that begins at 0 before the one that continues
     assert (client.counter("status"), client.counter("actual")) == (15, 77)
     client.called(INFLATE)
     demand_served(client, INFLATE, [FIRST + 1])
@@ -105,7 +105,7 @@ def test_calls_stay_over_a_status_of_0(start_by_events):
     client.tell_place(INFLATE, base=1)
     client.accepted(SET_VRING_KICK, word(INFLATE), [client.kicks[INFLATE]])
     client.accepted(SET_VRING_ENABLE, struct.pack("<II", INFLATE, 1))
-    assert client.called(INFLATE) == 1  # where it goes on, it calls once
+    assert client.called(INFLATE) == 1  # where it resumes, it calls once
     demand_served(client, INFLATE, [FIRST + 1])
 
 

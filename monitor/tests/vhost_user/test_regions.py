@@ -1,5 +1,5 @@
 """Tests of rings in memory of several regions: their parts go over borders, and stay while the
-memory is handed over anew."""
+memory is handed over again."""
 
 import struct
 import time
@@ -113,7 +113,7 @@ def test_parts_over_a_border_of_regions(mapped, page):
 
 
 # Other regions for a part of a ring: they begin at another address of the guest, or of the client;
-# or the part goes on in a hole.
+# or the part continues in a hole.
 MOVED = [(2, around(it, (it, 1, AWAY, it))) for it in PARTS]
 ELSEWHERE = [(2, around(it, (it, 1, it, AWAY))) for it in PARTS]
 SHORTER = [(MOST_CHAINS, around(it + 1)) for it in PARTS]

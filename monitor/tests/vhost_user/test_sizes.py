@@ -25,7 +25,7 @@ GUEST, USER = REGIONS[0]
 TABLE, AVAILABLE, USED = (GUEST + it * PAGE for it in (0, 4, 5))
 RINGS = 8 * PAGE
 
-# Where a queue goes on: two turns of the largest ring go past its last entry, and past the index
+# Where a queue resumes: two turns of the largest ring go past its last entry, and past the index
 # 65,535.
 BEGIN = 65000
 

@@ -24,7 +24,7 @@ const BEFORE_FEATURES: [u8; 2] = [1, 3];
 const FEATURES_OK: u8 = 11;
 const DRIVER_OK: u8 = 15;
 
-/// A balloon, and the queues of it that run: where each is, and the index at which it goes on.
+/// A balloon, and the queues of it that run: where each is, and the index at which it continues.
 struct Running {
     balloon: Balloon,
     queues: [QueueStart; Kind::ALL.len()],
@@ -88,7 +88,7 @@ impl Running {
         }
     }
 
-    /// Serves all that is available on a queue, and keeps where it goes on.
+    /// Serves all that is available on a queue, and keeps where it resumes.
     fn serve(&mut self, memory: &GuestMemoryMmap, kind: Kind, vring: &VringRwLock, at: QueueStart) -> Result<()> {
         let mut served = self.begin(memory, kind, at)?;
         while served.more && served.stopped.is_none() {

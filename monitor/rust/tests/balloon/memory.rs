@@ -1,4 +1,4 @@
-//! Memory that is mapped anew, and large pages and the set that they go by.
+//! Memory that is remapped, and large pages and the set that they go by.
 
 use crate::guest::{buffer, file_of, settings, Guest};
 use std::io;

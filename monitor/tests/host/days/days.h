@@ -2,8 +2,8 @@
  * as it is: the linker puts these functions between it and the kernel's clock, and where it waits,
  * what its guests do happens. Each guest has the process that a lender knows, a driver as Linux's,
  * and work to do. Each of their steps takes a moment, at random a long one. Nothing else is random:
- * a day of one number is always the same. A lender may end at any time: then the program begins
- * anew, and all that is simulated is in memory that outlives it. */
+ * a day of one number is always the same. A lender may end at any time: then the program restarts,
+ * and all that is simulated is in memory that outlives it. */
 #ifndef DAYS_H
 #define DAYS_H
 #include "../../../backends/channel/message.h"
@@ -148,7 +148,7 @@ void process_is_read(struct guest *guest);
 /* A request is on one of its queues. */
 void process_kicked(struct guest *guest);
 
-/* Its guest begins anew; calls driver_begins once what was in the balloon may be had. */
+/* Its guest restarts; calls driver_begins once what was in the balloon may be had. */
 void process_reset(struct guest *guest);
 
 /* ---- driver.c */
@@ -158,7 +158,7 @@ void driver_is_told(struct guest *guest);
 void driver_inflated(struct guest *guest);
 void driver_deflated(struct guest *guest);
 
-/* It takes memory for its work, which then goes on with work_is_filled. */
+/* It takes memory for its work, which then resumes with work_is_filled. */
 void driver_fills(struct guest *guest, uint32_t pages);
 
 /* A new life begins, whose balloon is empty. */

@@ -106,7 +106,7 @@ void driver_is_told(struct guest *guest)
     soon(guest, work);
 }
 
-/* A request is used: the worker goes on. */
+/* A request is used: the worker continues. */
 static void used(struct guest *guest)
 {
     guest->report.actual = guest->balloon;

@@ -148,7 +148,7 @@ static void plan_end(void)
 }
 
 /* The lender ends as if it were killed, and the guests are alone for a while. Then the program
- * begins anew. */
+ * restarts. */
 static void end_lender(void)
 {
     for (unsigned i = 0; i < day->size; i++)
