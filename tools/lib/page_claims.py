@@ -10,6 +10,7 @@ import re
 import sys
 
 from page_packages import packages, wanted
+from page_walks import walks
 from source_files import ROOT, read
 
 WORDS = (
@@ -287,5 +288,6 @@ def claims():
         *order(),
         *named_files(),
         *named_tools(),
+        *walks(),
         *sanitized(),
     ]

@@ -7,6 +7,7 @@ import pytest
 
 import page_claims
 import page_packages
+import page_walks
 
 # The check, a file, a pattern in it, what replaces it, and a part of what is said then.
 CHANGES = (
@@ -116,6 +117,18 @@ CHANGES = (
         "`conform`, `conforms`, ",
         "its tools aren't those of tools: conforms",
     ),
+    ("walks", "docs/MAP.md", r"`balloon/kicks\.c`", "`balloon/kick.c`", "no file monitor/backends"),
+    ("walks", "docs/MAP.md", r"`lent_holds`", "`lent_hold`", "lent_channel.c has no function"),
+    ("walks", "docs/MAP.md", r"`seat_add`", "`seat_remove`", "no row above seat_remove calls it"),
+    ("walks", "docs/MAP.md", r"4\. `vb_c/serving\.rt`", "5. `vb_c/serving.rt`", "is row 4"),
+    ("walks", "docs/MAP.md", r"`decide`: has", "has", "isn't `FILE` `FUNCTION`"),
+    (
+        "walks",
+        "monitor/backends/lender/reports.c",
+        r"void adopt\(",
+        "void adopts(",
+        "reports.c has no function adopt",
+    ),
     (
         "sanitized",
         "monitor/README.md",
@@ -137,7 +150,7 @@ def changed(path, pattern, instead):
 
 @pytest.mark.parametrize("look, path, pattern, instead, said", CHANGES)
 def test_each_false_claim_is_refused(look, path, pattern, instead, said, monkeypatch):
-    for it in (page_claims, page_packages):
+    for it in (page_claims, page_packages, page_walks):
         monkeypatch.setattr(it, "read", changed(path, pattern, instead))
     assert any(said in line for line in getattr(page_claims, look)())
 
