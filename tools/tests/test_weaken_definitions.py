@@ -160,3 +160,22 @@ def test_stronger_definitions(weaken):
 def test_no_positive_fact_objects(weaken, objects):
     last = "weaken-definitions: 2 definitions, 1 tried, 1 got through"
     assert weaken("--stronger", objects=objects) == (1, [f"THROUGH {STRONGER[0]}", last])
+
+
+def test_a_matrix_says_which_facts_are_needless(weaken, tmp_path):
+    matrix = str(tmp_path / "matrix")
+    wanted = [f"refused {it}" for it in PLANTED]
+    last = "weaken-definitions: 3 definitions, 3 tried, 0 got through"
+    assert weaken("--matrix", matrix, objects=("four", "eleven")) == (0, [*wanted, last])
+    needless = ["proofs/EvenFacts.antt:four: 1 lines", "proofs/SmallFacts.antt:eleven: 2 lines"]
+    needless += [f"proofs/SmallFacts.antt:{it}: 2 lines" for it in ("neither", "one_less")]
+    last = "weaken-definitions: 4 of 5 facts, 7 lines"
+    assert weaken("--needless", matrix) == (0, [*needless, last])
+
+
+def test_a_matrix_of_facts_that_no_one_else_replaces(weaken, tmp_path):
+    matrix = str(tmp_path / "matrix")
+    weaken("--matrix", matrix, "--only", "IsFew", objects=("four",))
+    weaken("--matrix", matrix, "--only", "IsSmall", objects=("eleven",))
+    said = weaken("--needless", matrix)[1]
+    assert not any("Small" in it and ("four" in it or "eleven" in it) for it in said)
