@@ -65,14 +65,11 @@ static uint16_t contact_of(const struct seat *seat)
     return is_heard(seat) ? VB_CONTACT_HEARD : VB_CONTACT_SILENT;
 }
 
-/* What is known of a guest, with the memory that is added to it, and what is outside. What an
- * operator wants in its balloon is asked of it as what it has above its most. */
-static VbFigures figures_of(const struct seat *seat)
+/* What is known of a guest, with the memory that is added to it, and what is outside. */
+static VbFigures known_of(const struct seat *seat)
 {
     const VbSeat *its = place_of(seat), *added = added_place_of(seat);
-    uint32_t pages = its->pages + its->outside + added->pages;
-    uint32_t most = pages - smaller(pages, seat->by_hand);
-    return (VbFigures){.pages = pages,
+    return (VbFigures){.pages = its->pages + its->outside + added->pages,
                        .held = pages_held(seat),
                        .ballooned = its->ballooned + added->ballooned,
                        .ballooned_then = seat->ballooned_then,
@@ -81,7 +78,7 @@ static VbFigures figures_of(const struct seat *seat)
                        .lent = seat_lent(seat),
                        .asked = seat_asked(seat),
                        .least = seat->terms.least,
-                       .most = smaller(seat->terms.most, most),
+                       .most = seat->terms.most,
                        .weight = seat->terms.weight,
                        .priority = seat->terms.priority,
                        .target = seat->target,
@@ -115,6 +112,16 @@ static VbTiers tiers_of(const struct host *host, const VbFigures *figures)
 {
     VbPolicyBudget budget = budget_of(host);
     return vb_policy_tiers(&budget, figures);
+}
+
+/* What a guest is decided by. What an operator wants in its balloon is asked of it as what it has,
+ * of the pages that it counts for, above its most. */
+static VbFigures figures_of(const struct seat *seat)
+{
+    VbFigures figures = known_of(seat);
+    uint32_t pages = seat->by_hand > 0 ? tiers_of(seat->host, &figures).pages : UINT32_MAX;
+    figures.most = smaller(figures.most, pages - smaller(pages, seat->by_hand));
+    return figures;
 }
 
 uint32_t policy_spare(const struct seat *seat)

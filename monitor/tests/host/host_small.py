@@ -220,17 +220,17 @@ def refuse_third(town, clients):
     refused.leave()
     said = town.host.why_of("c")
     demand(said == "refused c: no room for 512K: 112K are missing", said)
-    # Two guests of 512 KiB hold what the budget has, and no more.
-    counters = town.host.counters()
-    demand(
-        [counters[it] for it in ("held_kib", "peak_kib", "above")] == [1024, 1024, 0],
-        f"the guests hold 1024 KiB: {counters}",
+    eventually(
+        lambda: town.host.counters()["held_kib"] == 1024,
+        lambda: f"two guests hold 512 KiB each: {town.host.counters()}",
+        5,
     )
 
 
 def worked_run(bench):
-    """Three guests of 128 pages on 256 frames, without a floor: 128 pages are missing."""
-    with bench.town(1, ("--floor", "0"), checked=True) as town:
+    """Three guests of 128 pages on 256 frames, without a floor and a reserve: 128 pages are
+    missing, and what the guests needn't give of what they can stays to them in equal parts."""
+    with bench.town(1, ("--floor", "0", "--reserve", "0"), checked=True) as town:
         paths = [town.host.add(it) for it in "abc"]
         clients = [Talker(path, town.host.why, free) for path, free in zip(paths, (40, 60))]
         refuse_third(town, clients)
@@ -241,25 +241,28 @@ def worked_run(bench):
             5,
         )
         clients.append(Talker(paths[2], town.host.why, 0))
-        targets_become(town, clients, (58, 70, 0))
-        # What serves stays, whatever the third one can spare now.
+        # Of 60, 70 and 0 a page stays to each that has one.
+        targets_become(town, clients, (59, 69, 0))
+        # Of 60, 70 and 100 each keeps 34; the first two have a page, which is too little.
         clients[2].free = 100
-        targets_become(town, clients, (58, 70, 0))
+        targets_become(town, clients, (26, 36, 66))
+        # Of 10, 70 and 100 the first can't give its 26; the others keep 21.
         clients[0].free = 10
-        targets_become(town, clients, (0, 28, 100))
+        targets_become(town, clients, (0, 49, 79))
         # The balloon counts as much as free pages do.
-        clients[1].free = 42
-        clients[1].post_pages(INFLATE, list(range(PAGES, PAGES + 28)))
-        targets_become(town, clients, (0, 28, 100))
-        # A guest that takes pages back has none free, whatever it has told before.
+        clients[1].free = 21
+        clients[1].post_pages(INFLATE, list(range(PAGES, PAGES + 49)))
+        targets_become(town, clients, (0, 49, 79))
+        # A guest that takes pages back has none free, whatever it has told before: of 10, 41 and
+        # 100 each would keep 7. The second, which can't give its 49, does, the others a page more.
         clients[1].post_pages(DEFLATE, list(range(PAGES, PAGES + 8)))
         eventually(
-            lambda: targets_of(town) == (8, 20, 100),
+            lambda: targets_of(town) == (2, 34, 92),
             lambda: f"after a deflate the targets are {targets_of(town)}",
-            0.4,
+            5,
         )
         clients[1].free = 0
-        targets_become(town, clients, (8, 20, 100))
+        targets_become(town, clients, (2, 34, 92))
         demand(
             town.host.guests()["b"]["taken"] == 8,
             f"8 pages were taken back: {town.host.guests()['b']}",
@@ -268,16 +271,16 @@ def worked_run(bench):
         clients.pop().leave()
         targets_become(town, clients, (0, 0, 0))
         # What the host asks a guest to take back isn't taken by itself.
-        clients[1].post_pages(DEFLATE, list(range(PAGES + 8, PAGES + 28)))
+        clients[1].post_pages(DEFLATE, list(range(PAGES + 8, PAGES + 49)))
         eventually(lambda: town.host.guests()["b"]["ballooned"] == 0, "b's balloon isn't empty", 5)
         seen, counted = town.host.guests()["b"], pairs(town.host.ask("b counters").split())
         demand(
-            (seen["taken"], seen["inflated"], seen["deflated"]) == (8, 28, 28),
-            f"b moved 28 pages, 8 of them by itself: {seen}",
+            (seen["taken"], seen["inflated"], seen["deflated"]) == (8, 49, 49),
+            f"b moved 49 pages, 8 of them by itself: {seen}",
         )
         demand(
-            (counted["marked"], counted["unmarked"]) == (56, 0),
-            f"28 pages went into b's set, and out of it: {counted}",
+            (counted["marked"], counted["unmarked"]) == (98, 0),
+            f"49 pages went into b's set, and out of it: {counted}",
         )
         counters = town.host.counters()
         demand(
@@ -295,27 +298,28 @@ def worked_run(bench):
 
 
 def short_by_hand(town, clients):
-    """The guests can spare 10, 20 and 100 pages, and then 10, 20 and 90: 8 are missing."""
-    clients[2].free = 90
-    targets_become(town, clients, (10, 20, 90))
+    """The guests can spare 10, 41 and 69 pages, so 8 are missing; and then 10, 41 and 100: each
+    would keep 7. The first two, which had nothing left, do, and the third two more."""
+    clients[2].free = 69
+    targets_become(town, clients, (10, 41, 69))
     short = town.host.counters()["short"]
     demand(short == 8, f"the guests are short by 8 pages, and the host says {short}")
     clients[2].free = 100
-    targets_become(town, clients, (8, 20, 100))
+    targets_become(town, clients, (3, 34, 91))
     demand(town.host.counters()["short"] == 0, "the host stays short")
 
 
 def many_run(bench):
-    """64 guests of 128 pages, who can spare 60 each, on 5,120 frames: 3,072 are missing, which are
-    51 times 60 and 12."""
+    """64 guests of 128 pages, who can spare 60 each, on 5,120 frames: 3,072 are missing, 48 of
+    each."""
     with bench.town(40, ("--floor", "0"), checked=True) as town:
         clients = [Talker(town.host.add(f"guest-{it}"), town.host.why, 60) for it in range(64)]
         targets_become(town, clients, 64 * (0,))
         town.host.demand("budget 20")
-        targets_become(town, clients, 51 * (60,) + (12,) + 12 * (0,))
+        targets_become(town, clients, 64 * (48,))
         demand(
-            town.host.counters()["changed"] == 52,
-            f"52 targets have changed: {town.host.counters()}",
+            town.host.counters()["changed"] == 64,
+            f"64 targets have changed: {town.host.counters()}",
         )
         for it in clients:
             it.leave()

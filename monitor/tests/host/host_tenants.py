@@ -144,23 +144,22 @@ def marks_run(bench):
 
 
 def who_gives_what(town):
-    """Who can spare most gives first, whatever it gave before."""
+    """What needn't be given of what guests can spare stays to them in equal parts: 16 pages of 100
+    and 60, then 50 of 100 and 128, since 16 are too little of 50."""
     a, b = (
         Talker(town.host.add(name), town.host.why, free) for name, free in (("a", 100), ("b", 60))
     )
     becomes(town, {"spare": 100}), becomes(town, {"spare": 60}, "b")
     c = Talker(town.host.add("c"), town.host.why, 0)
     eventually(
-        lambda: targets_of(town) == (100, 28, 0),
+        lambda: targets_of(town) == (84, 44, 0),
         lambda: f"128 pages are missing, and the targets are {targets_of(town)}",
         5,
     )
     b.free = 128
     b.tell_again(town)
-    becomes(town, {"spare": 128, "target": 28}, "b")
-    town.host.demand("floor 0")
     eventually(
-        lambda: targets_of(town) == (0, 128, 0),
+        lambda: targets_of(town) == (50, 78, 0),
         lambda: f"b can give 128 pages, and the targets are {targets_of(town)}",
         5,
     )
@@ -207,7 +206,8 @@ def who_does_not_answer(bench):
 
 def tells_run(bench):
     """Who gives, what a floor changes, and what is taken or spared."""
-    with bench.town(1, ("--floor", "0", "--period", "60000"), checked=True) as town:
+    options = ("--floor", "0", "--reserve", "0", "--period", "60000")
+    with bench.town(1, options, checked=True) as town:
         clients = who_gives_what(town)
         floors_are_decided(town)
         town.host.demand("budget 64")

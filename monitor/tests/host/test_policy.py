@@ -159,6 +159,25 @@ def test_least_above_most(lend):
     assert lender.ask("terms b least=3") == "error: no guest has that name"
 
 
+def test_what_an_operator_wants_is_asked_of_a_silent_guest(lend, come):
+    # With 64 of its 128 pages given up and back, it holds 64; with 40 in its balloon it counts for
+    # 104.
+    lender = lend(1, *QUICK)
+    a, pages = come(lender, "a", {FREE: 0}), list(range(PAGES, PAGES + 64))
+    a.give(pages)
+    lender.become("a", ballooned=64)
+    a.take(pages[40:])
+    lender.become("a", ballooned=40, held_kib=4 * 64)
+    lender.demand("a target 40")
+    a.answers = False
+    lender.become("a", answers=0)
+    looks = lender.counters()["looks"]
+    eventually(lambda: lender.counters()["looks"] > looks + 3)
+    assert targets(lender) == {"a": 40}
+    lender.set_budget(255)  # then all is decided again, and nothing is missing
+    become(lender, {"a": 0})
+
+
 def test_a_silent_guest_counts_for_what_it_holds(lend, come):
     lender = lend(1, *QUICK)
     a, pages = come(lender, "a", {FREE: 0}), [
