@@ -133,6 +133,15 @@ static bool interrupt(struct backend *backend, const struct balloon_result *resu
     return true;
 }
 
+/* The least target that its driver may obey: what it deflates toward that it doesn't take by
+ * itself. */
+static uint32_t least_target(const struct backend *backend)
+{
+    uint32_t target = backend->balloon.state.device.target,
+             obeyed = backend->obeyed ? backend->obeyed(backend) : target;
+    return obeyed < target ? obeyed : target;
+}
+
 /* What a queue of this kind has done to the set of ballooned pages: inflates put pages in, deflates
  * take them out. */
 static void count_marks(struct backend *backend, uint32_t kind, uint32_t marked)
@@ -142,8 +151,7 @@ static void count_marks(struct backend *backend, uint32_t kind, uint32_t marked)
         backend->ballooned += marked;
     if (kind == VB_DEFLATE)
         backend->ballooned -= marked;
-    backend->counters.taken +=
-        counters_taken(before, backend->ballooned, backend->balloon.state.device.target);
+    backend->counters.taken += counters_taken(before, backend->ballooned, least_target(backend));
 }
 
 uint32_t backend_given(const struct backend *backend)

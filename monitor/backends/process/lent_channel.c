@@ -32,24 +32,26 @@ static void say_to_lender(enum saying saying, const char *words)
     send_to_lender(speaks, &message);
 }
 
+/* The hook for the target that its driver obeys: the one that it has read last, or the last one,
+ * where it reads none, or hasn't for a while. */
+static uint32_t obeyed(const struct backend *backend)
+{
+    const struct lent *lent = (const struct lent *)backend;
+    bool reads = lent->notes.reads && loop_now() < lent->reads_until;
+    return reads ? lent->notes.read_target : backend->balloon.state.device.target;
+}
+
 void lent_speaks(struct lent *lent)
 {
     speaks = lent;
     say_through = say_to_lender;
-}
-
-/* The target that its driver obeys: the one that it has read last, or the last one, where it reads
- * none, or hasn't for a while. */
-static uint32_t obeyed_target(const struct lent *lent)
-{
-    bool reads = lent->notes.reads && loop_now() < lent->reads_until;
-    return reads ? lent->notes.read_target : lent->backend.balloon.state.device.target;
+    lent->backend.obeyed = obeyed;
 }
 
 void lent_reads(struct lent *lent)
 {
     uint32_t target = lent->backend.balloon.state.device.target;
-    lent->news |= target != obeyed_target(lent);
+    lent->news |= target != obeyed(&lent->backend);
     lent->notes.reads = true;
     lent->notes.read_target = target;
 }
@@ -78,7 +80,7 @@ void lent_report(struct lent *lent, uint64_t number, bool asked)
                                       .ballooned = lent_ballooned(lent),
                                       .status = device->status,
                                       .ready = backend_is_ready(backend),
-                                      .obeyed = lent->notes.reads ? obeyed_target(lent) + 1 : 0,
+                                      .obeyed = lent->notes.reads ? obeyed(&lent->backend) + 1 : 0,
                                       .asked = asked,
                                       .ballooned_then = lent->notes.ballooned_then,
                                       .taken_since = lent->notes.taken_since,
@@ -148,7 +150,7 @@ static int ask(struct lent *lent)
 static void set_target(struct lent *lent, uint32_t pages)
 {
     struct backend *backend = &lent->backend;
-    lent->notes.read_target = obeyed_target(lent);
+    lent->notes.read_target = obeyed(&lent->backend);
     if (pages != backend->balloon.state.device.target)
         lent->reads_until = loop_now() + READS_IN;
     balloon_set_target(&backend->balloon, pages);

@@ -124,3 +124,24 @@ def test_the_next_process_tells_what_was_read_before_for_as_long(lend, come):
     begin = time.monotonic()
     lender.become("a", target=128, lent=28)
     assert time.monotonic() - begin >= LINGERS - 0.5
+
+
+def test_what_a_driver_takes_by_the_target_that_it_has_read_isnt_taken_by_itself(lend, come):
+    """Its target rises while it deflates toward the one before: of these pages those below both
+    count."""
+    lender = lend(1, *STRICT)
+    a = come(lender, "a", {FREE: 100}, reads=False)
+    a.give(GIVEN[:100])
+    lender.become("a", ballooned=100)
+    read_target(a.client)
+    begin = time.monotonic()
+    lender.demand("a target 80")
+    lender.become("a", target=80)
+    a.take(GIVEN[:30])
+    lender.become("a", ballooned=70)
+    if time.monotonic() - begin >= LINGERS:
+        pytest.skip("the machine is too busy")
+    assert lender.guests()["a"]["taken"] == 0
+    read_target(a.client)
+    a.take(GIVEN[30:40])
+    lender.become("a", ballooned=60, taken=10)
