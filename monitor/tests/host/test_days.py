@@ -6,6 +6,7 @@ and SEED how many of each come before them, which aren't played (tools/play-days
 
 import os
 import subprocess
+import tempfile
 from typing import NamedTuple
 
 import linux_kit
@@ -24,10 +25,11 @@ pytestmark = pytest.mark.timeout(0)
 
 
 class Day(NamedTuple):
-    """Guests of 244 MiB, one of which may reboot after each of its works, and MiB for all; by how
-    many MiB what they want passes what fits, how many times as long as usually their steps take,
-    and whether the lender is killed every 10 seconds at most; or whether the working set moves
-    (test_moves.py).
+    """Guests of 244 MiB, some of which may reboot after each of their works, and MiB for all; by
+    how many MiB what they want passes what fits, how many times as long as usually their steps
+    take, whether the lender is killed every 10 seconds at most, how many MiB of overdraft it has,
+    and of how many messages one is lost; whether the working set moves (test_moves.py), and the
+    last guest's weight; after how many seconds who waits lets others pass.
     """
 
     guests: int
@@ -38,6 +40,9 @@ class Day(NamedTuple):
     killed: int = 0
     overdraft: int = 0
     moves: int = 0
+    loses: int = 0
+    weight: int = 0
+    lets_pass: int = 10
 
 
 # The last numbers are of works that are done on a day, at least, and of the first day: a lender
@@ -52,6 +57,10 @@ KINDS = {
     "slow-reboots": (Day(3, 480, reboots=1, slow=30), 100, 1),
     "killed": (Day(4, 560, killed=1), 300, 20),
     "killed-reboots": (Day(3, 480, reboots=1, killed=1), 100, 1),
+    "lost": (Day(2, 300, loses=20), 300, 1),
+    "floors": (Day(3, 300, beyond=30), 300, 1),
+    "overdraft": (Day(3, 480, beyond=50, overdraft=16), 400, 1),
+    "two-reboot": (Day(4, 700, reboots=2, slow=10, lets_pass=1), 300, 1),
 }
 
 
@@ -77,17 +86,23 @@ def live(program, folder, number, day):
         "--strict",
         "--overdraft",
         str(day.overdraft * MIB),
+        "--patience",
+        str(day.lets_pass),
         "--program",
         "/bin/true",
     ]
-    ran = subprocess.run(
-        words,
-        env=os.environ | {name: str(it) for name, it in numbers.items()},
-        stdin=subprocess.DEVNULL,
-        capture_output=True,
-        text=True,
-    )
-    return ran.returncode, ran.stdout.replace("ready\n", "")
+    with tempfile.TemporaryFile("w+") as lines:
+        if day.weight > 0:
+            lines.write(f"terms guest-{day.guests} weight={day.weight}\n")
+            lines.seek(0)
+        ran = subprocess.run(
+            words,
+            env=os.environ | {name: str(it) for name, it in numbers.items()},
+            stdin=lines,
+            capture_output=True,
+            text=True,
+        )
+    return ran.returncode, ran.stdout.replace("ready\n", "").replace("ok\n", "")
 
 
 def numbers_of(said):
@@ -96,20 +111,28 @@ def numbers_of(said):
     return dict(zip(words[0::2], map(int, words[1::2])))
 
 
-# Wrong hosts of tests/mutants/wrong_host.c, and what one of the first days says of each.
+# Wrong hosts of tests/mutants/wrong_host.c, on which days each is found, and what one of the first
+# of these says.
 FOUND_IN = 10
 HAVE_MORE, WAITS = "have more than the budget", "waits for a deflate"
 WRONG = {
-    "11": WAITS,
-    "12": WAITS,
-    "13": HAVE_MORE,
-    "14": WAITS,
-    "15": HAVE_MORE,
-    "16": HAVE_MORE,
-    "17": WAITS,
-    "18": WAITS,
-    "19": WAITS,
-    "20": WAITS,
+    "11": ("shift", WAITS),
+    "12": ("shift", WAITS),
+    "13": ("shift", HAVE_MORE),
+    "14": ("shift", WAITS),
+    "15": ("shift", HAVE_MORE),
+    "16": ("shift", HAVE_MORE),
+    "17": ("shift", WAITS),
+    "18": ("shift", WAITS),
+    "19": ("shift", WAITS),
+    "20": ("shift", WAITS),
+    "33": ("lost", WAITS),
+    "34": ("lost", "hasn't heard its target"),
+    "35": ("overdraft", "gets pages above the budget that others still give"),
+    "36": ("floors", WAITS),
+    "37": ("two-reboot", "waits for a new life"),
+    "39": ("shift", HAVE_MORE),
+    "40": ("killed", HAVE_MORE),
 }
 
 
@@ -155,10 +178,11 @@ def test_a_day_of_one_number_is_always_the_same(host, tmp_path_factory):
 @pytest.mark.parametrize("number", [pytest.param(it, marks=pytest.mark.wrong(it)) for it in WRONG])
 def test_a_wrong_host_is_found(number, tmp_path_factory, monkeypatch):
     monkeypatch.setenv("HOST_WRONG", number)
-    host = linux_kit.built("simulated-wrong/vhost_user_host")
-    for day in range(1, 1 + FOUND_IN):
-        status, said = live(host, str(tmp_path_factory.mktemp("d")), day, KINDS["shift"][0])
+    host, (kind, words) = linux_kit.built("simulated-wrong/vhost_user_host"), WRONG[number]
+    day, _, first = KINDS[kind]
+    for number_of_day in range(first, first + FOUND_IN):
+        status, said = live(host, str(tmp_path_factory.mktemp("d")), number_of_day, day)
         if status != 0:
             break
-    print(f"wrong host {number}, day {day}: {said.splitlines()[0]}")
-    assert status == 1 and WRONG[number] in said, said
+    print(f"wrong host {number}, day {number_of_day} of {kind}: {said.splitlines()[0]}")
+    assert status == 1 and words in said, said

@@ -4,7 +4,7 @@ one never does. The budget has room for one working set, and for little of what 
 The cached pages follow the work: they are all there long before its end. A guest whose work waits
 for memory gets pages that others have, in little more than the second in which a guest at rest is
 asked once, or as much later as steps take that are slow at random. No page cache is given while a
-guest has memory that it uses for nothing."""
+guest has memory that it uses for nothing, and of that a heavier guest keeps the most."""
 
 import linux_kit
 import pytest
@@ -14,12 +14,28 @@ from test_days import DAYS, SEED, Day, live, numbers_of
 SHIFTS = 20
 
 # Steps of guests that take no time, and steps as on other days.
-KINDS = {"at-once": Day(4, 440, slow=0, moves=1), "slow": Day(4, 440, moves=1)}
+KINDS = {
+    "at-once": Day(4, 440, slow=0, moves=1),
+    "slow": Day(4, 440, moves=1),
+    "weights": Day(4, 440, slow=0, moves=1, weight=4),
+}
 
-# Wrong hosts of tests/mutants/wrong_host.c, and what the first of the days says of each: no guest
-# is pressed, or one for good; page cache counts as unused; and what a balloon reclaims presses.
+# Wrong hosts of tests/mutants/wrong_host.c, and on which days, and what, the first of these says of
+# each: no guest is pressed, or one for good; page cache counts as unused; what a balloon reclaims
+# presses; and all weights are 1.
 LATE, UNUSED = "is late to get a page that others have", "keeps unused memory while another gives"
-WRONG = {"22": LATE, "23": LATE, "24": UNUSED, "25": LATE}
+WRONG = {
+    "22": ("at-once", LATE),
+    "23": ("at-once", LATE),
+    "24": ("at-once", UNUSED),
+    "25": ("at-once", LATE),
+    "38": ("weights", "keeps less unused memory than its weight says"),
+}
+
+# Days of `slow` on which pages that a driver took back by the target that it had read counted as
+# taken by itself, once that target had risen: all its unused memory stayed to its guest then, and
+# another one gave page cache.
+ROSE = (20261150, 20261197, 20261263)
 
 # A day ends by its processor's time.
 pytestmark = pytest.mark.timeout(0)
@@ -34,10 +50,17 @@ def test_cached_pages_follow_the_work(kind, tmp_path_factory):
         assert numbers_of(said)["works"] == SHIFTS, f"day {number}: {said}"
 
 
+@pytest.mark.parametrize("number", ROSE)
+def test_a_target_that_rises_amid_a_deflate_has_nobody_give_page_cache(number, tmp_path_factory):
+    host = linux_kit.built("simulated/vhost_user_host")
+    status, said = live(host, str(tmp_path_factory.mktemp("d")), number, KINDS["slow"])
+    assert status == 0 and numbers_of(said)["works"] == SHIFTS, said
+
+
 @pytest.mark.parametrize("number", [pytest.param(it, marks=pytest.mark.wrong(it)) for it in WRONG])
 def test_a_wrong_host_is_found(number, tmp_path_factory, monkeypatch):
     monkeypatch.setenv("HOST_WRONG", number)
-    host = linux_kit.built("simulated-wrong/vhost_user_host")
-    status, said = live(host, str(tmp_path_factory.mktemp("d")), 1, KINDS["at-once"])
+    host, (kind, words) = linux_kit.built("simulated-wrong/vhost_user_host"), WRONG[number]
+    status, said = live(host, str(tmp_path_factory.mktemp("d")), 1, KINDS[kind])
     print(f"wrong host {number}: {said.splitlines()[0]}")
-    assert status == 1 and WRONG[number] in said, said
+    assert status == 1 and words in said, said

@@ -25,51 +25,21 @@
  *    25  has a guest pressed by what its own balloon reclaims
  *    26  admits each guest that comes from another host
  *    27  lends a guest that comes from another host all its memory
+ *    33  gives each grant once, whether or not it finds room
+ *    34  sends each target once, whether or not it finds room
+ *    35  lends the overdraft as if the budget had it
+ *    36  leaves guests their floors, whoever waits
+ *    37  forgets the deflate of who lets others pass
+ *    38  takes all weights for 1
+ *    39  lends a page more than the budget
+ *    40  forgets what an earlier lender has lent
  *
  * 5, 8 and 28 to 32 are wrong in guests' processes (wrong_lent.c).
  */
-#include "../../backends/lender/places.h"
+#include "wrong_host.h"
 
-#include <stdlib.h>
 #include <string.h>
 
-enum {
-    EVENLY = 1,
-    NEIGHBOURS,
-    NO_FLOOR,
-    COUNTS_DEAD,
-    OLD_FLOOR = 7,
-    LOWERS_EARLY = 9,
-    GRANTS_EARLY,
-    NONE_AHEAD,
-    READS_EARLY,
-    GRANTS_MORE,
-    WANTS_NOTHING,
-    GRANTS_ALL,
-    COUNTS_BEFORE,
-    COUNTS_TWICE,
-    NO_BUDGET,
-    NEXT_PLACE,
-    TELLS_NONE,
-    OTHER_LAYOUT,
-    NONE_PRESSED,
-    PRESSED_FOR_GOOD,
-    NO_TIERS,
-    PRESSED_BY_BALLOON,
-    ADMITS_ALL,
-    LENDS_ALL
-};
-
-VbDecision __real_vb_policy_decide(const VbPolicyBudget *, const VbFigures *, size_t,
-                                   VbPolicyRoom *, size_t, uint32_t *, size_t);
-VbDecision __wrap_vb_policy_decide(const VbPolicyBudget *, const VbFigures *, size_t,
-                                   VbPolicyRoom *, size_t, uint32_t *, size_t);
-VbTiers __real_vb_policy_tiers(const VbPolicyBudget *, const VbFigures *);
-VbTiers __wrap_vb_policy_tiers(const VbPolicyBudget *, const VbFigures *);
-VbPressure __real_vb_policy_press(const VbPressure *, const VbSample *, uint64_t);
-VbPressure __wrap_vb_policy_press(const VbPressure *, const VbSample *, uint64_t);
-uint32_t __real_vb_policy_pressed(const VbPressure *, uint64_t);
-uint32_t __wrap_vb_policy_pressed(const VbPressure *, uint64_t);
 void __real_host_changed(struct host *, enum reason);
 void __wrap_host_changed(struct host *, enum reason);
 void __real_limits_follow(struct host *);
@@ -88,94 +58,8 @@ uint32_t __real_vb_seat_due_grant(const VbSeat *, const VbReport *);
 uint32_t __wrap_vb_seat_due_grant(const VbSeat *, const VbReport *);
 void __real_seat_tell(struct seat *);
 void __wrap_seat_tell(struct seat *);
-
-static int wrong(void)
-{
-    const char *number = getenv("HOST_WRONG");
-    return number ? atoi(number) : 0;
-}
-
-/* The frames that are left beside the pages of guests that have gone. */
-static uint32_t left_by_dead(uint64_t pages, uint32_t frames)
-{
-    static uint64_t most;
-    most = pages > most ? pages : most;
-    return wrong() != COUNTS_DEAD  ? frames
-           : most - pages < frames ? frames - (uint32_t)(most - pages)
-                                   : 0;
-}
-
-static uint32_t floor_of(uint32_t floor)
-{
-    return wrong() == NO_FLOOR ? 0 : floor;
-}
-
-VbTiers __wrap_vb_policy_tiers(const VbPolicyBudget *budget, const VbFigures *figures)
-{
-    VbPolicyBudget other = *budget;
-    other.floor = floor_of(budget->floor);
-    return __real_vb_policy_tiers(&other, figures);
-}
-
-VbPressure __wrap_vb_policy_press(const VbPressure *pressure, const VbSample *sample, uint64_t now)
-{
-    VbSample its = *sample;
-    if (wrong() == PRESSED_BY_BALLOON)
-        its.ballooned = its.target = 0;
-    VbPressure next = __real_vb_policy_press(pressure, &its, now);
-    if (wrong() == PRESSED_FOR_GOOD && next.until > now)
-        next.until = UINT64_MAX;
-    return next;
-}
-
-uint32_t __wrap_vb_policy_pressed(const VbPressure *pressure, uint64_t now)
-{
-    return wrong() != NONE_PRESSED && __real_vb_policy_pressed(pressure, now);
-}
-
-/* All page cache counts as unused memory. */
-static const VbFigures *with_free(const VbFigures *figures, size_t count)
-{
-    static VbFigures others[2 * MOST_GUESTS];
-    for (size_t i = 0; i < count; i++) {
-        others[i] = figures[i];
-        others[i].free = UINT32_MAX;
-    }
-    return others;
-}
-
-static uint64_t all_pages(const VbPolicyBudget *budget, const VbFigures *figures, size_t count)
-{
-    uint64_t pages = 0;
-    for (size_t i = 0; i < count; i++)
-        pages += __real_vb_policy_tiers(budget, &figures[i]).pages;
-    return pages;
-}
-
-VbDecision __wrap_vb_policy_decide(const VbPolicyBudget *budget, const VbFigures *figures,
-                                   size_t count, VbPolicyRoom *rooms, size_t rooms_count,
-                                   uint32_t *targets, size_t targets_count)
-{
-    uint64_t sum = 0;
-    VbPolicyBudget other = *budget;
-    other.frames = left_by_dead(all_pages(budget, figures, count), budget->frames);
-    other.floor = floor_of(budget->floor);
-    const VbFigures *seen = wrong() == NO_TIERS ? with_free(figures, count) : figures;
-    VbDecision answer =
-        __real_vb_policy_decide(&other, seen, count, rooms, rooms_count, targets, targets_count);
-    if (answer.code != VB_OK || count == 0)
-        return answer;
-    for (size_t i = 0; i < count; i++)
-        sum += targets[i];
-    uint32_t last = targets[count - 1];
-    for (size_t i = count; i-- > 0;) {
-        if (wrong() == EVENLY)
-            targets[i] = (uint32_t)(sum / count);
-        if (wrong() == NEIGHBOURS)
-            targets[i] = i > 0 ? targets[i - 1] : last;
-    }
-    return answer;
-}
+void __real_seat_look_again(struct seat *, bool);
+void __wrap_seat_look_again(struct seat *, bool);
 
 void __wrap_host_changed(struct host *host, enum reason reason)
 {
@@ -203,9 +87,33 @@ bool __wrap_limit_allows(const struct seat *seat)
     return wrong() == GRANTS_EARLY || __real_limit_allows(seat);
 }
 
+/* Whether it is the first time that this grant of the seat is due. */
+static bool is_new(const VbSeat *seat)
+{
+    static struct {
+        const VbSeat *seat;
+        uint64_t granted;
+    } given[MOST_PLACES];
+    unsigned place = 0;
+    while (given[place].seat && given[place].seat != seat)
+        place++;
+    bool was = given[place].granted == seat->granted;
+    given[place].seat = seat;
+    given[place].granted = seat->granted;
+    return !was;
+}
+
 uint32_t __wrap_vb_seat_due_grant(const VbSeat *seat, const VbReport *report)
 {
-    return wrong() == GRANTS_ALL ? report->held > 0 : __real_vb_seat_due_grant(seat, report);
+    uint32_t is_due = __real_vb_seat_due_grant(seat, report);
+    if (wrong() == GRANTS_ONCE)
+        return is_due && is_new(seat);
+    return wrong() == GRANTS_ALL ? report->held > 0 : is_due;
+}
+
+void __wrap_seat_look_again(struct seat *seat, bool asks)
+{
+    wrong() == TELLS_ONCE ? seat_look(seat, asks) : __real_seat_look_again(seat, asks);
 }
 
 uint64_t __wrap_policy_lacks(struct host *host, const struct seat *newcomer, uint32_t pages)
@@ -229,6 +137,9 @@ void __wrap_seat_tell(struct seat *seat)
         __real_seat_tell(seat);
 }
 
+/* The deflates of those that have let others pass. */
+static uint64_t passed[MOST_PLACES];
+
 /* What is wrong of a report. */
 static void change_report(const VbSeat *seats, const VbHostEvent *event, VbReport *report)
 {
@@ -243,6 +154,8 @@ static void change_report(const VbSeat *seats, const VbHostEvent *event, VbRepor
         report->ballooned = before[event->guest];
     if (wrong() == COUNTS_TWICE)
         report->deflates += ++count;
+    if (wrong() == FORGETS_DEFERRED && passed[event->guest] == report->deflates)
+        report->held = 0;
     before[event->guest] = ballooned;
 }
 
@@ -264,18 +177,35 @@ static void lend_none(VbSeat *seats, size_t count)
         }
 }
 
+/* The frames that it lends beyond those that it has. */
+static uint32_t more_frames(const VbHost *host)
+{
+    switch (wrong()) {
+    case GRANTS_MORE:
+        return PAGES_PER_MIB;
+    case KEEPS_OVERDRAFT:
+        return host->overdraft;
+    default:
+        return wrong() == LENDS_ONE_MORE;
+    }
+}
+
 uint32_t __wrap_vb_host_step(VbHost *host, VbSeat *seats, size_t count, const VbHostEvent *event)
 {
-    VbHost other = *host;
+    VbHost other = {host->frames + more_frames(host), 0};
     VbHostEvent changed = *event;
     if (is_left_out(event))
         return VB_OK;
     if (event->kind == VB_HEARS)
         change_report(seats, event, &changed.report);
+    if (wrong() == FORGETS_LOANS && event->kind == VB_TAKES_OVER)
+        changed.report.ballooned = changed.report.target = changed.report.read_target =
+            event->pages;
+    if (event->kind == VB_DEFERS)
+        passed[event->guest] = seats[event->guest].deflates;
     if (wrong() == NEXT_PLACE && event->kind == VB_HEARS)
         changed.guest = (event->guest + 1) % count;
-    other.frames += PAGES_PER_MIB;
-    bool has_more = wrong() == GRANTS_MORE && event->kind != VB_BUDGET;
+    bool has_more = more_frames(host) > 0 && event->kind != VB_BUDGET;
     uint32_t code = __real_vb_host_step(has_more ? &other : host, seats, count, &changed);
     if (wrong() == NONE_AHEAD)
         lend_none(seats, count);

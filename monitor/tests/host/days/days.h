@@ -24,7 +24,8 @@ enum {
 
 /* What the environment says of a day: each is 0 where it doesn't. */
 struct plan {
-    unsigned seconds, guests, budget, reboots, beyond, slow, killed, overdraft, moves;
+    unsigned seconds, guests, budget, reboots, beyond, slow, killed, overdraft, moves, loses,
+        weight;
 };
 
 /* Messages of one direction that nobody has read yet, the next of them first. As many as the kernel
@@ -63,6 +64,8 @@ struct guest {
     uint32_t target, read_target; /* the last one that it has heard, and that its driver has read */
     uint32_t reminded;            /* what was in the balloon at the last target or reminder */
     uint32_t inflates, deflates;  /* pages of the requests that are on its queues */
+    uint32_t told, granted; /* the last target, and wait, of the orders that the lender has sent */
+    int64_t told_at;
     struct wait held, reset;
     /* Its driver: what it has in the balloon, and in the deflate that it waits for. */
     uint32_t balloon, leaks;
@@ -108,6 +111,11 @@ struct day {
 };
 
 extern struct day *day;
+
+static inline uint32_t smaller(uint32_t one, uint32_t other)
+{
+    return one < other ? one : other;
+}
 
 /* ---- time.c */
 
@@ -185,8 +193,13 @@ void moves_gives_cache(void);
 void work_is_filled(struct guest *guest);
 void work_begins(struct guest *guest);
 
-/* Demands that guests have no more than the budget, and that nobody waits for good. */
+/* Demands that guests have no more than the budget, that nobody waits for good, and that each one
+ * hears its target. */
 void town_looks(void);
+
+/* The lender sends an order to a guest. Demands that above the budget nobody gets pages that others
+ * still give. */
+void town_hears(struct guest *guest, const struct lending_message *order);
 
 /* The day ends, by a fault where words say so. */
 void town_ends(const char *fault, const struct guest *guest);

@@ -10,11 +10,6 @@ enum { OF_PAGE = 2, TRIES_AGAIN = SECOND / 5, SCANNED_EACH = 3 };
 static void work(struct guest *guest);
 static void fill(struct guest *guest);
 
-static uint32_t smaller(uint32_t one, uint32_t other)
-{
-    return one < other ? one : other;
-}
-
 uint32_t driver_free(const struct guest *guest)
 {
     return guest->pages - guest->used - guest->cached - guest->balloon - guest->leaks;

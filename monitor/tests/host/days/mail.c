@@ -87,11 +87,19 @@ pid_t __wrap_process_peer(int channel)
     return __real_process_peer(channel);
 }
 
+/* Whether a message finds no room, as on some days one of so many does. */
+static bool is_lost(void)
+{
+    return day->plan.loses > 0 && chance(1, day->plan.loses) == 1;
+}
+
 bool __wrap_lending_send(int channel, struct lending_message *message)
 {
     struct guest *own = guest_with(channel), *other = guest_of(channel);
     message->version = LENDING_VERSION;
-    return channel >= 0 && (own ? put(&own->reports, message) : put(&other->orders, message));
+    if (other && !own)
+        town_hears(other, message);
+    return channel >= 0 && !is_lost() && put(own ? &own->reports : &other->orders, message);
 }
 
 unsigned __wrap_lending_read(int channel, struct lending_message messages[], unsigned most,

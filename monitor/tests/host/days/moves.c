@@ -18,9 +18,14 @@ enum { WORKING_SET = 100 * 256, READS = 200, EACH = 10 * MILLISECOND, STALLS = 8
  * second, and two steps may each take the longest time. */
 enum { SHIFT = 30, CALM = 10, LATE = 3 * SECOND / 2, LATE_BY_STEPS = 2 * LONGEST };
 
-/* Pages that a guest keeps unused at most: its floor, a reserve of 5 percent, what its kernel
- * keeps, what is too little to change a target for, and a request. */
-enum { FLOOR = 12 * 256, MOST_UNUSED = FLOOR + 244 * 256 / 20 + KERNEL_KEEPS + FLOOR / 8 + 256 };
+/* Pages that stay to a guest before others give page cache: its floor, a reserve of 5 percent, and
+ * what its kernel keeps; and what it keeps unused at most: what is too little to change a target
+ * for besides, and a request. */
+enum {
+    FLOOR = 12 * 256,
+    STAYS = FLOOR + 244 * 256 / 20 + KERNEL_KEEPS,
+    MOST_UNUSED = STAYS + FLOOR / 8 + 256
+};
 
 static struct guest *busy(void)
 {
@@ -58,8 +63,26 @@ void moves_gives_cache(void)
     }
 }
 
+/* What it keeps of the unused memory that it could give. */
+static uint32_t kept_by(const struct guest *guest)
+{
+    return driver_free(guest) - smaller(driver_free(guest), STAYS);
+}
+
+/* In the first shift nobody but the busy guest has anything cached: what isn't missing there stays
+ * unused to the others by their weights. */
+static void look_at_weights(void)
+{
+    const struct guest *heavy = &day->guests[day->size - 1];
+    for (unsigned i = 0; i + 1 < day->size && day->shifts == 0; i++)
+        if (&day->guests[i] != busy() && kept_by(heavy) < 2 * kept_by(&day->guests[i]))
+            town_ends("keeps less unused memory than its weight says", heavy);
+}
+
 static void end_shift(struct guest *guest)
 {
+    if (day->plan.weight > 1)
+        look_at_weights();
     if (missing_of(guest) > 0)
         town_ends("hasn't its working set cached at the end of its shift", guest);
     if (day->now - day->read_at < CALM * (int64_t)SECOND)

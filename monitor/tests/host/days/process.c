@@ -103,14 +103,15 @@ static void look(struct guest *guest, const struct lending_message *order)
     later(guest, turn, ANSWERS_IN);
 }
 
-/* The pages of the deflate that is held leave the balloon. Those below its target were taken
- * unasked. */
+/* The pages of the deflate that is held leave the balloon. Those below each target that its driver
+ * may obey were taken unasked. */
 static void give(struct guest *guest, const struct lending_message *order)
 {
     struct lending_message *report = &guest->report;
     if (report->held_pages == 0 || order->wait != report->held_wait)
         return;
-    uint32_t before = report->ballooned < guest->target ? report->ballooned : guest->target;
+    uint32_t least = smaller(guest->target, guest->read_target),
+             before = smaller(report->ballooned, least);
     report->ballooned -= report->held_pages;
     report->held_pages = 0;
     if (report->ballooned < before) {
@@ -242,6 +243,7 @@ void process_is_alone(struct guest *guest)
     if (guest->channel >= 0)
         close(guest->channel);
     guest->channel = -1;
+    guest->told = guest->target;
     mail_forget(guest);
 }
 

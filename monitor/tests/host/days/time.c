@@ -50,7 +50,9 @@ static struct plan planned(void)
                          .slow = number_of("SLOW"),
                          .killed = number_of("KILLED"),
                          .overdraft = number_of("OVERDRAFT"),
-                         .moves = number_of("MOVES")};
+                         .moves = number_of("MOVES"),
+                         .loses = number_of("LOSES"),
+                         .weight = number_of("WEIGHT")};
 }
 
 bool day_begins(char **words)

@@ -1,9 +1,10 @@
 /* All guests of a day: what each works, what they have together, and how the day ends. The
  * environment says which day it is: DAY is its number, GUESTS how many there are, BUDGET the MiB
- * for all, SECONDS how long it is, FOLDER where the lender finds them; REBOOTS whether one of them
- * reboots, BEYOND by how many MiB what they want passes what fits, SLOW how many times as long as
+ * for all, SECONDS how long it is, FOLDER where the lender finds them; REBOOTS how many of them
+ * reboot, BEYOND by how many MiB what they want passes what fits, SLOW how many times as long as
  * usually each step takes, KILLED whether lenders end, OVERDRAFT how many MiB may be lent above the
- * budget, MOVES whether the working set moves from guest to guest, in place of works. */
+ * budget, MOVES whether the working set moves from guest to guest, in place of works, LOSES of how
+ * many messages one finds no room, WEIGHT what weight the last guest has. */
 #define _GNU_SOURCE
 #include "days.h"
 
@@ -24,8 +25,8 @@ enum {
     LEFT = 15
 };
 
-/* Seconds after which a deflate, and a new life, waits for good. */
-enum { DEFLATE_WAITS = 30, RESET_WAITS = 300 };
+/* Seconds after which a deflate, and a new life, waits for good, and a target is lost. */
+enum { DEFLATE_WAITS = 30, RESET_WAITS = 300, HEARS = 8 };
 
 static void print_guest(const struct guest *guest)
 {
@@ -100,15 +101,44 @@ static void look_at(const struct guest *guest, const struct wait *wait, int64_t 
         town_ends(fault, guest);
 }
 
+/* What all guests have. */
+static uint64_t held(void)
+{
+    uint64_t pages = 0;
+    for (unsigned i = 0; i < day->size; i++)
+        pages += day->guests[i].pages - day->guests[i].report.ballooned;
+    return pages;
+}
+
+/* Whether it is still to give pages: it doesn't wait, and has fewer in its balloon than it was told
+ * last. */
+static bool still_gives(const struct guest *guest)
+{
+    bool waits = guest->held.waits || guest->reset.waits;
+    return !waits && guest->report.ballooned < guest->told;
+}
+
+void town_hears(struct guest *guest, const struct lending_message *order)
+{
+    if (order->kind == ORDER_TARGET && order->target != guest->told)
+        guest->told = order->target, guest->told_at = day->now;
+    if (order->kind != ORDER_GRANT || order->wait == guest->granted)
+        return;
+    guest->granted = order->wait;
+    for (unsigned i = 0; i < day->size; i++)
+        if (held() + guest->report.held_pages > day->budget && guest != &day->guests[i] &&
+            still_gives(&day->guests[i]))
+            town_ends("gets pages above the budget that others still give", guest);
+}
+
 void town_looks(void)
 {
-    uint64_t held = 0;
-    for (unsigned i = 0; i < day->size; i++)
-        held += day->guests[i].pages - day->guests[i].report.ballooned;
-    if (held > day->budget + (uint64_t)day->plan.overdraft * MIB)
+    if (held() > day->budget + (uint64_t)day->plan.overdraft * MIB)
         town_ends("is the first of all, which have more than the budget", day->guests);
     for (unsigned i = 0; i < day->size; i++) {
         const struct guest *guest = &day->guests[i];
+        if (guest->target != guest->told && day->now - guest->told_at > HEARS * (int64_t)SECOND)
+            town_ends("hasn't heard its target", guest);
         if (guest->reset.waits)
             look_at(guest, &guest->reset, RESET_WAITS, "waits for a new life");
         else
@@ -121,7 +151,7 @@ void town_looks(void)
 }
 
 /* All guests are there before the lender is, each with its part of the budget. What fits is what
- * they use with what each leaves, and all memory of one that reboots: it has all of that for a
+ * they use with what each leaves, and all memory of those that reboot: each has all of that for a
  * while. */
 static void __attribute__((constructor)) begin(int count, char **words)
 {
@@ -129,17 +159,18 @@ static void __attribute__((constructor)) begin(int count, char **words)
     if (!day_begins(words))
         return;
     unsigned size = day->size = day->plan.guests;
-    bool reboots = day->plan.reboots > 0, moves = day->plan.moves > 0;
+    bool moves = day->plan.moves > 0;
     day->budget = day->plan.budget * MIB;
-    day->left = day->budget + day->plan.beyond * MIB - (size - reboots) * (OWN + LEFT) * MIB -
-                (reboots ? MEMORY * MIB : 0);
+    unsigned reboots = day->plan.reboots;
+    day->left =
+        day->budget + (day->plan.beyond - (size - reboots) * (OWN + LEFT) - reboots * MEMORY) * MIB;
     for (unsigned i = 0; i < size; i++) {
         struct guest *guest = &day->guests[i];
         *guest = (struct guest){.number = i,
                                 .pages = MEMORY * MIB,
                                 .used = OWN * MIB,
-                                .reboots = reboots && i + 1 == size};
-        guest->balloon = guest->pages - day->budget / size;
+                                .reboots = i + day->plan.reboots >= size};
+        guest->balloon = guest->told = guest->pages - day->budget / size;
         process_begins(guest, getenv("FOLDER"));
         if (!moves)
             later(guest, work_begins, chance(0, SECOND));
