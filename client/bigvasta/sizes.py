@@ -9,6 +9,11 @@ MOST_SIZE = ((1 << 32) - 2) * PAGE
 UNITS = {"K": 1 << 10, "M": 1 << 20, "G": 1 << 30, "T": 1 << 40}
 
 
+def whole(text):
+    """Returns the whole number that a text is, of 100 digits at most; else None."""
+    return int(text) if re.fullmatch(r"\d{1,100}", text, re.ASCII) else None
+
+
 def parse_size(text, name="size"):
     """Returns the bytes of a size such as 480M: a number with K, M, G or T, whole pages; or 0."""
     found = re.fullmatch(r"(\d{1,12})([KMGT])(?:iB)?", text, re.ASCII)

@@ -1,6 +1,6 @@
 """What is agreed with a guest, as words `key=value` of a command line."""
 
-from bigvasta.sizes import parse_size
+from bigvasta.sizes import parse_size, whole
 from bigvasta.statuses import Usage
 
 MOST_PRIORITY = (1 << 32) - 1
@@ -13,16 +13,18 @@ def limit(text, name):
 
 def priority(text, name):
     """Returns a priority."""
-    if not (text.isascii() and text.isdecimal()) or int(text) > MOST_PRIORITY:
+    number = whole(text)
+    if number is None or number > MOST_PRIORITY:
         raise Usage(f"{name}: {text!r} is no whole number up to {MOST_PRIORITY}")
-    return int(text)
+    return number
 
 
 def weight(text, name):
     """Returns a weight."""
-    if not (text.isascii() and text.isdecimal()) or not 0 < int(text) <= MOST_PRIORITY:
+    number = whole(text)
+    if number is None or not 0 < number <= MOST_PRIORITY:
         raise Usage(f"{name}: {text!r} is no whole number from 1 to {MOST_PRIORITY}")
-    return int(text)
+    return number
 
 
 def boolean(text, name):
@@ -42,7 +44,8 @@ def kernel_limit(text, name):
 
 def user(text, name):
     """Returns a user's number, or its name, which the host knows."""
-    return int(text) if text.isascii() and text.isdecimal() else text
+    number = whole(text)
+    return text if number is None else number
 
 
 TERMS = {

@@ -4,7 +4,7 @@ place where it was read."""
 import math
 from typing import NamedTuple
 
-from bigvasta.sizes import PAGE
+from bigvasta.sizes import PAGE, whole
 from bigvasta.statuses import Usage
 
 # The library counts pages by 32 bits; a guest of the device has fewer than 2^32 of them.
@@ -90,9 +90,10 @@ class Line:
     def size(self, name, what="number of bytes"):
         """Returns a size in bytes, or another number."""
         text = self.text(name)
-        if not (text.isascii() and text.isdecimal()):
+        number = whole(text)
+        if number is None:
             self.refuse(f"{name}: {text!r} is no {what}")
-        return int(text)
+        return number
 
     def pages(self, name):
         """Returns a size in pages; 0 where there is none."""

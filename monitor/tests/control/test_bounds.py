@@ -82,6 +82,8 @@ WORDS = (
     ("limit=none", {"limit": None}),
     ("limit=cgroup:/x", {"limit": "cgroup:/x"}),
     ("limit=tmpfs:/x:y", {"limit": "tmpfs:/x:y"}),
+    ("user=0", {"user": 0}),
+    ("user=a1", {"user": "a1"}),
 )
 NO_WORDS = (
     "priority=4294967296 priority= priority=1.5 priority=٤ strict= strict=YES most=-4K most=5K "
@@ -100,6 +102,12 @@ def test_words_of_terms(line, fields):
 def test_words_that_are_no_terms(word):
     with pytest.raises(Usage):
         parse_terms([word], TERMS)
+
+
+@pytest.mark.parametrize("name", sorted(TERMS.keys() - {"user"}))
+def test_more_digits_than_python_reads(name):
+    with pytest.raises(Usage, match=f"^{name}: "):
+        parse_terms([f"{name}={'1' * 5000}"], TERMS)
 
 
 def test_columns_at_their_bounds():

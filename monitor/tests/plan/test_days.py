@@ -6,7 +6,10 @@ from bigvasta.plan.days import GuestTerms, Recorded, Use
 from bigvasta.plan.reading import read
 from bigvasta.statuses import Usage
 
-PAGE = 4096
+PAGE, MIB = 4096, 1 << 20
+
+# More digits than Python reads.
+DIGITS = "1" * 5000
 
 
 def test_what_is_read(tmp_path, library):
@@ -133,6 +136,9 @@ REFUSED = (
     ),
     (HEAD + "b,2,8K,0,\n", ":3: size: '8K' is no number of bytes"),
     (HEAD + "b,2,8192,-1,\n", ":3: used: '-1' is no number of bytes"),
+    pytest.param(
+        HEAD + f"b,2,8192,{DIGITS},\n", f":3: used: '{DIGITS}' is no number of bytes", id="digits"
+    ),
     (HEAD + "b,2,8192,8193,\n", ":3: used is 8193, above size, which is 8192"),
     (
         HEAD.replace("used", "available") + "a,2,8192,8193,\n",
