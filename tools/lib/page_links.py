@@ -69,8 +69,8 @@ def dead():
 
 
 def missing():
-    """Returns the sources that pages name and that aren't there, each with its page and line; NAME
-    in one is for any."""
+    """Returns the sources that pages name and that aren't there, each with its page and line. NAME
+    in one is for any; CRATE/FILE may be one of its src."""
     there = ["/" + it for it in files()]
     return [
         f"{page}:{number}: no file is named {name}"
@@ -78,5 +78,6 @@ def missing():
         if page != HISTORY
         for number, line in enumerate(read(page).splitlines(), 1)
         for name in NAMED.findall(line)
-        if "NAME" not in name and not any(it.endswith("/" + name) for it in there)
+        if "NAME" not in name
+        and not any(it.endswith(("/" + name, "/" + re.sub("/", "/src/", name, 1))) for it in there)
     ]

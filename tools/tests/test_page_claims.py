@@ -120,7 +120,7 @@ CHANGES = (
     ("walks", "docs/MAP.md", r"`balloon/kicks\.c`", "`balloon/kick.c`", "no file monitor/backends"),
     ("walks", "docs/MAP.md", r"`lent_holds`", "`lent_hold`", "lent_channel.c has no function"),
     ("walks", "docs/MAP.md", r"`seat_add`", "`seat_remove`", "no row above seat_remove calls it"),
-    ("walks", "docs/MAP.md", r"4\. `vb_c/serving\.rt`", "5. `vb_c/serving.rt`", "is row 4"),
+    ("walks", "docs/MAP.md", r"\d(?=\. `vb_c/serving)", "5", "of 10 at most"),
     ("walks", "docs/MAP.md", r"`decide`: has", "has", "isn't `FILE` `FUNCTION`"),
     (
         "walks",

@@ -48,7 +48,7 @@ def test_a_link_goes_from_its_page(tmp_path, monkeypatch):
 
 # A line of a page beside src/there.py, and the source of it that is missing.
 NAMES = (
-    ("`there.py`, `src/there.py`, `proofs/NAME.antt`, `none.md`, none.py", []),
+    ("`there.py`, `src/there.py`, `it/there.py`, `proofs/NAME.antt`, `none.md`, none.py", []),
     ("`here.py` and `there.py`", ["PAGE.md:1: no file is named here.py"]),
     ("`lib/there.py`", ["PAGE.md:1: no file is named lib/there.py"]),
     ("`re.py`", ["PAGE.md:1: no file is named re.py"]),
@@ -57,8 +57,8 @@ NAMES = (
 
 @pytest.mark.parametrize("line, said", NAMES)
 def test_named_sources(line, said, tmp_path, monkeypatch):
-    (tmp_path / "src").mkdir()
-    (tmp_path / "src/there.py").write_text("")
+    (tmp_path / "it/src").mkdir(parents=True)
+    (tmp_path / "it/src/there.py").write_text("")
     for page in ("PAGE.md", "CHANGELOG.md"):
         (tmp_path / page).write_text(f"{line}\n")
     subprocess.run(["git", "init", "-q", str(tmp_path)], check=True)

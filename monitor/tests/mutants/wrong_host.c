@@ -28,7 +28,7 @@
  *    33  gives each grant once, whether or not it finds room
  *    34  sends each target once, whether or not it finds room
  *    35  lends the overdraft as if the budget had it
- *    36  leaves guests their floors, whoever waits
+ *    36  leaves guests their floors while one waits
  *    37  forgets the deflate of who lets others pass
  *    38  takes all weights for 1
  *    39  lends a page more than the budget

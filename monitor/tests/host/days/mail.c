@@ -87,7 +87,7 @@ pid_t __wrap_process_peer(int channel)
     return __real_process_peer(channel);
 }
 
-/* Whether a message finds no room, as on some days one of so many does. */
+/* Whether a message finds no room, as on some days one of `loses` does. */
 static bool is_lost(void)
 {
     return day->plan.loses > 0 && chance(1, day->plan.loses) == 1;
