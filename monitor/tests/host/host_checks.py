@@ -198,21 +198,25 @@ def unrest(town, budget, floor):
     return None
 
 
+def stays(town):
+    """Returns whether no target changes for eight periods."""
+    before = town.host.counters()["changed"]
+    time.sleep(8 * PERIOD)
+    return town.host.counters()["changed"] == before
+
+
 def await_rest(town, budget, floor=12, limit=REST_LIMIT):
-    """Demands that the host comes to rest, and stays there."""
+    """Demands that the host comes to rest, and stays there, also where kernels of guests still did
+    something."""
     eventually(
-        lambda: not unrest(town, budget, floor),
-        lambda: unrest(town, budget, floor),
+        lambda: not unrest(town, budget, floor) and stays(town),
+        lambda: (
+            unrest(town, budget, floor)
+            or f"targets change while nothing moves: {town.host.decisions()[-1:]}"
+        ),
         limit * town.vmm.patience,
     )
-    time.sleep(4 * PERIOD)
     check_decisions(town)
-    before = town.host.counters()["changed"]
-    time.sleep(4 * PERIOD)
-    changed = town.host.counters()["changed"] - before
-    demand(
-        changed == 0, f"{changed} targets change while nothing moves: {town.host.decisions()[-1:]}"
-    )
 
 
 def check_spares(town, floor=12):
