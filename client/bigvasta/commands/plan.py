@@ -23,8 +23,9 @@ a fleet: how often 100 hosts of 24G may promise that to 3000 guests
 # host of it has at most, as vhost_user_host.
 STEPS, PROMISES, PLACES = 12, "1.00..2.00", 64
 
-# What is reserved for page cache, as vhost_user_host has it: percent.
-RESERVE = 5
+# What is reserved for page cache, and for how long others are kept waiting, as vhost_user_host has
+# it: percent, and seconds.
+RESERVE, PATIENCE = 5, 10
 
 
 def run(asked):
@@ -79,6 +80,19 @@ def add(commands):
         default=RESERVE,
         metavar="PERCENT",
         help=f"what each guest keeps of its page cache as long as others have any ({RESERVE})",
+    )
+    words.add_argument(
+        "--overdraft",
+        default="0",
+        metavar="SIZE",
+        help="what may be lent beyond the budget where guests wait for each other (0)",
+    )
+    words.add_argument(
+        "--patience",
+        type=int,
+        default=PATIENCE,
+        metavar="S",
+        help=f"after how long who restarts or comes lets others pass ({PATIENCE})",
     )
     words.add_argument(
         "--wait-seconds",

@@ -28,6 +28,9 @@ from bigvasta.words import say
 MOST_GUESTS, LEAST_HOURS, MOST_HOURS, MOST_STEPS = 1000000, 0.01, 24 * 31, 1000
 MOST_HOSTS, MOST_PLACES, MOST_PROMISE, MOST_PROCESSES = 100000, 1000, 100, 1024
 
+# Seconds, as a host takes them.
+MOST_PATIENCE = 86400
+
 
 def pages_of(text, name):
     """Returns a size in pages: at least one."""
@@ -80,12 +83,17 @@ def run_make(asked):
         print(line)
 
 
-def terms_of(asked, frames):
-    """Returns the terms of a host with this budget: what each guest keeps free, in pages, and its
-    reserve."""
+def terms_of(asked, frames, least):
+    """Returns the terms of a host with this budget: what each guest keeps free, its reserve, and
+    what the host does where it stands still. An overdraft is no more than the least budget."""
     demand_number(asked.reserve, 0, 100, "reserve", " percent")
-    floor = 0 if asked.floor == "0" else pages_of(asked.floor, "--floor")
-    return Terms(frames, floor, asked.reserve)
+    demand_number(asked.patience, 1, MOST_PATIENCE, "patience", " seconds")
+    floor, overdraft = (
+        0 if text == "0" else pages_of(text, f"--{name}")
+        for name, text in (("floor", asked.floor), ("overdraft", asked.overdraft))
+    )
+    demand(overdraft <= least, f"--overdraft: {asked.overdraft} is more than the budget")
+    return Terms(frames, floor, asked.reserve, overdraft, asked.patience)
 
 
 def plan_host(asked):
@@ -94,9 +102,8 @@ def plan_host(asked):
         not (asked.budget or asked.scheduler or asked.processes),
         "plan: --budget, --processes and --scheduler are for a --fleet",
     )
-    terms, budgets = terms_of(asked, 0), asked.budgets and range_of(
-        asked.budgets, "--budgets", pages_of
-    )
+    budgets = asked.budgets and range_of(asked.budgets, "--budgets", pages_of)
+    terms = terms_of(asked, 0, budgets[0] if budgets else days.MOST_PAGES)
     calls = library.load(asked.library)
     day = reading.read(calls, asked.file)
     return search.plan(calls, day, terms, asked.wait_seconds, budgets, asked.steps)
@@ -132,7 +139,7 @@ def fleet_of(asked):
     )
     path = library.path_of(asked.library)
     library.load(path)
-    return fleet.Fleet(asked.fleet, asked.places, path, terms_of(asked, frames)), ends
+    return fleet.Fleet(asked.fleet, asked.places, path, terms_of(asked, frames, frames)), ends
 
 
 def plan_fleet(asked):

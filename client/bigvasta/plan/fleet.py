@@ -134,6 +134,10 @@ def together(answers):
         max(it.lacked for it in answers),
         sum(it.moved for it in answers),
         sum(it.decisions for it in answers),
+        max(it.overdrawn for it in answers),
+        math.fsum(it.overdrawn_seconds for it in answers),
+        sum(it.proceeded for it in answers),
+        sum(it.passed for it in answers),
     )
 
 

@@ -7,7 +7,7 @@ from bigvasta.words import table
 COLUMNS = ("promise", "hosts", "away", *tables.FIGURES)
 
 LEGEND = """promise: what a host may promise, by its budget; hosts: how many have guests; away:
-guests that find no host; by, moved: MiB
+guests that find no host; by, over, moved: MiB
 """
 
 

@@ -17,6 +17,7 @@ from bigvasta.plan.library import (
     PolicyBudget,
     PolicyRoom,
 )
+from bigvasta.plan.relief import Relief
 from bigvasta.plan.seats import Seats
 from bigvasta.statuses import Unclear
 
@@ -26,17 +27,23 @@ SLACK_PART, BAND = 8, 35
 
 MOST_FRAMES = (1 << 32) - 1
 
+# Seconds of patience, as a host has them.
+PATIENCE = 10
+
 # In how many rounds a moment has to come to rest: a guest acts a few times at most.
 MOST_ROUNDS = 1000
 
 
 class Terms(NamedTuple):
     """What a replay tries: the budget and the floor, in pages, and the reserve, in percent of each
-    guest's pages."""
+    guest's pages; how many pages may be lent beyond the budget, and for how many seconds who
+    restarts or comes keeps others waiting."""
 
     frames: int
     floor: int = 0
     reserve: int = 0
+    overdraft: int = 0
+    patience: int = PATIENCE
 
     def budget(self):
         """Returns them as the library takes them."""
@@ -56,7 +63,8 @@ class Lender:
             count,
             0.0,
         )
-        self.seats = Seats(library, count, terms.frames)
+        self.seats = Seats(library, count, terms.frames, terms.overdraft)
+        self.relief = Relief(self.seats, terms.patience)
         self.budget, self.rooms, self.figures, self.targets = (
             terms.budget(),
             (PolicyRoom * count)(),
@@ -174,8 +182,22 @@ class Lender:
             for it in movers:
                 self.act(it)
             if not movers:
+                self.relief.look(self.now)
                 return
         raise Unclear("plan: the guests of a moment don't come to rest")
+
+    def due(self, until):
+        """Returns when a host that stands still is relieved next, before something else happens;
+        None where it isn't."""
+        return self.relief.due(self.now, until)
+
+    def relieve(self):
+        """Relieves the host, and does what follows of that."""
+        before = self.moved, self.decisions, self.seats.owed()
+        self.relief.relieve(self.now, self.missing)
+        self.settle()
+        if before != (self.moved, self.decisions, self.seats.owed()):
+            self.relief.in_vain = 0
 
     def ask_library(self):
         """Has the library decide the targets; returns its answer. Those so far don't count where
@@ -222,12 +244,14 @@ class Lender:
 
     def ask_all(self):
         """Guests that use more than they have, and wait for nothing, ask for that: first for what
-        there is room for. Returns whether there are any."""
+        there is room for, then for no more at once than may be overdrawn. Returns whether there are
+        any."""
         lack = self.runs & (self.seats.held == 0) & (self.seats.ballooned > self.unused)
         lacking = lack.nonzero()[0].tolist()
         for guest in lacking:
             lacks = self.seats.reports[guest].ballooned - int(self.unused[guest])
-            self.ask(guest, min(lacks, self.seats.room()) or lacks)
+            parts = self.seats.room(), self.seats.overdraft()
+            self.ask(guest, min(lacks, next(filter(None, parts), lacks)))
             self.figure(guest)
         return bool(lacking)
 

@@ -13,7 +13,8 @@ VERSION = int.from_bytes(bytes(map(int, __version__.split("."))), "big")
 
 # Of vb_host.h: the lines, and the kinds of events.
 LINE_DEFLATES, LINE_RESETS, LINE_ARRIVALS = 0, 1, 2
-HEARS, WANTS, ARRIVES, TAKES_OVER, BUDGET = 1, 4, 6, 8, 10
+HEARS, OVERDRAWS, WANTS, ARRIVES, TAKES_OVER = 1, 3, 4, 6, 8
+BUDGET, PREFERS, DEFERS = 10, 11, 12
 
 # Of vb_policy.h: whether a guest's statistics are at hand, and free memory that they don't tell.
 CONTACT_STARTS, CONTACT_HEARD, CONTACT_AWAY = 0, 2, 3

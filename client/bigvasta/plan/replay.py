@@ -28,6 +28,10 @@ class Answer(NamedTuple):
     lacked: int  # by how much it was short at worst
     moved: int  # into balloons and out of them
     decisions: int  # how often targets were decided
+    overdrawn: int  # pages that were lent beyond the budget at worst
+    overdrawn_seconds: float  # until they had come back, in all
+    proceeded: int  # how often a guest was to proceed alone on a short host
+    passed: int  # how often one that restarts or comes let others pass
 
     def share(self):
         """Returns which part of the time asks waited."""
@@ -52,21 +56,52 @@ class Answer(NamedTuple):
         )
 
 
-class Shortness:
-    """How often, how long and by how much guests can't spare what is missing."""
+class Excess:
+    """How often, how long and by how many pages at worst something is too much."""
 
     def __init__(self):
         self.times, self.seconds, self.worst, self.is_now = 0, 0.0, 0, False
 
-    def see(self, lender):
-        """Notes how the host is at a moment that has come to rest."""
-        is_short = lender.missing > 0
-        self.times += is_short and not self.is_now
-        self.is_now, self.worst = is_short, max(self.worst, lender.missing)
+    def see(self, pages):
+        """Notes how it is at a moment that has come to rest."""
+        self.times += pages > 0 and not self.is_now
+        self.is_now, self.worst = pages > 0, max(self.worst, pages)
 
     def pass_time(self, seconds):
         """Counts the time until the next moment."""
         self.seconds += seconds if self.is_now else 0
+
+
+class Replayed:
+    """A host whose day is replayed: what its guests can't spare, and what is lent beyond its
+    budget."""
+
+    def __init__(self, lender):
+        self.lender, self.short, self.overdrawn = lender, Excess(), Excess()
+
+    def settle(self):
+        """Sees the host once it has come to rest."""
+        self.lender.settle()
+        self.see()
+
+    def see(self):
+        """Notes how the host is."""
+        self.short.see(self.lender.missing)
+        self.overdrawn.see(self.lender.seats.overdrawn())
+
+    def go_to(self, at):
+        """Time passes until a moment; nothing else happens."""
+        for it in (self.short, self.overdrawn):
+            it.pass_time(at - self.lender.now)
+        self.lender.now = at
+
+    def pass_until(self, at):
+        """Time passes until a moment, and the host is relieved meanwhile."""
+        while (due := self.lender.due(at)) is not None:
+            self.go_to(due)
+            self.lender.relieve()
+            self.see()
+        self.go_to(at)
 
 
 def events_of(day):
@@ -91,6 +126,8 @@ def happen(lender, events):
             lender.arrive(guest, use)
         else:
             lender.use(guest, use)
+    if events:
+        lender.relief.news()
 
 
 def promised_by(day):
@@ -108,16 +145,16 @@ def promised_by(day):
 def replay(library, day, terms, looks=()):
     """Returns what a day says under these terms. At `looks` nothing happens: a host that looks
     there decides the same."""
-    lender, short, events = (Lender(library, day.guests, terms), Shortness(), events_of(day))
+    lender, events = Lender(library, day.guests, terms), events_of(day)
+    replayed = Replayed(lender)
     lender.now = day.start
     lender.begin([(guest, use) for kind, guest, use in events.get(day.start, ()) if kind == 1])
     for at in sorted({*events, *(it for it in looks if day.start <= it <= day.end)}):
-        short.pass_time(at - lender.now)
-        lender.now = at
+        replayed.pass_until(at)
         if at > day.start:
             happen(lender, events.get(at, ()))
-        lender.settle()
-        short.see(lender)
+        replayed.settle()
+    short, overdrawn = replayed.short, replayed.overdrawn
     worst = max(range(len(day.guests)), key=lender.waited.__getitem__)
     return Answer(
         terms.frames,
@@ -133,4 +170,8 @@ def replay(library, day, terms, looks=()):
         short.worst,
         lender.moved,
         lender.decisions,
+        overdrawn.worst,
+        overdrawn.seconds,
+        lender.relief.proceeded,
+        lender.relief.passed,
     )

@@ -24,13 +24,15 @@ class Seats:
     """The seats of a host, and what each guest's process reports; some of their columns are arrays,
     too."""
 
-    def __init__(self, library, count, frames):
-        self.library, self.count, self.host, self.event = library, count, Host(frames, 0), Event()
+    def __init__(self, library, count, frames, overdraft=0):
+        self.library, self.count, self.event = library, count, Event()
+        self.host = Host(frames, overdraft)
         self.seats, self.reports = (Seat * count)(), (Report * count)()
         seats, told = (numpy.ndarray(count, it._type_, it) for it in (self.seats, self.reports))
         self.wanted, self.target, self.number, self.last_granted = (
             seats[it] for it in ("wanted", "target", "target_number", "granted")
         )
+        self.turn, self.line, self.preferences = (seats[it] for it in ("turn", "line", "preferred"))
         self.ballooned, self.read_number, self.held, self.deflates = (
             told[it] for it in ("ballooned", "target_number", "held", "deflates")
         )
@@ -60,10 +62,35 @@ class Seats:
         """Returns how many frames of the budget are neither lent nor waited for."""
         return self.library.vb_host_room(self.host, self.seats, self.count)
 
+    def overdrawn(self):
+        """Returns how many frames of the overdraft are lent."""
+        return min(max(self.owed() - self.host.frames, 0), self.host.overdraft)
+
+    def overdraft(self):
+        """Returns how many more of it may be."""
+        return self.host.overdraft - self.overdrawn()
+
     def first(self):
         """Returns the guest that waits first; None where no guest waits."""
-        place = self.library.vb_host_first(self.seats, self.count)
+        return self.first_in(self.seats)
+
+    def first_in(self, seats):
+        """Returns the guest of these seats that waits first; None where no guest waits."""
+        place = self.library.vb_host_first(seats, self.count)
         return place if place < self.count else None
+
+    def first_of(self, guests):
+        """Returns which of these guests waits first; None where none of them does."""
+        if len(guests) < 2:
+            return guests[0] if guests else None
+        others = (Seat * self.count)()
+        for it in guests:
+            others[it] = self.seats[it]
+        return self.first_in(others)
+
+    def preferred(self):
+        """Returns the guest that comes before all others of its line; None where none does."""
+        return next(iter(self.preferences.nonzero()[0].tolist()), None)
 
     # ---- what the host wants
 

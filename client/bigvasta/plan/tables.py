@@ -3,14 +3,15 @@
 from bigvasta.sizes import MIB, PAGE, mebibytes
 from bigvasta.words import table
 
-FIGURES = ("waits", "a day", "median", "99%", "worst", "short", "for", "by", "moved")
+FIGURES = tuple("waits,a day,median,99%,worst,short,for,by,over,back,moved".split(","))
 COLUMNS = ("budget", "promise", *FIGURES)
 
 # What each column is; the times are seconds, the sizes MiB.
-LEGEND = """budget, by, moved: MiB; promise: what is promised, by the budget
+LEGEND = """budget, by, over, moved: MiB; promise: what is promised, by the budget
 waits: part of the time in which guests wait; a day: seconds that a guest waits in a day; median,
 99%, worst: seconds that an ask waits
-short: how often the guests couldn't spare what is missing; for: seconds in all; by: at worst"""
+short: how often the guests couldn't spare what is missing; for: seconds in all; by: at worst
+over: what was lent of the overdraft, at worst; back: seconds in all until it came back"""
 
 
 def in_mib(pages):
@@ -27,6 +28,8 @@ def figures(answer):
         str(answer.shorts),
         f"{answer.short:.0f}",
         in_mib(answer.lacked),
+        in_mib(answer.overdrawn),
+        f"{answer.overdrawn_seconds:.0f}",
         in_mib(answer.moved),
     )
 
@@ -95,6 +98,10 @@ def plain(answer):
         "shorts": answer.shorts,
         "short_seconds": answer.short,
         "short_by": answer.lacked * PAGE,
+        "overdrawn": answer.overdrawn * PAGE,
+        "overdrawn_seconds": answer.overdrawn_seconds,
+        "proceeded_alone": answer.proceeded,
+        "let_pass": answer.passed,
         "moved": answer.moved * PAGE,
         "decisions": answer.decisions,
     }

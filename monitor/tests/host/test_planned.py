@@ -1,6 +1,6 @@
-"""A recorded day of three guests of 128 pages, on a strict host that lends them 256: after each of
-its lines the host wants in each balloon what a replay of the day by `bigvasta plan` does. A test
-plays the guests' processes, whose drivers do at once what they are told."""
+"""Recorded days of three guests of 128 pages, on a strict host that lends them 256: after each of
+their moments the host wants and has in each balloon what a replay of the day by `bigvasta plan`
+does. A test plays the guests' processes, whose drivers do at once what they are told."""
 
 import pytest
 from bigvasta.plan import library as loading
@@ -35,6 +35,17 @@ ROWS = (
     (70, "c", 30, 80, 0),
     (80, "a", 20, 75, 0),
     (90, "a", 70, 0, 1),
+)
+
+# A day of a short host, and its overdraft.
+OVERDRAFT = 16
+SHORT = (
+    (0, "a", 60, 0, 0),
+    (0, "b", 60, 0, 0),
+    (0, "c", 60, 0, 0),
+    (10, "a", 110, 0, 0),
+    (10, "b", 90, 0, 0),
+    (20, "c", 20, 0, 0),
 )
 TERMS = {"a": ("weight=2", "2,0"), "b": ("", "1,0"), "c": ("priority=1", "1,1")}
 HEAD = "guest,seconds,size,used,free,ballooned,target,oom_kills,weight,priority"
@@ -105,42 +116,52 @@ class Obedient(Played):
 
 
 class Seen(Lender):
-    """A replay whose targets are noted at each moment."""
-
-    targets_at = {}
+    """A replay that is noted at each moment: the target of each guest, and what is in its
+    balloon."""
 
     def settle(self):
         super().settle()
+        balloons = (it.ballooned for it in self.seats.reports)
         names = [it.name for it in self.guests]
-        self.targets_at[self.now] = dict(zip(names, self.targets))
+        self.seen_at[self.now] = dict(zip(names, zip(self.targets, balloons)))
 
 
 @pytest.fixture
 def planned(tmp_path, monkeypatch):
-    """The targets of a replay of the day, by the seconds of its lines."""
-    last = {row[1]: row for row in ROWS}
-    rows = [*ROWS, *((99, *row[1:]) for row in last.values())]
-    lines = (
-        f"{name},{at},{PAGES * PAGE},{used * PAGE},{(PAGES - used - cached) * PAGE},0,0,{kills},"
-        f"{TERMS[name][1]}"
-        for at, name, used, cached, kills in rows
-    )
-    path = tmp_path / "day.csv"
-    path.write_text("\n".join((HEAD, *lines)))
-    library = loading.load(built("libvb.so"))
-    monkeypatch.setattr(replaying, "Lender", Seen)
-    replaying.replay(library, read(library, str(path)), Terms(FRAMES, 0, RESERVE))
-    return Seen.targets_at
+    """Replays the lines of a day under such terms; returns how it is before the next line, by the
+    seconds of each."""
+
+    def seen(rows, **terms):
+        last = {row[1]: row for row in rows}
+        lines = (
+            f"{name},{at},{PAGES * PAGE},{used * PAGE},{(PAGES - used - cached) * PAGE},0,0,{kills}"
+            f",{TERMS[name][1]}"
+            for at, name, used, cached, kills in [*rows, *((99, *it[1:]) for it in last.values())]
+        )
+        path = tmp_path / "day.csv"
+        path.write_text("\n".join((HEAD, *lines)))
+        library = loading.load(built("libvb.so"))
+        Seen.seen_at = {}
+        monkeypatch.setattr(replaying, "Lender", Seen)
+        replaying.replay(library, read(library, str(path)), Terms(FRAMES, **terms))
+        times = sorted({row[0] for row in rows})
+        return {
+            at: Seen.seen_at[max(it for it in Seen.seen_at if it < until)]
+            for at, until in zip(times, [*times[1:], 99])
+        }
+
+    return seen
 
 
 def settle(lender, wanted):
-    """Waits until each guest has the target that is wanted, and keeps it for some looks."""
+    """Waits until each guest has the target that is wanted, and that in its balloon, and keeps it
+    for some looks."""
 
     def seen():
-        return {name: it["target"] for name, it in lender.guests().items()}
+        return {name: (it["target"], it["ballooned"]) for name, it in lender.guests().items()}
 
     def differs():
-        return f"the host wants {seen()}, and the replay {wanted}"
+        return f"the host has {seen()} as targets and in balloons, and the replay {wanted}"
 
     eventually(lambda: seen() == wanted, differs)
     looks = lender.counters()["looks"]
@@ -153,33 +174,48 @@ def settle(lender, wanted):
 DAYS, SECONDS = 4, 15
 
 
-def play(lender, planned):
-    """Plays the day."""
-    guests = {}
+def play(lender, rows, planned):
+    """Plays the day: at the end of each moment it is as the replay."""
+    guests, last = {}, {row[0]: number for number, row in enumerate(rows)}
     try:
-        for _, name, used, cached, _ in ROWS[:3]:
+        for _, name, used, cached, _ in rows[:3]:
             guests[name] = Obedient(lender, name, used, cached)
             lender.demand(f"terms {name} strict=1 {TERMS[name][0]}".strip())
             lender.become(name, spare=PAGES - used)
         lender.set_budget(FRAMES)
         settle(lender, planned[0])
-        for at, name, *its in ROWS[3:]:
+        for number, (at, name, *its) in enumerate(rows[3:], 3):
             guests[name].use(*its)
-            settle(lender, planned[at])
+            if last[at] == number:
+                settle(lender, planned[at])
     finally:
         for it in guests.values():
             it.leave()
 
 
-def test_a_host_wants_of_its_guests_what_a_replay_does(lend, planned, monkeypatch):
-    options = ("--period", "100", "--step", "0", "--strict", "--reserve", str(RESERVE))
+def play_one(lend, monkeypatch, rows, planned, *words):
+    """Plays days until one is as the replay."""
+    options = ("--floor", "0", "--period", "100", "--step", "0", "--strict", *words)
     for number in range(1, DAYS + 1):
-        lender = lend(2 * FRAMES * PAGE >> 20, "--floor", "0", *options)
+        lender = lend(2 * FRAMES * PAGE >> 20, *options)
         try:
             with monkeypatch.context() as patched:
                 if number < DAYS:
                     patched.setattr("waiting.PATIENCE", SECONDS)
-                return play(lender, planned)
+                return play(lender, rows, planned)
         except AssertionError:
             if number == DAYS:
                 raise
+
+
+def test_a_host_wants_of_its_guests_what_a_replay_does(lend, planned, monkeypatch):
+    seen = planned(ROWS, reserve=RESERVE)
+    play_one(lend, monkeypatch, ROWS, seen, "--reserve", str(RESERVE))
+
+
+def test_a_host_lends_its_overdraft_as_a_replay_does(lend, planned, monkeypatch):
+    """Of 256 pages the guests use 260: what can't be given is overdrawn a second later. It is paid
+    back by what one of them uses no longer."""
+    seen = planned(SHORT, overdraft=OVERDRAFT)
+    assert seen[10] == {"a": (18, 18), "b": (38, 38), "c": (68, 68)}
+    play_one(lend, monkeypatch, SHORT, seen, "--reserve", "0", "--overdraft", str(OVERDRAFT))

@@ -108,10 +108,24 @@ def test_an_object(shared, day):
             "shorts": 1,
             "short_seconds": 10.0,
             "short_by": 81920,
+            "overdrawn": 0,
+            "overdrawn_seconds": 0.0,
+            "proceeded_alone": 1,
+            "let_pass": 0,
             "moved": 614400,
             "decisions": 4,
         }
     ]
+
+
+def test_an_overdraft_is_lent_to_who_waits(shared, day):
+    """20 pages are missing from 10 to 20, and a lacks 30: it asks for 20, of which b gives 10, and
+    then for 10. Each waits for a second."""
+    found = plan(shared, day, "--budgets", "600K", "--overdraft", "80K")["replays"][0]
+    assert (found["waited"], found["worst"], found["short_seconds"]) == (2.0, 1.0, 10.0)
+    assert (found["overdrawn"], found["overdrawn_seconds"]) == (81920, 9.0)
+    lines = run(day, "--library", shared, *OPEN, "--budgets", "600K", "--overdraft", "80K")
+    assert lines.splitlines()[3].split()[-3:-1] == ["0.1", "9"]
 
 
 def test_a_table(shared, day):
@@ -128,6 +142,8 @@ def test_a_table(shared, day):
         "1",
         "10",
         "0.1",
+        "0",
+        "0",
         "0.6",
     ]
     assert lines[-1] == "none of these budgets keeps the waits to 60 s a guest and day"
@@ -203,6 +219,7 @@ NUMBERS = {
     "hours": ((0.009, 0.01, 744, 744.1), MADE),
     "steps": ((0, 1, 1000, 1001), HOSTS),
     "reserve": ((-1, 0, 100, 101), HOSTS),
+    "patience": ((0, 1, 86400, 86401), HOSTS),
     "fleet": ((0, 1, 100000, 100001), HOSTS),
     "places": ((0, 1, 1000, 1001), HOSTS),
     "processes": ((0, 1, 1024, 1025), HOSTS),
@@ -261,6 +278,10 @@ REFUSED = (
         ("DAY", "--floor", "3"),
         "--floor: '3' is no size: a number with K, M, G or T, in pages of 4K, such as 480M",
     ),
+    (
+        ("DAY", "--overdraft", "8K", "--budgets", "4K..1G"),
+        "--overdraft: 8K is more than the budget",
+    ),
     (("none.csv",), "none.csv: No such file or directory"),
     (("\x1b[2J.csv",), "\\x1b[2J.csv: No such file or directory"),
 )
@@ -307,6 +328,8 @@ DEFAULTS = {
     "steps": 12,
     "floor": "12M",
     "reserve": 5,
+    "overdraft": "0",
+    "patience": 10,
     "wait_seconds": 60.0,
     "seed": 1,
     "hours": 24.0,

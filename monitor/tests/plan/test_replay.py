@@ -93,6 +93,24 @@ SCARCE = day_of(a=((0, 90), 20), b=((0, 90), 20))
 # All is lent to a guest that is reset: nothing waits.
 FULL = day_of(a=((0, 50), (10, 0), 20))
 
+# Of 200 pages 50 are missing: a and b can spare 30 each, and give 25. At 10 a can spare 15, and asks
+# for the 10 that it lacks, 5 of them first, as no more may be overdrawn. b gives its last 5, which a
+# gets; 5 are missing. A second later a gets the others beyond the budget. At 20 b can spare 60: what
+# it gives pays them back first. a's part is 3, as both keep 12: b gives 17, and a gets 12.
+OVERDRAWN = day_of(a=((0, 70), (10, 85), 30), b=((0, 70), (20, 40), 30))
+
+# b asks for its 100 at 10, and c for its 50 at 12; a can spare 20, so that 80 are lent. At 20 b lets
+# c pass, which can spare 40: they are too few for b, which is let in once a goes; c gets them back.
+PASSED = Day(
+    (
+        Recorded("a", 100, (Use(0.0, 80),), 30.0),
+        Recorded("b", 100, (Use(10.0, 50),), 40.0),
+        Recorded("c", 50, (Use(12.0, 10),), 40.0),
+    ),
+    0.0,
+    40.0,
+)
+
 # What is expected: waits of each ask, seconds waited and present, how often short, for how long, by
 # how much, pages moved.
 WORKED_OUT = {
@@ -170,6 +188,36 @@ def test_worked_out(library, name):
     assert [it.waits, it.waited, it.present, it.shorts, it.short, it.lacked, it.moved] == expected
 
 
+# What is expected besides: pages overdrawn at worst, and for how long; how often a guest was to
+# proceed alone, and how often one let others pass.
+RELIEVED = {
+    "an overdraft": (
+        (OVERDRAWN, Terms(150, overdraft=5), (0.0, 1.0, 0.0), 1.0, 60.0, 1, 10.0, 5, 94),
+        (5, 9.0, 1, 0),
+    ),
+    "no overdraft": (
+        (OVERDRAWN, Terms(150), (10.0, 0.0), 10.0, 60.0, 1, 10.0, 5, 94),
+        (0, 0.0, 1, 0),
+    ),
+    "one that lets others pass": (
+        (PASSED, Terms(150), (8.0, 20.0, 0.0), 28.0, 88.0, 1, 20.0, 80, 100),
+        (0, 0.0, 2, 1),
+    ),
+    "one that lets others pass later": (
+        (PASSED, Terms(150, patience=21), (20.0, 18.0), 38.0, 88.0, 1, 20.0, 80, 20),
+        (0, 0.0, 1, 0),
+    ),
+}
+
+
+@pytest.mark.parametrize("name", RELIEVED)
+def test_a_host_that_stands_still(library, name):
+    (day, terms, *expected), relief = RELIEVED[name]
+    it = replay(library, day, terms)
+    assert [it.waits, it.waited, it.present, it.shorts, it.short, it.lacked, it.moved] == expected
+    assert (it.overdrawn, it.overdrawn_seconds, it.proceeded, it.passed) == relief
+
+
 def test_who_waits_longest_and_what_is_promised(library):
     it = replay(library, RESET, Terms(200))
     assert (it.worst_guest, it.promised, it.guests, it.share(), it.wait_a_day()) == (
@@ -241,8 +289,12 @@ class Watched(Lender):
 def test_event_by_event_as_moment_by_moment(library, monkeypatch, numbers):
     monkeypatch.setattr(replaying, "Lender", Watched)
     day = random_day(numbers)
+    frames = numbers.randint(1, promised_by(day) + 1)
     terms = Terms(
-        numbers.randint(1, promised_by(day) + 1), numbers.choice((0, numbers.randint(0, 20)))
+        frames,
+        numbers.choice((0, numbers.randint(0, 20))),
+        overdraft=numbers.choice((0, numbers.randint(0, min(frames, 20)))),
+        patience=numbers.randint(1, 30),
     )
     events = replay(library, day, terms)
     moments = replay(library, day, terms, [it / 2 for it in range(121)])

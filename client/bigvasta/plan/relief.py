@@ -1,0 +1,101 @@
+"""The way out where guests wait for each other, as a host's relief.c has it. Once nothing has moved
+for a second, the guest that waits first proceeds alone where the host is short, and is lent from
+the overdraft; and once the first of those that restart or come has waited there for long enough, it
+lets the others pass. Here is when; what follows the library's step decides."""
+
+from typing import NamedTuple
+
+from bigvasta.plan.library import DEFERS, LINE_DEFLATES, OVERDRAWS, PREFERS
+
+# Seconds in which nothing moves, and a host stands still.
+STANDS = 1.0
+
+
+class Still(NamedTuple):
+    """What hasn't changed, and since when."""
+
+    what: tuple = (None, 0)
+    since: float = 0.0
+
+    def seen(self, what, now):
+        """Returns it as it is where it is that now."""
+        return self if what == self.what else Still(what, now)
+
+
+class Relief:
+    """The relief of a host, whose seats these are. `proceeded` and `passed` say how often a guest
+    was to proceed alone, and how often one let others pass."""
+
+    def __init__(self, seats, patience):
+        self.seats, self.patience = seats, float(patience)
+        # Who waits first, and what is lent; who waits first of those that restart or come.
+        self.stand = self.head = Still()
+        # Whether what stands so was relieved; how many let others pass in a row, in vain.
+        self.was_relieved, self.in_vain = False, 0
+        self.proceeded = self.passed = 0
+
+    def look(self, now):
+        """Notes what a host is that has come to rest."""
+        seats, stand, first = self.seats, self.stand, self.seats.first_of(self.lined())
+        self.stand = stand.seen((seats.first(), seats.owed()), now)
+        self.head = self.head.seen((first, 0 if first is None else seats.seats[first].turn), now)
+        self.was_relieved &= self.stand is stand
+
+    def lined(self):
+        """Returns those that wait in a reset or to come."""
+        seats = self.seats
+        return ((seats.turn > 0) & (seats.line != LINE_DEFLATES)).nonzero()[0].tolist()
+
+    def news(self):
+        """Something else has happened: what was in vain may not be any longer."""
+        self.was_relieved, self.in_vain = False, 0
+
+    def stands_until(self):
+        """Returns when it has stood still for long enough."""
+        return self.stand.since + STANDS
+
+    def patient_until(self):
+        """Returns when the first that restarts or comes has waited for long enough."""
+        return self.head.since + self.patience
+
+    def due(self, now, until):
+        """Returns when something is to be done, before `until`; None where nothing is."""
+        waits = self.stand.what[0] is not None or self.seats.preferred() is not None
+        found = until if self.was_relieved or not waits else self.stands_until()
+        if len(self.lined()) > 1:
+            self.pass_rounds(until)
+            found = min(found, self.patient_until())
+        return max(found, now) if found < until else None
+
+    def pass_rounds(self, until):
+        """Where each has let the others pass in vain, they do so round after round."""
+        count = len(self.lined())
+        rounds = (until - self.head.since) // (count * self.patience)
+        if self.in_vain >= count and rounds > 0:
+            self.head = self.head._replace(since=self.head.since + rounds * count * self.patience)
+            self.passed += int(rounds) * count
+
+    def relieve(self, now, missing):
+        """Does what is due on a host that is short of so many pages."""
+        if not self.was_relieved and now >= self.stands_until():
+            self.proceed(missing)
+        if now >= self.patient_until() and len(self.lined()) > 1:
+            self.let_pass()
+
+    def proceed(self, missing):
+        """Who waits first proceeds alone on a short host, and is lent from the overdraft."""
+        seats, first, self.was_relieved = self.seats, self.seats.first(), True
+        alone = first if missing > 0 else None
+        if seats.preferred() != alone:
+            seats.step(PREFERS, seats.count if alone is None else alone)
+            self.proceeded += alone is not None
+        if first is not None:
+            seats.step(OVERDRAWS, first)
+
+    def let_pass(self):
+        """The first of those that restart or come lets the others pass."""
+        first, _ = self.head.what
+        if self.seats.preferred() == first:
+            self.seats.step(PREFERS, self.seats.count)
+        self.seats.step(DEFERS, first)
+        self.passed, self.in_vain = self.passed + 1, self.in_vain + 1
