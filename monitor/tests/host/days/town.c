@@ -118,6 +118,14 @@ static bool still_gives(const struct guest *guest)
     return !waits && guest->report.ballooned < guest->told;
 }
 
+/* Whether its deflate goes deeper than each target that its driver may obey: then its grant lends
+ * pages. */
+static bool goes_deeper(const struct guest *guest)
+{
+    uint32_t least = smaller(guest->told, smaller(guest->target, guest->read_target));
+    return guest->report.ballooned < least + guest->report.held_pages;
+}
+
 void town_hears(struct guest *guest, const struct lending_message *order)
 {
     if (order->kind == ORDER_TARGET && order->target != guest->told)
@@ -125,9 +133,9 @@ void town_hears(struct guest *guest, const struct lending_message *order)
     if (order->kind != ORDER_GRANT || order->wait == guest->granted)
         return;
     guest->granted = order->wait;
-    for (unsigned i = 0; i < day->size; i++)
-        if (held() + guest->report.held_pages > day->budget && guest != &day->guests[i] &&
-            still_gives(&day->guests[i]))
+    bool overdraws = held() + guest->report.held_pages > day->budget && goes_deeper(guest);
+    for (unsigned i = 0; i < day->size && overdraws; i++)
+        if (guest != &day->guests[i] && still_gives(&day->guests[i]))
             town_ends("gets pages above the budget that others still give", guest);
 }
 
