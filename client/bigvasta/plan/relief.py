@@ -30,7 +30,7 @@ class Relief:
         self.seats, self.patience = seats, float(patience)
         # Who waits first, and what is lent; who waits first of those that restart or come.
         self.stand = self.head = Still()
-        # Whether what stands so was relieved; how many let others pass in a row, in vain.
+        # Whether it was relieved of what is so; how many let others pass in a row, in vain.
         self.was_relieved, self.in_vain = False, 0
         self.proceeded = self.passed = 0
 
@@ -76,7 +76,7 @@ class Relief:
             self.passed += int(rounds) * count
 
     def relieve(self, now, missing):
-        """Does what is due on a host that is short of so many pages."""
+        """Does what is due on a host that is short of `missing` pages."""
         if not self.was_relieved and now >= self.stands_until():
             self.proceed(missing)
         if now >= self.patient_until() and len(self.lined()) > 1:

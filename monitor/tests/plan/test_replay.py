@@ -93,14 +93,15 @@ SCARCE = day_of(a=((0, 90), 20), b=((0, 90), 20))
 # All is lent to a guest that is reset: nothing waits.
 FULL = day_of(a=((0, 50), (10, 0), 20))
 
-# Of 200 pages 50 are missing: a and b can spare 30 each, and give 25. At 10 a can spare 15, and asks
-# for the 10 that it lacks, 5 of them first, as no more may be overdrawn. b gives its last 5, which a
-# gets; 5 are missing. A second later a gets the others beyond the budget. At 20 b can spare 60: what
-# it gives pays them back first. a's part is 3, as both keep 12: b gives 17, and a gets 12.
+# Of 200 pages 50 are missing: a and b can spare 30 each, and give 25. At 10 a can spare 15, and
+# lacks 10: it asks for 5, as no more may be overdrawn. b gives its last 5, which a gets; 5 are
+# missing. A second later a gets the others beyond the budget. At 20 b can spare 60: what it gives
+# pays them back first. a's part is 3, as both keep 12: b gives 17, and a gets 12.
 OVERDRAWN = day_of(a=((0, 70), (10, 85), 30), b=((0, 70), (20, 40), 30))
 
-# b asks for its 100 at 10, and c for its 50 at 12; a can spare 20, so that 80 are lent. At 20 b lets
-# c pass, which can spare 40: they are too few for b, which is let in once a goes; c gets them back.
+# b asks for its 100 at 10, and c for its 50 at 12; a can spare 20, so that 80 are lent. At 20 b
+# lets c pass, which can spare 40: they are too few for b, which is let in once a goes; c gets them
+# back.
 PASSED = Day(
     (
         Recorded("a", 100, (Use(0.0, 80),), 30.0),
