@@ -1,5 +1,5 @@
 """Tests of requests that lie in pages which the host doesn't hold: they read as zeros, and aren't
-held then either."""
+held then either; or which are gone with their file's end."""
 
 import concurrent.futures
 import ctypes
@@ -7,6 +7,7 @@ import os
 
 import pytest
 from vhost_client import DEFLATE, INFLATE, NEXT, PAGE, PAGES_OF_REGION, REGIONS, STATISTICS
+from vhost_demands import demand_refused
 from waiting import eventually
 
 # Times that a request is posted while its pages become holes.
@@ -85,3 +86,13 @@ def test_a_request_whose_pages_become_holes(begin):
             punched.result()
             assert client.told() == DEFLATE
             assert held(client) == 0
+
+
+@pytest.mark.parametrize("page", (0, 1, PAGES_OF_REGION - 1))
+def test_a_request_past_the_end_of_its_file(serve_ready, page):
+    client = serve_ready()
+    client.describe(INFLATE, 0, REGIONS[1][0] + page * PAGE, 4)
+    client.publish(INFLATE, 0)
+    os.ftruncate(client.files[1], page * PAGE)
+    client.kick(INFLATE)
+    demand_refused(client, "its memory's file has been cut off")
