@@ -169,7 +169,7 @@ def picture(status, width, height, shown, fault=""):
     room = max(height - len(lines) - 2, 0)
     chosen = ordered(guests, shown.sort)[shown.first : shown.first + room]
     lines += [guest_line(it, scale, width, shown) for it in chosen]
-    lines += [Line("")] * (height - len(lines) - 1)
+    lines += [Line("")] * height
     own, spare, lent, _, mark = shown.blocks
     keys = (
         f"{own} held  {spare} of it spare  {lent} lent  {mark} left by the target   q quit  s "
