@@ -54,7 +54,7 @@ def counter_of(line, name):
     """Returns a counter of a guest's kernel, where it is told."""
     if line.lacks(name):
         return library.Counter()
-    return library.Counter(line.size(name, "number") % (1 << 64), 1)
+    return library.Counter(line.size(name, "number"), 1)
 
 
 class Stalls:
