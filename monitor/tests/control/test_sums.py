@@ -39,19 +39,30 @@ class Killing(Answering):
         self.client.kick(STATISTICS)
 
 
+def takes_back(host, client):
+    """Has the taker give pages, and take them back unasked. Returns whether they were: a target may
+    be decided again meanwhile, as guests come."""
+
+    def become(ballooned):
+        eventually(lambda: host.guest("taker")["ballooned"] == ballooned)
+
+    client.post_pages(INFLATE, GIVEN)
+    become(len(GIVEN) * PAGE)
+    told = host.guest("taker")["counters"]["told"]
+    host.ask("guest", name="taker", target=len(GIVEN) * PAGE)
+    eventually(lambda: host.guest("taker")["counters"]["told"] > told)
+    client.post_pages(DEFLATE, GIVEN)
+    become(0)
+    return not host.guest("taker")["cooperates"]
+
+
 def come_all(host, arrive):
     """Has a guest of each kind come; returns those that are to go."""
     taker, silent = arrive("taker"), arrive("silent")
     host.ask("add", name="kills")
     kills = Killing(host, "kills")
     eventually(lambda: all(it["answers"] for it in host.ask("status")["guests"]))
-    taker.client.post_pages(INFLATE, GIVEN)
-    eventually(lambda: host.guest("taker")["ballooned"] == len(GIVEN) * PAGE)
-    told = host.guest("taker")["counters"]["told"]
-    host.ask("guest", name="taker", target=len(GIVEN) * PAGE)
-    eventually(lambda: host.guest("taker")["counters"]["told"] > told)
-    taker.client.post_pages(DEFLATE, GIVEN[:10])
-    eventually(lambda: not host.guest("taker")["cooperates"])
+    eventually(lambda: takes_back(host, taker.client))
     silent.stop()
     host.ask("budget", bytes=3 * GUEST)
     return kills, Coming(host, "late", strict=True)
