@@ -80,3 +80,19 @@ def test_each_count_of_a_host_is_that_of_its_guests(host, arrive):
     eventually(lambda: differ() is None, differ)
     for it in here:
         it.leave()
+
+
+def test_what_took_time_is_counted_within_its_bounds(host, arrive):
+    """All that was counted took together no less than the bounds below, and no more than those
+    above."""
+    arrive("a")
+    eventually(lambda: host.guest("a")["answers"])
+    for name, its in host.status()["measures"].items():
+        if isinstance(its, dict) and "bounds" in its:
+            bounds, counts = [0, *its["bounds"], float("inf")], its["counts"]
+            took = [
+                (low, high, count) for low, high, count in zip(bounds, bounds[1:], counts) if count
+            ]
+            least, most = (sum(it[end] * it[2] for it in took) for end in (0, 1))
+            assert least <= its["sum"] <= most, (name, its)
+            assert took or name == "waits"
