@@ -90,7 +90,8 @@ IN_PARTS = day_of(a=((0, 10), (10, 80), 30), b=((0, 100), 30), c=((0, 20), 10))
 # Of 200 pages 100 are missing from the first moment on: a and b give the 10 that each can spare.
 SCARCE = day_of(a=((0, 90), 20), b=((0, 90), 20))
 
-# All is lent to a guest that is reset: nothing waits.
+# All is lent to a guest that is reset: nothing waits. On 99 pages it gives one that it can spare,
+# and then waits for that: there is no room.
 FULL = day_of(a=((0, 50), (10, 0), 20))
 
 # Of 200 pages 50 are missing: a and b can spare 30 each, and give 25. At 10 a can spare 15, and
@@ -179,6 +180,7 @@ WORKED_OUT = {
     ),
     "short from the first moment on": (SCARCE, Terms(100), (), 0.0, 40.0, 1, 20.0, 80, 20),
     "a reset that has all": (FULL, Terms(100), (), 0.0, 20.0, 0, 0.0, 0, 0),
+    "a reset that lacks a page": (FULL, Terms(99), (10.0,), 10.0, 20.0, 1, 10.0, 1, 1),
 }
 
 
