@@ -1,4 +1,5 @@
-"""What a replay grants, and the recorded host didn't before its guest no longer wanted it."""
+"""What a replay grants, and the recorded host didn't before its guest no longer wanted it; and what
+it grants once another guest has gone."""
 
 import json
 
@@ -17,3 +18,12 @@ def test_what_was_granted_already_is_given_back(tmp_path, shared):
         for it in found["guests"]
     }
     assert its == {"a": [0, 0], "b": [10, 10]}
+
+
+# Of 150 pages a has 90 and b 60. At 1 a asks for 10. Before 2 b goes: a has them.
+GOES = {"a": "90/0/0 90/10/0 100/0/10 100/0/10", "b": "60/0/0 60/0/0"}
+
+
+def test_what_a_guest_that_goes_had_is_granted(tmp_path, shared):
+    found = json.loads(check(tmp_path, shared, ([150] * 4, GOES), "--json"))
+    assert found["agrees"] and [it["replayed"] // PAGE for it in found["guests"]] == [10, 0]
