@@ -193,11 +193,8 @@ class Lender:
 
     def relieve(self):
         """Relieves the host, and does what follows of that."""
-        before = self.moved, self.decisions, self.seats.owed()
         self.relief.relieve(self.now, self.missing)
         self.settle()
-        if before != (self.moved, self.decisions, self.seats.owed()):
-            self.relief.in_vain = 0
 
     def ask_library(self):
         """Has the library decide the targets; returns its answer. Those so far don't count where

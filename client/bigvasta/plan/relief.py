@@ -30,8 +30,8 @@ class Relief:
         self.seats, self.patience = seats, float(patience)
         # Who waits first, and what is lent; who waits first of those that restart or come.
         self.stand = self.head = Still()
-        # Whether it was relieved of what is so; how many let others pass in a row, in vain.
-        self.was_relieved, self.in_vain = False, 0
+        # Whether nothing has happened since it was relieved of what is so.
+        self.was_relieved = False
         self.proceeded = self.passed = 0
 
     def look(self, now):
@@ -46,10 +46,6 @@ class Relief:
         seats = self.seats
         return ((seats.turn > 0) & (seats.line != LINE_DEFLATES)).nonzero()[0].tolist()
 
-    def news(self):
-        """Something else has happened: what was in vain may not be any longer."""
-        self.was_relieved, self.in_vain = False, 0
-
     def stands_until(self):
         """Returns when it has stood still for long enough."""
         return self.stand.since + STANDS
@@ -63,17 +59,8 @@ class Relief:
         waits = self.stand.what[0] is not None or self.seats.preferred() is not None
         found = until if self.was_relieved or not waits else self.stands_until()
         if len(self.lined()) > 1:
-            self.pass_rounds(until)
             found = min(found, self.patient_until())
         return max(found, now) if found < until else None
-
-    def pass_rounds(self, until):
-        """Where each has let the others pass in vain, they do so round after round."""
-        count = len(self.lined())
-        rounds = (until - self.head.since) // (count * self.patience)
-        if self.in_vain >= count and rounds > 0:
-            self.head = self.head._replace(since=self.head.since + rounds * count * self.patience)
-            self.passed += int(rounds) * count
 
     def relieve(self, now, missing):
         """Does what is due on a host that is short of `missing` pages."""
@@ -98,4 +85,4 @@ class Relief:
         if self.seats.preferred() == first:
             self.seats.step(PREFERS, self.seats.count)
         self.seats.step(DEFERS, first)
-        self.passed, self.in_vain = self.passed + 1, self.in_vain + 1
+        self.passed += 1

@@ -127,7 +127,7 @@ def happen(lender, events):
         else:
             lender.use(guest, use)
     if events:
-        lender.relief.news()
+        lender.relief.was_relieved = False
 
 
 def promised_by(day):

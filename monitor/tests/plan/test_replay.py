@@ -113,6 +113,19 @@ PASSED = Day(
     40.0,
 )
 
+# b and c can't be let in while a is there, which leaves room for 70: from 20 on each lets the other
+# pass every ten seconds, and 11, 21 .. proceeds alone. So b is the first at 100, when a goes, and c
+# never comes.
+IN_TURNS = Day(
+    (
+        Recorded("a", 100, (Use(0.0, 80),), 100.0),
+        Recorded("b", 100, (Use(10.0, 100),), 120.0),
+        Recorded("c", 80, (Use(12.0, 80),), 120.0),
+    ),
+    0.0,
+    120.0,
+)
+
 # What is expected: waits of each ask, seconds waited and present, how often short, for how long, by
 # how much, pages moved.
 WORKED_OUT = {
@@ -205,6 +218,10 @@ RELIEVED = {
     "one that lets others pass": (
         (PASSED, Terms(150), (8.0, 20.0, 0.0), 28.0, 88.0, 1, 20.0, 80, 100),
         (0, 0.0, 2, 1),
+    ),
+    "two that let each other pass": (
+        (IN_TURNS, Terms(150), (90.0, 108.0), 198.0, 318.0, 1, 110.0, 110, 20),
+        (0, 0.0, 10, 8),
     ),
     "one that lets others pass later": (
         (PASSED, Terms(150, patience=21), (20.0, 18.0), 38.0, 88.0, 1, 20.0, 80, 20),
