@@ -118,16 +118,6 @@ def test_an_object(shared, day):
     ]
 
 
-def test_an_overdraft_is_lent_to_who_waits(shared, day):
-    """20 pages are missing from 10 to 20, and a lacks 30: it asks for 20, of which b gives 10, and
-    then for 10. Each waits for a second."""
-    found = plan(shared, day, "--budgets", "600K", "--overdraft", "80K")["replays"][0]
-    assert (found["waited"], found["worst"], found["short_seconds"]) == (2.0, 1.0, 10.0)
-    assert (found["overdrawn"], found["overdrawn_seconds"]) == (81920, 9.0)
-    lines = run(day, "--library", shared, *OPEN, "--budgets", "600K", "--overdraft", "80K")
-    assert lines.splitlines()[3].split()[-3:-1] == ["0.1", "9"]
-
-
 def test_a_table(shared, day):
     lines = run(day, "--library", shared, *OPEN, "--budgets", "600K").splitlines()
     assert lines[0] == "2 guests, 0.8 MiB promised at once, 0.0 hours of guests"

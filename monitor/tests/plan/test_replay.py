@@ -94,38 +94,6 @@ SCARCE = day_of(a=((0, 90), 20), b=((0, 90), 20))
 # and then waits for that: there is no room.
 FULL = day_of(a=((0, 50), (10, 0), 20))
 
-# Of 200 pages 50 are missing: a and b can spare 30 each, and give 25. At 10 a can spare 15, and
-# lacks 10: it asks for 5, as no more may be overdrawn. b gives its last 5, which a gets; 5 are
-# missing. A second later a gets the others beyond the budget. At 20 b can spare 60: what it gives
-# pays them back first. a's part is 3, as both keep 12: b gives 17, and a gets 12.
-OVERDRAWN = day_of(a=((0, 70), (10, 85), 30), b=((0, 70), (20, 40), 30))
-
-# b asks for its 100 at 10, and c for its 50 at 12; a can spare 20, so that 80 are lent. At 20 b
-# lets c pass, which can spare 40: they are too few for b, which is let in once a goes; c gets them
-# back.
-PASSED = Day(
-    (
-        Recorded("a", 100, (Use(0.0, 80),), 30.0),
-        Recorded("b", 100, (Use(10.0, 50),), 40.0),
-        Recorded("c", 50, (Use(12.0, 10),), 40.0),
-    ),
-    0.0,
-    40.0,
-)
-
-# b and c can't be let in while a is there, which leaves room for 70: from 20 on each lets the other
-# pass every ten seconds, and 11, 21 .. proceeds alone. So b is the first at 100, when a goes, and c
-# never comes.
-IN_TURNS = Day(
-    (
-        Recorded("a", 100, (Use(0.0, 80),), 100.0),
-        Recorded("b", 100, (Use(10.0, 100),), 120.0),
-        Recorded("c", 80, (Use(12.0, 80),), 120.0),
-    ),
-    0.0,
-    120.0,
-)
-
 # What is expected: waits of each ask, seconds waited and present, how often short, for how long, by
 # how much, pages moved.
 WORKED_OUT = {
@@ -202,40 +170,6 @@ def test_worked_out(library, name):
     day, terms, *expected = WORKED_OUT[name]
     it = replay(library, day, terms)
     assert [it.waits, it.waited, it.present, it.shorts, it.short, it.lacked, it.moved] == expected
-
-
-# What is expected besides: pages overdrawn at worst, and for how long; how often a guest was to
-# proceed alone, and how often one let others pass.
-RELIEVED = {
-    "an overdraft": (
-        (OVERDRAWN, Terms(150, overdraft=5), (0.0, 1.0, 0.0), 1.0, 60.0, 1, 10.0, 5, 94),
-        (5, 9.0, 1, 0),
-    ),
-    "no overdraft": (
-        (OVERDRAWN, Terms(150), (10.0, 0.0), 10.0, 60.0, 1, 10.0, 5, 94),
-        (0, 0.0, 1, 0),
-    ),
-    "one that lets others pass": (
-        (PASSED, Terms(150), (8.0, 20.0, 0.0), 28.0, 88.0, 1, 20.0, 80, 100),
-        (0, 0.0, 2, 1),
-    ),
-    "two that let each other pass": (
-        (IN_TURNS, Terms(150), (90.0, 108.0), 198.0, 318.0, 1, 110.0, 110, 20),
-        (0, 0.0, 10, 8),
-    ),
-    "one that lets others pass later": (
-        (PASSED, Terms(150, patience=21), (20.0, 18.0), 38.0, 88.0, 1, 20.0, 80, 20),
-        (0, 0.0, 1, 0),
-    ),
-}
-
-
-@pytest.mark.parametrize("name", RELIEVED)
-def test_a_host_that_stands_still(library, name):
-    (day, terms, *expected), relief = RELIEVED[name]
-    it = replay(library, day, terms)
-    assert [it.waits, it.waited, it.present, it.shorts, it.short, it.lacked, it.moved] == expected
-    assert (it.overdrawn, it.overdrawn_seconds, it.proceeded, it.passed) == relief
 
 
 def test_who_waits_longest_and_what_is_promised(library):
