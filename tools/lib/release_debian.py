@@ -6,6 +6,7 @@ import glob
 import os
 import re
 import shutil
+import textwrap
 import time
 
 from linux_kit import ROOT, need
@@ -24,16 +25,22 @@ SERVICE = (
 )
 
 
+def one_line(text):
+    """Returns a text without line ends."""
+    return " ".join(text.split())
+
+
 def changelog(tree):
-    """Returns Debian's changelog: what CHANGELOG.md has in bold, by version."""
+    """Returns Debian's changelog: what CHANGELOG.md has in bold, by version, in lines as Debian
+    wants them."""
     bold = re.findall(
-        r"(?m)^- \*\*(.*?)\*\*",
+        r"(?ms)^- \*\*(.*?)\*\*",
         read("CHANGELOG.md").split(f"\n## {tree.number}\n")[1].split("\n## ")[0],
     )
     lines = [
         f"bigvasta ({tree.debian}) unstable; urgency=medium",
         "",
-        *(f"  * {it}." for it in bold),
+        *(textwrap.fill(f"  * {it}.", 78, subsequent_indent="    ") for it in map(one_line, bold)),
         "",
     ]
     date = email.utils.formatdate(tree.date)
