@@ -5,9 +5,11 @@ import os
 import socket
 import subprocess
 import threading
+import time
 
 import pytest
 from bigvasta.connection import Connection
+from bigvasta.statuses import Unclear
 from installed import CLIENT, bigvasta
 from waiting import PATIENCE, eventually
 
@@ -274,6 +276,17 @@ def test_who_follows_waits_longer_than_for_an_answer(host):
         events = follower.follow()
         threading.Timer(1.5, lambda: host.ask("add", name="a")).start()
         assert [next(events)["event"] for _ in range(2)] == ["changed", "added"]
+
+
+def test_a_request_has_the_whole_time_limit(monkeypatch):
+    """Whatever the wait for an answer before it has left: the host reads a second later."""
+    ours, host = socket.socketpair()
+    monkeypatch.setattr(Connection, "reach", lambda _: ours)
+    with host, Connection("", PATIENCE) as it:
+        with pytest.raises(Unclear):
+            it.read(time.monotonic() + 0.1)
+        threading.Timer(1, lambda: host.recv(1 << 22, socket.MSG_WAITALL)).start()
+        it.send("x" * ((1 << 22) - 1))
 
 
 def test_a_reader_that_goes_ends_it(host):
