@@ -222,3 +222,16 @@ def test_a_short_day_that_is_made_can_be_read(tmp_path, library, hours):
     for seed in range(20):
         path.write_text("\n".join(making.make(30, seed, hours)))
         assert read(library, str(path)).end == round(hours * 3600, 1)
+
+
+@pytest.mark.parametrize("seed", range(5))
+def test_what_a_guest_that_is_made_uses(seed):
+    """Of its memory 6 to 90 percent are its working set, and most of what it has read stays in page
+    cache, of which a tenth can't be let go. A reboot leaves all of it free."""
+    caches = []
+    for line in list(making.make(30, seed, 24))[1:]:
+        size, available, free = map(int, line.split(",")[2:])
+        assert 0 <= free <= available and size in (MIB << it for it in range(9, 13))
+        assert free == size or 0.06 * size <= size - available <= 0.91 * size + PAGE, line
+        caches.append(available - free > 0.05 * size)
+    assert sum(caches) > len(caches) / 2
