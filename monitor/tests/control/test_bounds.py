@@ -138,9 +138,9 @@ class Deciding:
         self.asked = []
 
     def ask(self, request, since):
-        """Answers with one decision at a time."""
+        """Answers with one decision at a time, and with one change."""
         if request == "changes":
-            return {"lost": 0, "changes": [], "next": since}
+            return {"lost": 0, "changes": [{"change": 7}] if since < 8 else [], "next": 8}
         first = max(since, 3)
         self.asked.append((request, since))
         assert len(self.asked) < 9, "it asks for ever"
@@ -151,8 +151,9 @@ class Deciding:
         }
 
     def follow(self):
-        """Tells of the last one that was asked for, too."""
-        return iter([{"event": "gone", "time": 0}, *({"decision": decision(it)} for it in (4, 5))])
+        """Tells of the last ones that were asked for, too."""
+        events = ({"event": "gone"}, *({"event": "changed", "change": it} for it in (7, 8)))
+        return iter([*events, *({"decision": decision(it)} for it in (4, 5))])
 
 
 def decision(number):
@@ -161,13 +162,16 @@ def decision(number):
 
 
 @pytest.mark.parametrize(
-    "follow, numbers", ((False, ["lost", 3, 4]), (True, ["lost", 3, 4, "gone", 5]))
+    "follow, numbers",
+    ((False, ["change", "lost", 3, 4]), (True, ["change", "lost", 3, 4, "gone", "changed", 5])),
 )
-def test_each_decision_is_shown_once(monkeypatch, follow, numbers):
+def test_each_decision_and_each_change_is_shown_once(monkeypatch, follow, numbers):
     shown = []
     monkeypatch.setattr(log, "Connection", lambda _: contextlib.nullcontext(Deciding()))
     monkeypatch.setattr(
-        log, "show", lambda it, _: shown.append("lost" if "lost" in it else it["number"])
+        log,
+        "show",
+        lambda it, _: shown.append("lost" if "lost" in it else it.get("number", "change")),
     )
     monkeypatch.setattr(log, "event_line", lambda it: it)
     monkeypatch.setattr(
