@@ -9,11 +9,11 @@ from bigvasta.addresses import LOCAL, parse_address
 from bigvasta.cli import parser
 from bigvasta.hour import EVERY, Hour
 from bigvasta.page import row, shown
-from bigvasta.serving import MOST_CLIENTS, MOST_REQUEST, is_loopback
+from bigvasta.serving import MOST_CLIENTS, MOST_REQUEST, is_loopback, listener_at
 from hosts import values
 from installed import bigvasta
 from made_status import guest, status
-from served import facts, get, said, serving as served
+from served import facts, free_port, get, said, serving as served
 from waiting import PATIENCE, eventually
 
 MIB = 1 << 20
@@ -69,6 +69,17 @@ def test_each_answer_has_its_status(port):
             else len(body) == int(headers["Content-Length"])
         ), request
         assert "default-src 'none'" in headers["Content-Security-Policy"]
+
+
+def test_a_port_is_served_again_at_once():
+    """Although a connection that the server ended is remembered there."""
+    text = f"localhost:{free_port()}"
+    with listener_at(text) as first:
+        first.listen()
+        with socket.create_connection(first.getsockname()[:2], PATIENCE) as client:
+            first.accept()[0].close()
+            assert client.recv(1) == b""
+    listener_at(text).close()
 
 
 def test_a_host_that_does_not_answer(folder):
