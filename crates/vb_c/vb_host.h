@@ -89,6 +89,69 @@ typedef struct {
     uint32_t overdraft; /* how many beyond it VB_OVERDRAWS may lend */
 } VbHost;
 
+/* What a guest's process asks for, as `waits` of a message and `ask` of a session have it. */
+enum {
+    VB_ASK_NOTHING = 0,
+    VB_ASK_ROOM = 1,  /* for memory that its guest comes with, or that is added */
+    VB_ASK_RESET = 2, /* all that is in its balloon */
+    VB_ASK_DEFLATE = 3,
+};
+
+/* What it holds back until that is granted. */
+enum {
+    VB_HOLDS_NOTHING = 0, /* its guest isn't strict */
+    VB_HOLDS_DEFLATES = 1,
+    VB_MAY_START_SMALL = 2, /* and its guest may start without some of its pages */
+    /* And it has: its driver hasn't put those pages into the balloon yet. */
+    VB_HAS_STARTED_SMALL = 3,
+};
+
+/* What a process says at a moment, and the terms on which its guest starts. Any numbers may come:
+ * of `waits` those of none of the above say nothing, of `holds` they are VB_MAY_START_SMALL. */
+typedef struct {
+    uint32_t pages;     /* of its memory that have room */
+    uint32_t wanted;    /* pages that are to have room; read where `waits` is VB_ASK_ROOM */
+    uint32_t ballooned; /* pages in its balloon, without those that couldn't be discarded */
+    uint32_t target;    /* the last target that it has received, in pages */
+    uint32_t read;      /* 1 more than the target that its driver has read last; 0: it isn't seen */
+    uint32_t held;      /* pages of the deflate that it holds back; 0 where it holds none */
+    uint32_t deflate;   /* its own number of that */
+    uint32_t waits;     /* for what, before it answers its client: VB_ASK_NOTHING .. VB_ASK_RESET */
+    uint32_t wait;      /* its own number of that */
+    uint32_t holds;     /* VB_HOLDS_NOTHING .. */
+    uint32_t outside;   /* pages of memory that was taken away which still have frames */
+    uint32_t files;     /* pages that its memory's files hold, also of no slot */
+    uint32_t start;     /* pages that its guest is to start with; UINT32_MAX: all */
+    uint32_t most;      /* pages that it may ever have; UINT32_MAX: all */
+    uint32_t limited;   /* its kernel limits what it holds; 0: nothing does */
+} VbMessage;
+
+/* What the lender notes of a process from one message to the next; zeros before the first. Its
+ * caller writes `sent`, `sent_by` and `obeyed`, and zeros `received` with each target it sends. */
+typedef struct {
+    uint32_t ask;      /* what it has asked for last: VB_ASK_NOTHING .. */
+    uint32_t asked;    /* its own number of that */
+    uint64_t asks;     /* how many asks there were: the number of the last one */
+    uint64_t sent;     /* the number of the last target that was sent */
+    uint64_t sent_by;  /* that of the first order to report after it */
+    uint64_t obeyed;   /* that of the last order to report that was obeyed */
+    uint64_t received; /* since when that target is known to be received, in ms; 0: it isn't */
+} VbSession;
+
+/* What a message says. */
+typedef struct {
+    VbReport report; /* as VB_HEARS takes it */
+    uint32_t taken;  /* pages that a strict guest has taken unasked: none is read as given back */
+    uint32_t joins;  /* pages of `outside` that are in slots again, and join its memory */
+    uint32_t ungranted; /* pages of its memory that nobody granted */
+    uint32_t
+        brings;     /* pages that it waits for, beyond its memory and all that are in slots again */
+    uint32_t wants; /* pages that it waits for, beyond its memory and those that join it */
+    uint32_t without; /* pages of `wanted` that its guest comes without */
+    uint32_t small;   /* 1 where pages that it starts without count in its balloon, else 0 */
+    uint32_t resets;  /* 1 where it waits in a reset that takes nothing, else 0 */
+} VbReading;
+
 /* What may happen to a lender: `kind` of an event, and which of its other fields that reads. Where
  * there is no seat at a place, or the event isn't possible, it has no effect. */
 enum {
@@ -164,6 +227,22 @@ VB_ASSERT(sizeof(VbHost) == 8 && offsetof(VbHost, overdraft) == 4 && sizeof(VbHo
 VB_ASSERT(offsetof(VbHostEvent, guest) == 8 && offsetof(VbHostEvent, added) == 16);
 VB_ASSERT(offsetof(VbHostEvent, pages) == 24 && offsetof(VbHostEvent, ballooned) == 28);
 VB_ASSERT(offsetof(VbHostEvent, frames) == 32 && offsetof(VbHostEvent, report) == 40);
+VB_ASSERT(sizeof(VbMessage) == 60 && offsetof(VbMessage, wanted) == 4);
+VB_ASSERT(offsetof(VbMessage, ballooned) == 8 && offsetof(VbMessage, target) == 12);
+VB_ASSERT(offsetof(VbMessage, read) == 16 && offsetof(VbMessage, held) == 20);
+VB_ASSERT(offsetof(VbMessage, deflate) == 24 && offsetof(VbMessage, waits) == 28);
+VB_ASSERT(offsetof(VbMessage, wait) == 32 && offsetof(VbMessage, holds) == 36);
+VB_ASSERT(offsetof(VbMessage, outside) == 40 && offsetof(VbMessage, files) == 44);
+VB_ASSERT(offsetof(VbMessage, start) == 48 && offsetof(VbMessage, most) == 52);
+VB_ASSERT(offsetof(VbMessage, limited) == 56 && sizeof(VbSession) == 48);
+VB_ASSERT(offsetof(VbSession, asked) == 4 && offsetof(VbSession, asks) == 8);
+VB_ASSERT(offsetof(VbSession, sent) == 16 && offsetof(VbSession, sent_by) == 24);
+VB_ASSERT(offsetof(VbSession, obeyed) == 32 && offsetof(VbSession, received) == 40);
+VB_ASSERT(sizeof(VbReading) == 80 && offsetof(VbReading, taken) == 48);
+VB_ASSERT(offsetof(VbReading, joins) == 52 && offsetof(VbReading, ungranted) == 56);
+VB_ASSERT(offsetof(VbReading, brings) == 60 && offsetof(VbReading, wants) == 64);
+VB_ASSERT(offsetof(VbReading, without) == 68 && offsetof(VbReading, small) == 72);
+VB_ASSERT(offsetof(VbReading, resets) == 76);
 
 /* One step: the event; then grants until none is possible, first those that lend nothing more, from
  * the lowest place, then that of the first that waits, while there is room; then the target of each
@@ -183,13 +262,24 @@ uint32_t vb_seat_waits(const VbSeat *seat);
 uint32_t vb_seat_due_target(const VbSeat *seat, const VbReport *report);
 /* 1 where its process holds a deflate that was granted, by its last report, else 0. */
 uint32_t vb_seat_due_grant(const VbSeat *seat, const VbReport *report);
-/* How many of the pages that a report says to be outside may be: no more than were, and were taken
- * away since the last one, but for what has left the balloon meanwhile. VB_HEARS of that report
- * with as many, or fewer, says what there is outside; with more it says nothing of memory. */
-uint32_t vb_seat_outside(const VbSeat *seat, const VbReport *report);
-/* How many pages have left its balloon by a report that neither were granted nor went with memory
- * that was taken away: where there are any, VB_HEARS of that report says nothing of memory. */
-uint32_t vb_seat_taken(const VbSeat *seat, const VbReport *report);
+/* What a message says at this time, in milliseconds. A deflate that was granted stays what its
+ * process asks for as long as that holds it; else a reset that takes any page comes first, then
+ * room for a guest that wasn't let in, then a deflate. A target counts as received once a report
+ * after the order that followed it has that target; and as read where `read` says so, or where
+ * reads aren't seen and it was received 3 seconds ago. No more is outside than was, and was taken
+ * away since, but for what has left the balloon. */
+VbReading vb_seat_read(const VbSeat *seat, const VbSession *session, const VbMessage *message,
+                       uint64_t now);
+/* The session once that message is noted: an ask that is another than before, by its kind or by the
+ * process's own number of it, is the next one. To be noted before the message is read. */
+VbSession vb_seat_note(const VbSeat *seat, const VbSession *session, const VbMessage *message,
+                       uint64_t now);
+
+/* The report by which VB_TAKES_OVER follows a guest that isn't strict (VB_HOLDS_NOTHING), with
+ * these pages of its memory and this target: it has what its message says, and any target at once.
+ * No more is outside than was, and was taken away. */
+VbReport vb_seat_follow(const VbSeat *seat, const VbMessage *message, uint32_t pages,
+                        uint32_t target);
 
 /* How many frames are lent to all guests together (2^64 - 1 where it is more). */
 uint64_t vb_host_owed(const VbSeat *seats, size_t count);

@@ -54,7 +54,7 @@ int main(int count, char **words)
     check_passing();
     check_lines();
     check_orders();
-    check_memories();
+    check_messages();
     check_targets();
     check_refused();
     check_largest();

@@ -4,11 +4,13 @@ ghost use Rattle.std.specs.Prelude.{◌≡◌, ◌-◌, ◌^◌, min};
 ghost use Rattle.vb_virtio.specs.Tests.{one_if};
 ghost use Rattle.vb_host.specs.Least.{least_budget};
 ghost use Rattle.vb_host.specs.Lending.{owed, room};
-ghost use Rattle.vb_host.specs.Outside.{believed_outside, taken_unasked};
+ghost use Rattle.vb_host.specs.Messages.{followed, noted, reading};
 ghost use Rattle.vb_host.specs.Seats.{asked, due_grant, due_target, lent, waits};
 ghost use Rattle.vb_c.specs.Seats.{event_of, lending_of, FirstFor, StepsFor};
 
-use vb_host::{Event, Report, Seat, first_in_line, least_budget, owed, room, step};
+use vb_host::{
+    Event, Message, Reading, Report, Seat, Session, first_in_line, least_budget, owed, room, step,
+};
 use vb_monitor::{BAD_ARGUMENT, OK};
 
 /// Which layout seats, reports and events have, as vb_host.h has it in VB_HOST_VERSION: another
@@ -171,20 +173,43 @@ pub extern "C" fn vb_seat_due_grant(seat: &Seat, report: &Report) -> u32
     u32::from(seat.due_grant(report))
 }
 
-/// Of the pages that a report says to be outside those that may be.
+/// What a message of a guest's process says, at this time.
 #[unsafe(no_mangle)]
-pub extern "C" fn vb_seat_outside(seat: &Seat, report: &Report) -> u32
-    ensures { result ≡ believed_outside report.now seat.now }
+pub extern "C" fn vb_seat_read(
+    seat: &Seat,
+    session: &Session,
+    message: &Message,
+    now: u64,
+) -> Reading
+    ensures { result ≡ reading now session.now message.now seat.now }
 {
-    seat.believed_outside(report)
+    seat.read(session, message, now)
 }
 
-/// The pages that a guest has taken unasked, by a report.
+/// The report by which a guest that isn't strict is taken over.
 #[unsafe(no_mangle)]
-pub extern "C" fn vb_seat_taken(seat: &Seat, report: &Report) -> u32
-    ensures { result ≡ taken_unasked report.now seat.now }
+pub extern "C" fn vb_seat_follow(
+    seat: &Seat,
+    message: &Message,
+    pages: u32,
+    target: u32,
+) -> Report
+    ensures { result ≡ followed message.now seat.now pages target }
 {
-    seat.taken_unasked(report)
+    seat.follow(message, pages, target)
+}
+
+/// What is noted of a message of a guest's process that comes at this time.
+#[unsafe(no_mangle)]
+pub extern "C" fn vb_seat_note(
+    seat: &Seat,
+    session: &Session,
+    message: &Message,
+    now: u64,
+) -> Session
+    ensures { result ≡ noted now session.now message.now seat.now }
+{
+    seat.noted(session, message, now)
 }
 
 /// What is lent to all guests together.

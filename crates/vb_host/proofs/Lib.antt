@@ -32,6 +32,7 @@ pub mod RoomLeft
 pub mod Limits
 pub mod Proceeding
 pub mod Telling
+pub mod Said
 mod SeatFacts
 mod SystemFacts
 mod RunFacts
@@ -40,3 +41,4 @@ mod OutstandingFacts
 mod PatienceFacts
 mod OutsideFacts
 mod LeastFacts
+mod MessageFacts

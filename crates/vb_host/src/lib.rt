@@ -3,6 +3,7 @@
 #![tactic(auto)]
 
 mod arrival;
+mod asking;
 mod event;
 mod hearing;
 mod laws;
@@ -10,11 +11,14 @@ mod least;
 mod lending;
 mod line;
 mod memory;
+mod message;
 mod outside;
+mod reading;
 mod report;
 mod seat;
 mod turns;
 
+pub use asking::messages_are_read;
 pub use event::Event;
 pub use laws::{
     a_lower_budget_takes_effect, a_round_leaves_nothing_to_give, grants_go_in_turn,
@@ -26,6 +30,8 @@ pub use laws::{
 pub use least::{least_budget, the_least_budget_suffices};
 pub use lending::{happen, step};
 pub use line::{first_in_line, owed, room, waited};
+pub use message::{Ask, Hold, Message, Session};
 pub use outside::a_report_tells_of_memory;
+pub use reading::Reading;
 pub use report::{Report, WaitingLine};
 pub use seat::Seat;

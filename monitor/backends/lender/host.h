@@ -49,12 +49,6 @@ struct stillness {
 /* The place of added memory of a guest to which none is added. */
 #define NO_PLACE SIZE_MAX
 
-/* What its process has asked for: for what it waits, and the number of that wait. */
-struct ask {
-    enum guest_wait what;
-    uint32_t number;
-};
-
 /* A guest's place on the host, which it may leave and come back to. */
 struct seat {
     struct host *host;
@@ -88,8 +82,8 @@ struct seat {
                              each with its milliseconds */
     int64_t asked_at;     /* when the first order to look that isn't answered was given; 0: all are
                              answered */
-    uint64_t number, answered; /* of the last order to look; of the last one that is answered */
-    unsigned read;             /* messages of it that were read since the last refill */
+    uint64_t number;      /* of the last order to look */
+    unsigned read;        /* messages of it that were read since the last refill */
     uint64_t clients, lost;
     /* the last one, whose words are the version of its process; zeros without one */
     struct lending_message report;
@@ -116,15 +110,11 @@ struct seat {
     bool cooperates; /* it hasn't taken pages that nobody granted */
     /* What was passed on to the lender's step, and sent by what that made of it. */
     size_t place, added;   /* of its VbSeat; of that of memory which is added to it: NO_PLACE */
-    struct ask ask;        /* what its process has asked for last */
-    uint64_t asks;         /* how many asks there were: the number of the last one */
+    VbSession session;     /* what was noted of its process, and sent to it */
     uint64_t granted_asks; /* the number of the last grant that was noted */
     uint32_t lent;    /* frames that were lent to it as what a step made of it was looked at last */
     uint64_t granted; /* frames that were lent to it since it came, as it asked for them or was told
                          to take them */
-    uint64_t told, told_by; /* the number of the last target that was sent, and that of the first
-                               order to look after it */
-    int64_t received_at;    /* since when that target is known to be received; 0: it isn't */
 };
 
 /* The pages that its memory's files hold, by its last report. */

@@ -26,7 +26,7 @@ static void name_taker(struct seat *seat, uint32_t pages, bool is_within)
 
 void loan_audit(struct seat *seat)
 {
-    uint32_t taken = ask_taken(seat);
+    uint32_t taken = ask_read(seat, &seat->report).taken;
     if (taken > 0)
         name_taker(seat, taken, limit_holds(seat));
 }

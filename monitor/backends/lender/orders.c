@@ -49,14 +49,20 @@ void seat_tell(struct seat *seat)
         return;
     tell_target(seat);
     seat_look(seat, false);
-    seat->told = place_of(seat)->target_number;
-    seat->told_by = seat->number;
-    seat->received_at = 0;
+    seat->session.sent = place_of(seat)->target_number;
+    seat->session.sent_by = seat->number;
+    seat->session.received = 0;
+}
+
+/* Whether it was sent no target, or has received the last one. */
+static bool is_told(const struct seat *seat)
+{
+    return seat->session.sent == 0 || seat->session.received > 0;
 }
 
 void seat_look_again(struct seat *seat, bool asks)
 {
-    if (seat->told > 0 && !target_is_received(seat))
+    if (!is_told(seat))
         tell_target(seat);
     seat_look(seat, asks);
 }
@@ -101,8 +107,7 @@ void seat_set_target(struct seat *seat, uint32_t pages)
 
 bool seat_is_behind(const struct seat *seat)
 {
-    bool is_told = seat->told == 0 || target_is_received(seat);
-    return seat_is_taken(seat) && (place_of(seat)->wanted != all_wanted(seat) || !is_told);
+    return seat_is_taken(seat) && (place_of(seat)->wanted != all_wanted(seat) || !is_told(seat));
 }
 
 void seat_step(struct seat *seat, int64_t milliseconds)
@@ -153,12 +158,11 @@ static void answer_room(struct seat *seat)
     }
 }
 
-/* Grants what it asks for: its reset, or its deflate. */
-static void grant(struct seat *seat)
+/* Grants what it asks for in this line: its deflate, or its reset. */
+static void grant(struct seat *seat, uint32_t line)
 {
-    struct ask ask = ask_of(seat);
-    struct lending_message message = {.kind = ORDER_GRANT, .wait = ask.number};
-    if (ask.what == WAITS_FOR_DEFLATE)
+    struct lending_message message = {.kind = ORDER_GRANT, .wait = seat->report.held_wait};
+    if (line == VB_LINE_DEFLATES)
         order(seat, &message);
     else
         admit(seat, place_of(seat)->ballooned);
@@ -166,11 +170,11 @@ static void grant(struct seat *seat)
 
 void seat_repeat(struct seat *seat)
 {
-    VbReport report = ask_report(seat);
+    VbReading reading = ask_read(seat, &seat->report);
     if (seat->report.waits == WAIT_ROOM)
         answer_room(seat);
-    if (seat->report.waits == WAIT_RESET && ask_of_reset(seat) == 0)
+    if (reading.resets)
         admit(seat, seat->report.ballooned);
-    if (seat->holds && vb_seat_due_grant(place_of(seat), &report) && limit_allows(seat))
-        grant(seat);
+    if (seat->holds && vb_seat_due_grant(place_of(seat), &reading.report) && limit_allows(seat))
+        grant(seat, reading.report.line);
 }

@@ -53,7 +53,7 @@ static bool may_have_changed(const struct seat *seat, size_t guest)
 {
     const VbSeat *its = place_of(seat);
     return seat->place == guest || seat->added != NO_PLACE || its->granted != seat->granted_asks ||
-           its->target_number != seat->told;
+           its->target_number != seat->session.sent;
 }
 
 /* Notes and sends what a step has made of a guest. */
@@ -66,7 +66,7 @@ static void follow_step(struct seat *seat)
         seat->granted += lent - before;
     if (seat->holds && its->granted != seat->granted_asks)
         note_grant(seat);
-    if (its->target_number != seat->told)
+    if (its->target_number != seat->session.sent)
         seat_tell(seat);
 }
 
@@ -147,39 +147,24 @@ static void hear_of_added(struct seat *seat, uint32_t pages)
 }
 
 /* Pages that were outside of its memory's slots are in them once more: they are lent already, and
- * join it whether or not there is room. The step takes a report by which the balloon has lost pages
- * for none of what is outside: nothing returns by it. Returns how many do. */
-static uint32_t take_back(struct seat *seat)
+ * join it whether or not there is room. */
+static void take_back(struct seat *seat, uint32_t pages)
 {
     struct host *host = seat->host;
-    uint32_t pages = ask_taken(seat) > 0 ? 0 : ask_returned(seat, &seat->report);
     if (pages == 0)
-        return 0;
+        return;
     size_t place = free_place(host);
     VbReport all = {.deflates = 1};
     places_step(
         host, (VbHostEvent){.kind = VB_TAKES_OVER, .guest = place, .pages = pages, .report = all});
     places_step(host, (VbHostEvent){.kind = VB_JOINS, .guest = seat->place, .added = place});
-    return pages;
 }
 
 /* ---- a guest */
 
-/* The pages for which its process waits beyond those that have room. */
-static uint32_t room_wanted(const struct seat *seat)
+/* It has reported. */
+static void hear(struct seat *seat, VbReport report)
 {
-    const struct lending_message *message = &seat->report;
-    uint32_t has = seat_pages(seat);
-    bool waits = message->waits == WAIT_ROOM && message->wanted > has && !seat->refused;
-    return waits ? message->wanted - has : 0;
-}
-
-/* It has reported, and these pages have returned: as many fewer are outside, whatever it says. */
-static void hear(struct seat *seat, uint32_t returned)
-{
-    VbReport report = ask_report(seat);
-    if (returned > 0)
-        report.outside = smaller(report.outside, place_of(seat)->outside - returned);
     places_step(seat->host,
                 (VbHostEvent){.kind = VB_HEARS, .guest = seat->place, .report = report});
 }
@@ -187,14 +172,14 @@ static void hear(struct seat *seat, uint32_t returned)
 /* A guest that isn't let in yet. */
 static void hear_newcomer(struct seat *seat)
 {
-    uint32_t wanted = room_wanted(seat), without = ask_comes_without(seat, wanted);
-    if (place_of(seat)->pages != wanted || place_of(seat)->wanted != without)
+    VbReading reading = ask_read(seat, &seat->report);
+    if (place_of(seat)->pages != reading.wants || place_of(seat)->wanted != reading.without)
         places_step(seat->host, (VbHostEvent){.kind = VB_ARRIVES,
                                               .guest = seat->place,
-                                              .pages = wanted,
-                                              .ballooned = without});
-    if (wanted > 0)
-        hear(seat, 0);
+                                              .pages = reading.wants,
+                                              .ballooned = reading.without});
+    if (reading.wants > 0)
+        hear(seat, ask_read(seat, &seat->report).report);
 }
 
 /* Whether memory that is added to it has its place in line, or may have one now. */
@@ -210,21 +195,12 @@ static void take_over(struct seat *seat, uint32_t pages, VbReport report)
                     .kind = VB_TAKES_OVER, .guest = seat->place, .pages = pages, .report = report});
 }
 
-/* A guest whose process holds nothing back: it has what its report says, and any target at once. No
- * more is outside than was, or was taken away. */
+/* A guest whose process holds nothing back: it has what its report says, and any target at once. */
 static void follow(struct seat *seat, uint32_t pages, uint32_t target)
 {
-    const VbSeat *its = place_of(seat);
-    bool is_uncounted = its->uncounted;
-    uint64_t most = (uint64_t)its->outside + its->pages - smaller(its->pages, pages);
-    uint32_t outside = ask_outside(seat);
-    VbReport report = {.ballooned = is_uncounted ? 0 : seat->report.ballooned,
-                       .target = target,
-                       .read_target = target,
-                       .outside = outside < most ? outside : (uint32_t)most,
-                       .target_number = its->target_number + (its->target != target),
-                       .deflates = 1};
-    take_over(seat, pages, report);
+    VbMessage message = ask_message(seat, &seat->report);
+    bool is_uncounted = place_of(seat)->uncounted;
+    take_over(seat, pages, vb_seat_follow(place_of(seat), &message, pages, target));
     if (is_uncounted)
         places_step(seat->host, (VbHostEvent){.kind = VB_UNCOUNTS, .guest = seat->place});
 }
@@ -233,14 +209,15 @@ void place_hears(struct seat *seat)
 {
     const VbSeat *its = place_of(seat);
     bool waits = seat->report.waits == WAIT_ROOM;
+    VbReading reading = ask_read(seat, &seat->report);
     if (!seat->holds) {
-        uint32_t back = ask_returned(seat, &seat->report);
-        follow(seat, waits ? its->pages + back : seat->report.pages, its->wanted);
+        follow(seat, waits ? its->pages + reading.joins : seat->report.pages, its->wanted);
     } else if (its->granted == 0) {
         hear_newcomer(seat);
     } else {
-        hear(seat, take_back(seat));
-        hear_of_added(seat, may_add(seat) ? room_wanted(seat) : 0);
+        take_back(seat, reading.joins);
+        hear(seat, reading.report);
+        hear_of_added(seat, may_add(seat) ? reading.wants : 0);
     }
 }
 
@@ -264,10 +241,10 @@ void place_takes_over(struct seat *seat)
     VbReport report = {.ballooned = message->ballooned,
                        .target = message->target,
                        .read_target = message->obeyed > 0 ? message->obeyed - 1 : message->target,
-                       .outside = ask_outside(seat),
+                       .outside = lending_outside(message),
                        .target_number = 1,
                        .deflates = 1};
-    seat->asks = seat->granted_asks = seat->told = 1;
+    seat->session.asks = seat->session.sent = seat->granted_asks = 1;
     take_over(seat, message->pages, report);
     seat->granted = 0;
     host_changed(seat->host, BY_GUESTS);

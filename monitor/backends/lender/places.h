@@ -26,45 +26,12 @@ static inline uint32_t pages_beyond(const struct seat *seat)
 
 /* ---- asks.c */
 
-/* For what its process asks, by its last report: a deflate that was granted, as long as it holds
- * that; else for a reset, or for room of a guest that wasn't let in, or for a deflate. */
-struct ask ask_of(const struct seat *seat);
+/* What a process says, by one of its reports, and what the library reads in that. */
+VbMessage ask_message(const struct seat *seat, const struct lending_message *said);
+VbReading ask_read(const struct seat *seat, const struct lending_message *said);
 
-/* Notes what it asks for: what isn't the ask before has another number. And since when its last
- * target is received. */
+/* Notes what its last report asks for, and whether its last target is received. */
 void ask_note(struct seat *seat);
-
-/* The pages that it says to have outside of its memory's slots; of one whose balloon doesn't count
- * those that are lent to it, as long as it holds as many. */
-uint32_t ask_outside(const struct seat *seat);
-
-/* Of a report, the pages that were outside and are in slots once more. */
-uint32_t ask_returned(const struct seat *seat, const struct lending_message *report);
-
-/* The pages that have left its balloon by its last report without a grant, and not with memory that
- * was taken away. */
-uint32_t ask_taken(const struct seat *seat);
-
-/* Its last report, as the step takes it. */
-VbReport ask_report(const struct seat *seat);
-
-/* Of these pages of its memory, those that it starts without: where the kernel limits what it
- * holds, and its process can. */
-uint32_t ask_without(const struct seat *seat, uint32_t pages);
-
-/* Of these pages of a guest that comes, those that it does so without: what was given up of it on
- * the host from which it comes, or what it starts without. */
-uint32_t ask_comes_without(const struct seat *seat, uint32_t pages);
-
-/* Whether pages that it starts without count in its balloon, as its driver hasn't put them there
- * yet. */
-bool ask_starts_small(const struct seat *seat);
-
-/* The pages that its reset takes: those in its balloon, but for what it starts without. */
-uint32_t ask_of_reset(const struct seat *seat);
-
-/* Whether its process has received its last target. */
-bool target_is_received(const struct seat *seat);
 
 /* ---- places.c */
 

@@ -61,7 +61,7 @@ static uint16_t contact_of(const struct seat *seat)
     if (!seat_is_taken(seat))
         return VB_CONTACT_AWAY;
     if (!seat_is_ready(seat)) /* it gives the pages that it has started without */
-        return ask_starts_small(seat) ? VB_CONTACT_SILENT : VB_CONTACT_STARTS;
+        return ask_read(seat, &seat->report).small ? VB_CONTACT_SILENT : VB_CONTACT_STARTS;
     return is_heard(seat) ? VB_CONTACT_HEARD : VB_CONTACT_SILENT;
 }
 

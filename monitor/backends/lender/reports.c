@@ -24,7 +24,7 @@ static bool has_more(const struct seat *seat, const struct lending_message *repo
 {
     if (seat->adopts)
         return report->pages + lending_outside(report) > seat_frames(seat);
-    return report->pages > seat_pages(seat) + ask_returned(seat, report);
+    return ask_read(seat, report).ungranted > 0;
 }
 
 /* Why a report isn't believed, beside what was granted, and how its process was started; NULL: it
@@ -46,7 +46,7 @@ static const char *report_fault(const struct seat *seat, const struct lending_me
 static uint64_t missing_room(const struct seat *seat)
 {
     struct host *host = seat->host;
-    uint32_t wanted = seat->report.wanted, asked = wanted - ask_comes_without(seat, wanted);
+    uint32_t asked = seat->report.wanted - ask_read(seat, &seat->report).without;
     bool comes_from_another = seat_pages(seat) == 0 && seat->report.ballooned > 0;
     if (!seat->holds || comes_from_another)
         return policy_lacks(host, seat, asked);
@@ -169,9 +169,7 @@ static void check_version(char words[MOST_WORDS])
 static uint32_t brings(const struct seat *seat, const struct lending_message *message)
 {
     bool has_waited = seat->report.waits == WAIT_ROOM && message->wait == seat->report.wait;
-    uint32_t has = seat_pages(seat) + ask_returned(seat, message);
-    bool is_new = message->waits == WAIT_ROOM && !has_waited;
-    return is_new ? message->wanted - smaller(message->wanted, has) : 0;
+    return has_waited ? 0 : ask_read(seat, message).brings;
 }
 
 /* Passes its report on, with what it asks for. */
@@ -196,7 +194,7 @@ static void take_answer(struct seat *seat, uint64_t number, bool asked)
         return;
     if (number == seat->number)
         seat->asked_at = 0;
-    seat->answered = number > seat->answered ? number : seat->answered;
+    seat->session.obeyed = number > seat->session.obeyed ? number : seat->session.obeyed;
     if (number == question->ask && seat == question->of)
         question->asked = asked;
 }

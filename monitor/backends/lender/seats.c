@@ -46,15 +46,14 @@ void seat_clear(struct seat *seat)
     seat->free = seat->available = seat->ballooned_then = seat->target = seat->silent = 0;
     seat->known = seat->tells_available = seat->gone = seat->refused = seat->adopts = seat->holds =
         false;
-    seat->heard = seat->taken = seat->number = seat->answered = seat->lost = 0;
+    seat->heard = seat->taken = seat->number = seat->lost = 0;
     seat->heard_at = seat->paused_until = seat->asked_at = seat->waits_since = 0;
     seat->serving = 0;
     seat->pressure = (VbPressure){0};
     seat->still = (struct stillness){0};
     seat->moved_at = seat->passed_over = 0;
-    seat->ask = (struct ask){WAITS_FOR_NOTHING, 0};
-    seat->asks = seat->granted_asks = seat->granted = seat->told = seat->told_by = 0;
-    seat->received_at = 0;
+    seat->session = (VbSession){0};
+    seat->granted_asks = seat->granted = 0;
     seat->cooperates = true;
     seat->reserves = false;
     limit_forget(seat);

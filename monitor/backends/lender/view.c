@@ -278,7 +278,7 @@ const char *host_refuses(const struct host *host, const char *name, const struct
 {
     const struct seat *seat = seat_of(host, name);
     const char *term, *fault = terms_fault(terms, &term);
-    bool needs_limit = seat && ask_starts_small(seat);
+    bool needs_limit = seat && ask_read(seat, &seat->report).small;
     if (!fault && needs_limit && terms->limit.kind == LIMIT_NONE)
         fault = "its limit stays until its balloon has what it started without";
     return fault ? fault : limit_refusal(host, name, terms);

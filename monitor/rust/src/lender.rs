@@ -7,7 +7,7 @@
 
 use crate::raw::*;
 
-pub use crate::raw::{Report, Seat};
+pub use crate::raw::{Message, Reading, Report, Seat, Session};
 
 /// In which line a deflate waits, as `line` of a [`Report`] has it. Those of an earlier line come
 /// before all of a later one.
@@ -18,6 +18,29 @@ pub enum Line {
     Resets = LINE_RESETS as isize,
     /// Of newcomers, and of memory that is added.
     Arrivals = LINE_ARRIVALS as isize,
+}
+
+/// What a guest's process asks for, as `waits` of a [`Message`] and `ask` of a [`Session`] have it.
+#[derive(Clone, Copy, Debug, PartialEq, Eq)]
+pub enum Ask {
+    Nothing = ASK_NOTHING as isize,
+    /// For memory that its guest comes with, or that is added.
+    Room = ASK_ROOM as isize,
+    /// All that is in its balloon.
+    Reset = ASK_RESET as isize,
+    Deflate = ASK_DEFLATE as isize,
+}
+
+/// What a guest's process holds back until that is granted, as `holds` of a [`Message`] has it.
+#[derive(Clone, Copy, Debug, PartialEq, Eq)]
+pub enum Hold {
+    /// Its guest isn't strict.
+    Nothing = HOLDS_NOTHING as isize,
+    Deflates = HOLDS_DEFLATES as isize,
+    /// And its guest may start without some of its pages.
+    MayStartSmall = MAY_START_SMALL as isize,
+    /// And it has: its driver hasn't put those pages into the balloon yet.
+    HasStartedSmall = HAS_STARTED_SMALL as isize,
 }
 
 /// What may happen to a lender. Where there is no seat at a place, or the event isn't possible, it
@@ -109,18 +132,24 @@ impl Seat {
         unsafe { vb_seat_due_grant(self, report) != 0 }
     }
 
-    /// How many of the pages that a report says to be outside may be: no more than were, and were
-    /// taken away since the last one, but for what has left the balloon.
-    pub fn believed_outside(&self, report: &Report) -> u32 {
+    /// What a message of its process says at this time, in milliseconds: the report that
+    /// [`Event::Hears`] takes, and numbers of pages.
+    pub fn read(&self, session: &Session, message: &Message, now: u64) -> Reading {
         // SAFETY: the pointers are of `&`.
-        unsafe { vb_seat_outside(self, report) }
+        unsafe { vb_seat_read(self, session, message, now) }
     }
 
-    /// How many pages have left its balloon by a report that neither were granted nor went with
-    /// memory that was taken away.
-    pub fn taken_unasked(&self, report: &Report) -> u32 {
+    /// The report by which [`Event::TakesOver`] follows a guest that isn't strict, with these pages
+    /// of its memory and this target.
+    pub fn follow(&self, message: &Message, pages: u32, target: u32) -> Report {
         // SAFETY: the pointers are of `&`.
-        unsafe { vb_seat_taken(self, report) }
+        unsafe { vb_seat_follow(self, message, pages, target) }
+    }
+
+    /// The session once that message is noted; to be noted before the message is read.
+    pub fn note(&self, session: &Session, message: &Message, now: u64) -> Session {
+        // SAFETY: the pointers are of `&`.
+        unsafe { vb_seat_note(self, session, message, now) }
     }
 }
 

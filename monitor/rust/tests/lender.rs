@@ -1,6 +1,6 @@
 //! A host of 100 frames and two guests, by pencil: vb_host.h over a list of seats.
 
-use vb_balloon::lender::{Event, Lender, Line, Report, Seat};
+use vb_balloon::lender::{Ask, Event, Hold, Lender, Line, Message, Reading, Report, Seat, Session};
 
 /// What the process of a guest of these pages reports before it is let in.
 fn coming(pages: u32, ballooned: u32) -> Report {
@@ -68,12 +68,27 @@ fn orders_are_due_until_a_report_shows_them() {
 }
 
 #[test]
-fn a_report_may_say_no_more_of_memory_than_there_was() {
-    let seat = Seat { pages: 60, ballooned: 30, outside: 7, deflates: 6, granted: 6, ..Seat::default() };
-    let report = Report { ballooned: 26, outside: 14, removed: 10, deflates: 6, ..Report::default() };
-    assert_eq!((seat.believed_outside(&report), seat.taken_unasked(&report)), (13, 0));
-    let more = Report { ballooned: 19, ..report };
-    assert_eq!((seat.believed_outside(&more), seat.taken_unasked(&more)), (6, 1));
+fn a_message_is_read_as_a_report() {
+    let seat = Seat { pages: 60, ballooned: 30, target: 30, outside: 7, deflates: 6, granted: 6, ..Seat::default() };
+    let session = Session { ask: Ask::Deflate as u32, asked: 8, asks: 6, ..Session::default() };
+    let message = Message { pages: 50, ballooned: 26, target: 30, read: 31, outside: 14, ..Message::default() };
+    let message = Message { held: 2, deflate: 9, holds: Hold::Deflates as u32, ..message };
+    let noted = seat.note(&session, &message, 70);
+    assert_eq!(noted, Session { asked: 9, asks: 7, received: 70, ..session });
+    let reading = seat.read(&noted, &message, 70);
+    let report = Report { ballooned: 26, target: 30, read_target: 30, held: 2, outside: 13, ..Report::default() };
+    assert_eq!(reading, Reading { report: Report { deflates: 7, removed: 10, ..report }, ..Reading::default() });
+    let taken = seat.read(&noted, &Message { ballooned: 19, ..message }, 70);
+    assert_eq!((taken.report.outside, taken.taken), (6, 1));
+}
+
+#[test]
+fn who_is_not_strict_is_followed() {
+    let seat = Seat { pages: 60, ballooned: 30, target: 30, outside: 7, granted: 1, ..Seat::default() };
+    let message = Message { pages: 50, ballooned: 26, outside: 99, ..Message::default() };
+    let report = Report { ballooned: 26, target: 20, read_target: 20, outside: 17, ..Report::default() };
+    let report = Report { target_number: 1, deflates: 1, ..report };
+    assert_eq!(seat.follow(&message, 50, 20), report);
 }
 
 #[test]

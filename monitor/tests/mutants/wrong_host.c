@@ -51,8 +51,7 @@ uint32_t __wrap_vb_host_step(VbHost *, VbSeat *, size_t, const VbHostEvent *);
 
 uint64_t __real_policy_lacks(struct host *, const struct seat *, uint32_t);
 uint64_t __wrap_policy_lacks(struct host *, const struct seat *, uint32_t);
-uint32_t __real_ask_comes_without(const struct seat *, uint32_t);
-uint32_t __wrap_ask_comes_without(const struct seat *, uint32_t);
+__typeof__(vb_seat_read) __real_vb_seat_read, __wrap_vb_seat_read;
 uint32_t __wrap_vb_host_version(void);
 uint32_t __real_vb_seat_due_grant(const VbSeat *, const VbReport *);
 uint32_t __wrap_vb_seat_due_grant(const VbSeat *, const VbReport *);
@@ -121,9 +120,16 @@ uint64_t __wrap_policy_lacks(struct host *host, const struct seat *newcomer, uin
     return wrong() == ADMITS_ALL ? 0 : __real_policy_lacks(host, newcomer, pages);
 }
 
-uint32_t __wrap_ask_comes_without(const struct seat *seat, uint32_t pages)
+VbReading __wrap_vb_seat_read(const VbSeat *seat, const VbSession *session,
+                              const VbMessage *message, uint64_t now)
 {
-    return wrong() == LENDS_ALL ? 0 : __real_ask_comes_without(seat, pages);
+    VbReading reading = __real_vb_seat_read(seat, session, message, now);
+    if (wrong() != LENDS_ALL)
+        return reading;
+    reading.without = 0;
+    if (reading.report.line == VB_LINE_ARRIVALS)
+        reading.report.held = seat->pages;
+    return reading;
 }
 
 uint32_t __wrap_vb_host_version(void)

@@ -12,16 +12,18 @@ void print_seat(size_t place, const VbSeat *seat);
 void expect(bool is_so, const char *what);
 
 /* rows.c: the events of a host with two guests. passing.c: of three of which one comes first, or
- * lets others pass. orders.c: seats of any numbers. memories.c: what a report may say of memory. */
+ * lets others pass. orders.c: seats of any numbers. messages.c: what a process says. */
 void check_rows(void);
 void check_passing(void);
 void check_lines(void);
 void check_orders(void);
-void check_memories(void);
+void check_messages(void);
 void check_targets(void);
 void check_refused(void);
 void check_largest(void);
 
-/* steps.c: random events, beside the plain implementation. */
+/* steps.c: random events, beside the plain implementation. said.c: whether a random message to a
+ * seat is the same to both. */
 void check_steps(unsigned long long steps);
+bool is_read_alike(const VbSeat *seat);
 #endif
