@@ -152,6 +152,27 @@ typedef struct {
     uint32_t resets;  /* 1 where it waits in a reset that takes nothing, else 0 */
 } VbReading;
 
+/* What was decided of a guest, and how its host is. */
+typedef struct {
+    uint32_t target;   /* pages that are to be in its balloon */
+    uint32_t strict;   /* its deflates wait for grants; 0: they don't */
+    uint32_t ready;    /* its driver is there; 0: it isn't */
+    uint32_t seconds;  /* in which its target may grow by all its pages; 0: at once */
+    uint32_t needed;   /* a guest waits, or `gains`; 0: none does */
+    uint32_t frames;   /* the budget */
+    uint64_t held_kib; /* what files of guests' memory hold, in KiB */
+    uint64_t passed;   /* milliseconds since it was last let grow; 0: it isn't to grow now */
+} VbAim;
+
+/* How its target follows that, in pages. */
+typedef struct {
+    uint32_t all;   /* wanted in its balloon in the end */
+    uint32_t now;   /* and now: VB_WANTS */
+    uint32_t rises; /* 1 where its target may grow by steps, else 0; else only `target`, `strict`,
+                     * `ready` and `seconds` of the aim count */
+    uint32_t gains; /* 1 where it is strict, and to get pages that others may give first, else 0 */
+} VbPace;
+
 /* What may happen to a lender: `kind` of an event, and which of its other fields that reads. Where
  * there is no seat at a place, or the event isn't possible, it has no effect. */
 enum {
@@ -238,6 +259,11 @@ VB_ASSERT(offsetof(VbMessage, limited) == 56 && sizeof(VbSession) == 48);
 VB_ASSERT(offsetof(VbSession, asked) == 4 && offsetof(VbSession, asks) == 8);
 VB_ASSERT(offsetof(VbSession, sent) == 16 && offsetof(VbSession, sent_by) == 24);
 VB_ASSERT(offsetof(VbSession, obeyed) == 32 && offsetof(VbSession, received) == 40);
+VB_ASSERT(sizeof(VbAim) == 40 && offsetof(VbAim, strict) == 4 && offsetof(VbAim, ready) == 8);
+VB_ASSERT(offsetof(VbAim, seconds) == 12 && offsetof(VbAim, needed) == 16);
+VB_ASSERT(offsetof(VbAim, frames) == 20 && offsetof(VbAim, held_kib) == 24);
+VB_ASSERT(offsetof(VbAim, passed) == 32 && sizeof(VbPace) == 16 && offsetof(VbPace, now) == 4);
+VB_ASSERT(offsetof(VbPace, rises) == 8 && offsetof(VbPace, gains) == 12);
 VB_ASSERT(sizeof(VbReading) == 80 && offsetof(VbReading, taken) == 48);
 VB_ASSERT(offsetof(VbReading, joins) == 52 && offsetof(VbReading, ungranted) == 56);
 VB_ASSERT(offsetof(VbReading, brings) == 60 && offsetof(VbReading, wants) == 64);
@@ -280,6 +306,12 @@ VbSession vb_seat_note(const VbSeat *seat, const VbSession *session, const VbMes
  * No more is outside than was, and was taken away. */
 VbReport vb_seat_follow(const VbSeat *seat, const VbMessage *message, uint32_t pages,
                         uint32_t target);
+
+/* How its target follows what was decided: by steps of its part for the time that has passed, and
+ * of a page at least, while nobody needs pages and files hold no more than the budget; else at
+ * once. A strict guest that wasn't let in keeps what is wanted of it, and one whose driver isn't
+ * there is lent no page by a target. */
+VbPace vb_seat_pace(const VbSeat *seat, const VbAim *aim);
 
 /* How many frames are lent to all guests together (2^64 - 1 where it is more). */
 uint64_t vb_host_owed(const VbSeat *seats, size_t count);

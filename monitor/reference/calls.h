@@ -50,6 +50,7 @@ REFERENCE(seat_due_grant);
 REFERENCE(seat_read);
 REFERENCE(seat_note);
 REFERENCE(seat_follow);
+REFERENCE(seat_pace);
 REFERENCE(policy_tiers);
 REFERENCE(policy_wants);
 REFERENCE(policy_decide);

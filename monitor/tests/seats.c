@@ -55,6 +55,7 @@ int main(int count, char **words)
     check_lines();
     check_orders();
     check_messages();
+    check_paces();
     check_targets();
     check_refused();
     check_largest();

@@ -5,11 +5,13 @@ ghost use Rattle.vb_virtio.specs.Tests.{one_if};
 ghost use Rattle.vb_host.specs.Least.{least_budget};
 ghost use Rattle.vb_host.specs.Lending.{owed, room};
 ghost use Rattle.vb_host.specs.Messages.{followed, noted, reading};
+ghost use Rattle.vb_host.specs.Paces.{pace_of};
 ghost use Rattle.vb_host.specs.Seats.{asked, due_grant, due_target, lent, waits};
 ghost use Rattle.vb_c.specs.Seats.{event_of, lending_of, FirstFor, StepsFor};
 
 use vb_host::{
-    Event, Message, Reading, Report, Seat, Session, first_in_line, least_budget, owed, room, step,
+    Aim, Event, Message, Pace, Reading, Report, Seat, Session, first_in_line, least_budget, owed,
+    room, step,
 };
 use vb_monitor::{BAD_ARGUMENT, OK};
 
@@ -210,6 +212,14 @@ pub extern "C" fn vb_seat_note(
     ensures { result ≡ noted now session.now message.now seat.now }
 {
     seat.noted(session, message, now)
+}
+
+/// How a guest's target follows what was decided.
+#[unsafe(no_mangle)]
+pub extern "C" fn vb_seat_pace(seat: &Seat, aim: &Aim) -> Pace
+    ensures { result ≡ pace_of aim.now seat.now }
+{
+    seat.pace(aim)
 }
 
 /// What is lent to all guests together.

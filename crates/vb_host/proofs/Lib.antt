@@ -33,6 +33,7 @@ pub mod Limits
 pub mod Proceeding
 pub mod Telling
 pub mod Said
+pub mod Pacing
 mod SeatFacts
 mod SystemFacts
 mod RunFacts
@@ -42,3 +43,4 @@ mod PatienceFacts
 mod OutsideFacts
 mod LeastFacts
 mod MessageFacts
+mod PaceFacts

@@ -47,7 +47,7 @@ impl Session {
 
 impl Seat {
     /// The pages of its memory that have room.
-    fn roomy(&self) -> u32
+    pub(crate) fn roomy(&self) -> u32
         ensures { result ≡ roomy self.now }
     {
         if self.is_let_in() { self.pages } else { 0 }

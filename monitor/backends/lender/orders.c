@@ -67,59 +67,60 @@ void seat_look_again(struct seat *seat, bool asks)
     seat_look(seat, asks);
 }
 
-/* Whether a strict guest is to get pages back that others give first. */
-static bool one_lacks_pages(const struct host *host)
+/* What was decided of it. */
+static VbAim aim_of(const struct seat *seat)
 {
-    for (unsigned i = 0; i < host->count; i++)
-        if (host->seats[i]->holds && host->seats[i]->target < seat_told(host->seats[i]))
+    return (VbAim){.target = seat->target,
+                   .strict = seat->holds,
+                   .ready = seat_is_ready(seat),
+                   .seconds = seat->host->step,
+                   .frames = seat->host->frames};
+}
+
+/* Whether a strict guest is to get pages back that others give first. */
+static bool one_gains(const struct host *host)
+{
+    for (unsigned i = 0; i < host->count; i++) {
+        VbAim aim = aim_of(host->seats[i]);
+        if (vb_seat_pace(place_of(host->seats[i]), &aim).gains)
             return true;
+    }
     return false;
 }
 
-/* What a guest may be asked for at once: all of its target, unless a step is smaller, the host is
- * within its budget, and nobody waits for pages, or is to get some that others give first. */
-static bool goes_by_steps(const struct seat *seat)
+/* Has what was decided be wanted of it, as far as its target grows in this time: what all guests do
+ * counts where it may grow by steps. */
+static void want(struct seat *seat, int64_t milliseconds)
 {
     const struct host *host = seat->host;
-    if (host->step == 0 || seat->target <= seat_told(seat))
-        return false;
-    return host_held(host) <= host->frames * UINT64_C(4) && !places_wait(host) &&
-           !one_lacks_pages(host);
-}
-
-/* What is wanted of it without steps: what was decided. Of a guest whose driver isn't there nothing
- * is lent for a target, as nobody could take it; one that wasn't let in comes with what it does. */
-static uint32_t all_wanted(const struct seat *seat)
-{
-    const VbSeat *its = place_of(seat);
-    uint32_t given = smaller(its->ballooned, its->least_target);
-    if (seat->holds && its->granted == 0)
-        return its->wanted;
-    return seat->holds && !seat_is_ready(seat) && given > seat->target ? given : seat->target;
+    VbAim aim = aim_of(seat);
+    VbPace pace = vb_seat_pace(place_of(seat), &aim);
+    if (pace.rises) {
+        aim.passed = (uint64_t)milliseconds;
+        aim.held_kib = host_held(host);
+        aim.needed = places_wait(host) || one_gains(host);
+        pace = vb_seat_pace(place_of(seat), &aim);
+    }
+    if (place_of(seat)->wanted != pace.now)
+        place_wants(seat, pace.now);
 }
 
 void seat_set_target(struct seat *seat, uint32_t pages)
 {
     seat->target = pages;
-    if (!goes_by_steps(seat))
-        place_wants(seat, all_wanted(seat));
+    want(seat, 0);
 }
 
 bool seat_is_behind(const struct seat *seat)
 {
-    return seat_is_taken(seat) && (place_of(seat)->wanted != all_wanted(seat) || !is_told(seat));
+    VbAim aim = aim_of(seat);
+    uint32_t all = vb_seat_pace(place_of(seat), &aim).all;
+    return seat_is_taken(seat) && (place_of(seat)->wanted != all || !is_told(seat));
 }
 
 void seat_step(struct seat *seat, int64_t milliseconds)
 {
-    uint32_t told = seat_told(seat);
-    uint64_t step = UINT64_MAX;
-    if (goes_by_steps(seat))
-        step = (uint64_t)seat_pages(seat) * (uint64_t)milliseconds /
-               (UINT64_C(1000) * seat->host->step);
-    step = step > 0 ? step : 1;
-    if (place_of(seat)->wanted != all_wanted(seat))
-        place_wants(seat, step < seat->target - told ? told + (uint32_t)step : all_wanted(seat));
+    want(seat, milliseconds);
 }
 
 void seat_renew(struct seat *seat)

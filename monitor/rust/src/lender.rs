@@ -7,7 +7,7 @@
 
 use crate::raw::*;
 
-pub use crate::raw::{Message, Reading, Report, Seat, Session};
+pub use crate::raw::{Aim, Message, Pace, Reading, Report, Seat, Session};
 
 /// In which line a deflate waits, as `line` of a [`Report`] has it. Those of an earlier line come
 /// before all of a later one.
@@ -144,6 +144,12 @@ impl Seat {
     pub fn follow(&self, message: &Message, pages: u32, target: u32) -> Report {
         // SAFETY: the pointers are of `&`.
         unsafe { vb_seat_follow(self, message, pages, target) }
+    }
+
+    /// How its target follows what was decided.
+    pub fn pace(&self, aim: &Aim) -> Pace {
+        // SAFETY: the pointers are of `&`.
+        unsafe { vb_seat_pace(self, aim) }
     }
 
     /// The session once that message is noted; to be noted before the message is read.

@@ -1,6 +1,6 @@
 //! A host of 100 frames and two guests, by pencil: vb_host.h over a list of seats.
 
-use vb_balloon::lender::{Ask, Event, Hold, Lender, Line, Message, Reading, Report, Seat, Session};
+use vb_balloon::lender::{Aim, Ask, Event, Hold, Lender, Line, Message, Pace, Reading, Report, Seat, Session};
 
 /// What the process of a guest of these pages reports before it is let in.
 fn coming(pages: u32, ballooned: u32) -> Report {
@@ -89,6 +89,14 @@ fn who_is_not_strict_is_followed() {
     let report = Report { ballooned: 26, target: 20, read_target: 20, outside: 17, ..Report::default() };
     let report = Report { target_number: 1, deflates: 1, ..report };
     assert_eq!(seat.follow(&message, 50, 20), report);
+}
+
+#[test]
+fn a_target_grows_by_its_part_of_a_guest() {
+    let seat = Seat { pages: 60, target: 20, wanted: 20, target_number: 1, granted: 1, ..Seat::default() };
+    let aim = Aim { target: 50, strict: 1, ready: 1, seconds: 4, passed: 1000, ..Aim::default() };
+    assert_eq!(seat.pace(&aim), Pace { all: 50, now: 35, rises: 1, gains: 0 });
+    assert_eq!(seat.pace(&Aim { needed: 1, ..aim }).now, 50);
 }
 
 #[test]

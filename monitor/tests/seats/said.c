@@ -1,5 +1,5 @@
 /* Messages of a process at random, which the library and the plain implementation have to read and
- * note alike. */
+ * note alike, and targets that follow what was decided. */
 #include "guests.h"
 #include <string.h>
 
@@ -46,6 +46,18 @@ static VbMessage any_message(const VbSeat *seat)
     return message;
 }
 
+static bool paces_alike(const VbSeat *seat)
+{
+    VbAim aim = {.target = number_by(seat->target), .strict = chance(3), .ready = chance(2)};
+    aim.seconds = chance(3) ? 1 + chance(3) : number_by(0);
+    aim.needed = chance(4) == 0;
+    aim.frames = number_by(100);
+    aim.held_kib = count_by(4 * (uint64_t)aim.frames);
+    aim.passed = chance(2) ? chance(3000) : count_by(0);
+    VbPace pace = vb_seat_pace(seat, &aim), beside = reference_seat_pace(seat, &aim);
+    return !memcmp(&pace, &beside, sizeof pace);
+}
+
 bool is_read_alike(const VbSeat *seat)
 {
     VbSession session = any_session(seat);
@@ -58,6 +70,6 @@ bool is_read_alike(const VbSeat *seat)
     uint32_t pages = number_by(seat->pages), target = number_by(seat->target);
     VbReport report = vb_seat_follow(seat, &message, pages, target);
     VbReport same = reference_seat_follow(seat, &message, pages, target);
-    return !memcmp(&report, &same, sizeof report) && !memcmp(&noted, &other, sizeof noted) &&
-           !memcmp(&reading, &beside, sizeof reading);
+    return paces_alike(seat) && !memcmp(&report, &same, sizeof report) &&
+           !memcmp(&noted, &other, sizeof noted) && !memcmp(&reading, &beside, sizeof reading);
 }

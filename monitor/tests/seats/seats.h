@@ -12,12 +12,14 @@ void print_seat(size_t place, const VbSeat *seat);
 void expect(bool is_so, const char *what);
 
 /* rows.c: the events of a host with two guests. passing.c: of three of which one comes first, or
- * lets others pass. orders.c: seats of any numbers. messages.c: what a process says. */
+ * lets others pass. orders.c: seats of any numbers. messages.c: what a process says. paces.c: how
+ * a target follows what was decided. */
 void check_rows(void);
 void check_passing(void);
 void check_lines(void);
 void check_orders(void);
 void check_messages(void);
+void check_paces(void);
 void check_targets(void);
 void check_refused(void);
 void check_largest(void);
