@@ -75,7 +75,7 @@ RUN_HOST = """
 sed -i 's/^# budget = 8G/budget = 64M/; s/^mode = 0600/&\\ngroup = bigvasta/' \\
     /etc/bigvasta/host.conf
 systemctl start bigvasta-host
-bigvasta status | grep -q '^budget 64, held 0, lent 0, missing 0 MiB; 0 guests; version '
+bigvasta status | grep -q '^budget 64, held 0, lent 0, missing 0 MiB; tier none; 0 guests; version '
 test "$(bigvasta add web-1)" = /run/bigvasta/web-1
 test -S /run/bigvasta/web-1
 test "$(bigvasta status --names)" = web-1

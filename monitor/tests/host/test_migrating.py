@@ -194,8 +194,12 @@ def test_a_log_that_is_none(migrating, file, size, words):
     with contextlib.suppress(ConnectionResetError, BrokenPipeError):
         client.send(SET_LOG_BASE, struct.pack("<QQ", size, 0), [file()], flags=1)
     lender.become("a", here=0)
-    lender.hear()
-    assert [it for it in lender.said() if it.startswith("refused a:") and words in it]
+
+    def is_named():
+        lender.hear()
+        return [it for it in lender.said() if it.startswith("refused a:") and words in it]
+
+    eventually(is_named, lender.said)
 
 
 def test_a_log_that_is_cut_off_ends_its_client_alone(migrating, tmp_path):
