@@ -259,6 +259,15 @@ void host_run(struct host *host);
 
 /* ---- tables.c */
 
+/* A table that is to be allocated, all zeros: where the pointer to it is, and its elements. */
+struct table {
+    void *at;
+    size_t count, size;
+};
+
+/* Allocates these tables; false where there is no memory. */
+bool tables_make(const struct table tables[], size_t count);
+
 /* How many places of seats this many guests need. */
 size_t places_of(unsigned guests);
 

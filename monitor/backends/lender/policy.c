@@ -3,8 +3,6 @@
 #include "measures.h"
 #include "places.h"
 
-#include <stdlib.h>
-
 enum {
     FREE_MEMORY = 4, /* the tags (VIRTIO 1.1, 5.5.6.3) */
     AVAILABLE_MEMORY = 6,
@@ -27,22 +25,21 @@ static VbPolicyRoom *rooms;
 static struct share *shares;
 static VbSeat *seats_then;
 
-static bool make_guests(struct guests *guests, unsigned count)
-{
-    guests->seats = calloc(count, sizeof(struct seat *));
-    guests->figures = calloc(count, sizeof guests->figures[0]);
-    guests->targets = calloc(count, sizeof guests->targets[0]);
-    return guests->seats && guests->figures && guests->targets;
-}
-
 bool policy_make(unsigned guests)
 {
-    unsigned known = 2 * guests;
-    rooms = calloc(known, sizeof rooms[0]);
-    shares = calloc(known, sizeof shares[0]);
-    seats_then = calloc(places_of(guests), sizeof seats_then[0]);
-    return make_guests(&decided, known) && make_guests(&asked, known) && rooms && shares &&
-           seats_then;
+    const size_t known = 2 * (size_t)guests;
+    const struct table tables[] = {
+        {&decided.seats, known, sizeof decided.seats[0]},
+        {&decided.figures, known, sizeof decided.figures[0]},
+        {&decided.targets, known, sizeof decided.targets[0]},
+        {&asked.seats, known, sizeof asked.seats[0]},
+        {&asked.figures, known, sizeof asked.figures[0]},
+        {&asked.targets, known, sizeof asked.targets[0]},
+        {&rooms, known, sizeof rooms[0]},
+        {&shares, known, sizeof shares[0]},
+        {&seats_then, places_of(guests), sizeof seats_then[0]},
+    };
+    return tables_make(tables, sizeof tables / sizeof tables[0]);
 }
 
 /* Whether its statistics say what it can spare. */

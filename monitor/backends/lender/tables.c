@@ -12,13 +12,26 @@ size_t places_of(unsigned guests)
     return (size_t)guests * PLACES_OF_GUEST + 1;
 }
 
+bool tables_make(const struct table tables[], size_t count)
+{
+    for (size_t i = 0; i < count; i++) {
+        void *made = calloc(tables[i].count, tables[i].size);
+        memcpy(tables[i].at, &made, sizeof made);
+        if (!made)
+            return false;
+    }
+    return true;
+}
+
 bool host_make_tables(struct host *host, unsigned guests)
 {
+    const struct table tables[] = {
+        {&host->places, places_of(guests), sizeof host->places[0]},
+        {&host->seats, guests, sizeof host->seats[0]},
+        {&host->leaving, guests, sizeof host->leaving[0]},
+    };
     host->most = guests;
-    host->places = calloc(places_of(guests), sizeof host->places[0]);
-    host->seats = calloc(guests, sizeof(struct seat *));
-    host->leaving = calloc(guests, sizeof(struct seat *));
-    return (host->places && host->seats && host->leaving &&
+    return (tables_make(tables, sizeof tables / sizeof tables[0]) &&
             journal_make(&host->journal, 2 * guests) && policy_make(guests) &&
             relief_make(places_of(guests)) &&
             loop_reserve(&host->loop, 2 * guests * FILES_OF_SEAT + FILES_OF_REST)) ||
