@@ -78,7 +78,7 @@ HOST = {
         is_count,
         "guests budget overdraft floor held lent missing overdrawn waiting silent uncooperative",
     ),
-    **fields(Maybe(is_count), "patience reserve pressed wanted least_budget"),
+    **fields(Maybe(is_count), "patience reserve pressed migrating wanted least_budget"),
     **fields(Maybe(is_count), "most_budget lowest_budget keep"),
     "short": Maybe(is_flag),
     "differs": Maybe(
@@ -103,6 +103,8 @@ GUEST = {
     **fields(is_seconds, "waits silent process_silent"),
     **fields(is_flag, "answers cooperates"),
     "pressed": Maybe(is_flag),
+    "migration": Maybe(is_text),
+    "migrating": Maybe(is_seconds),
     "statistics": Maybe(are_counts),
     "refused": Maybe(is_refusal),
     **fields(
@@ -150,7 +152,7 @@ ANSWERS = {
 EVENT = {
     "event": is_text,
     "time": is_seconds,
-    **fields(Maybe(is_text), "guest state waits_for reason"),
+    **fields(Maybe(is_text), "guest state waits_for reason migration"),
     "waits": Maybe(is_seconds),
     **fields(Maybe(is_count), "budget missing"),
     "decision": Maybe(DECISION),

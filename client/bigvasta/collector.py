@@ -25,6 +25,7 @@ HOST_COUNTS = (
     ("guests_silent", "silent", "Guests whose statistics don't come"),
     ("guests_uncooperative", "uncooperative", "Guests that took memory back unasked"),
     ("guests_pressed", "pressed", "Guests whose own work waits for memory"),
+    ("guests_migrating", "migrating", "Guests that leave for another host, or come from one"),
 )
 HOST_TOTALS = (
     ("looks", "looks", "Looks at what the guests hold"),
@@ -85,6 +86,16 @@ GUEST_FLAGS = (
         "pressed",
         lambda it: it.get("pressed", False),
         "Whether the guest's own work waits for memory",
+    ),
+    (
+        "leaves",
+        lambda it: it.get("migration") == "outgoing",
+        "Whether the guest leaves for another host, or is saved",
+    ),
+    (
+        "arrives",
+        lambda it: it.get("migration") == "incoming",
+        "Whether the guest comes from another host, or is loaded, and doesn't run yet",
     ),
 )
 # By the guest's own statistics, where it reports them: what there is now, and what there was since

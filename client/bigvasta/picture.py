@@ -4,7 +4,7 @@ same for each terminal."""
 from typing import NamedTuple
 
 from bigvasta.sizes import mebibytes
-from bigvasta.waits import wait_of
+from bigvasta.waits import wait_of, words_of
 
 # Characters of a bar: held and not to spare, held and to spare, lent and not held, neither; and
 # what a target or a budget leaves.
@@ -13,6 +13,9 @@ BLOCKS, PLAIN = "█▒░ │", "#=. |"
 LEAST_WIDTH, NAME_WIDTH, NUMBER_WIDTH = 60, 12, 7
 
 SORTS = ("name", "held", "waits")
+
+# What is counted of the guests, where there are any.
+COUNTS = ("waiting", "silent", "uncooperative", "pressed", "migrating")
 
 # What is shown of each guest in numbers.
 NUMBERS = ("held", "loan", "target", "spare")
@@ -105,7 +108,7 @@ def state_line(host, shown, fault):
     """Returns the line about who waits, or why all that is shown is old."""
     if fault:
         return Line(f"no host answers, and this was its last word: {fault}", "warning")
-    names = [(host.get(it), it) for it in ("waiting", "silent", "uncooperative", "pressed")]
+    names = [(host.get(it), it) for it in COUNTS]
     parts = [
         f"{host['guests']} guests",
         *(f"{count} {name}" for count, name in names if count),
@@ -133,11 +136,9 @@ def numbers_of(guest):
 
 
 def wait_line(guest):
-    """Returns what a guest waits for, or that it is absent."""
-    wait = wait_of(guest)
-    if wait:
-        return Line(wait, "warning")
-    return Line("absent" if guest["state"] == "absent" else "")
+    """Returns what a guest waits for, and whether it migrates; or that it is absent."""
+    words = words_of(guest) or ("absent" if guest["state"] == "absent" else "")
+    return Line(words, "warning" if wait_of(guest) else "plain")
 
 
 def guest_line(guest, scale, width, shown):

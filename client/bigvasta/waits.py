@@ -1,4 +1,4 @@
-"""Who waits for memory, whose work does, and who doesn't behave."""
+"""Who waits for memory, whose work does, who doesn't behave, and who migrates."""
 
 from bigvasta.sizes import mebibytes, seconds
 
@@ -21,3 +21,15 @@ def wait_of(guest):
     if not guest["cooperates"]:
         return "uncooperative"
     return "pressed" if guest.get("pressed") else ""
+
+
+def migration_of(guest):
+    """Returns where a guest migrates, and for how long it has; an older host doesn't say."""
+    if guest.get("migration", "none") == "none":
+        return ""
+    return f"{guest['migration']} migration, {seconds(guest['migrating'])}"
+
+
+def words_of(guest):
+    """Returns what is said of a guest beside its numbers."""
+    return "; ".join(it for it in (wait_of(guest), migration_of(guest)) if it)

@@ -4,7 +4,7 @@ from bigvasta.commands.changes import add_guest_words, how_long
 from bigvasta.sizes import mebibytes
 from bigvasta.subcommands import ask
 from bigvasta.terms import TARGET, TERMS, TERMS_HELP, parse_terms, said
-from bigvasta.waits import wait_of
+from bigvasta.waits import migration_of, wait_of
 
 SIZES = ("memory", "held", "loan", "excess", "target", "ballooned", "free", "available", "spare")
 
@@ -32,6 +32,8 @@ def describe(guest):
         yield f"  {'start':<10} {mebibytes(terms['start']):>8} MiB"
     if wait_of(guest):
         yield f"  waits for  {wait_of(guest)}"
+    if migration_of(guest):
+        yield f"  migrates   {migration_of(guest)}"
     for name, value in guest.get("statistics", {}).items():
         yield f"  {name:<19} {value:>20}"
 

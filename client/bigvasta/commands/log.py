@@ -71,6 +71,7 @@ def event_line(event):
         event.get("state"),
         event.get("waits_for"),
         event.get("reason"),
+        event.get("migration"),
     ]
     if {"for", "bytes"} <= event.keys():
         words.append(refusal(event))

@@ -1,8 +1,9 @@
 """`bigvasta status`: the host and its guests, once."""
 
+from bigvasta.picture import COUNTS
 from bigvasta.sizes import mebibytes
 from bigvasta.subcommands import ask
-from bigvasta.waits import wait_of
+from bigvasta.waits import words_of
 from bigvasta.words import table
 
 COLUMNS = ("guest", "state", "memory", "held", "loan", "target", "balloon", "spare", "waits for")
@@ -13,17 +14,13 @@ def row(guest):
     sizes = (
         mebibytes(guest[it]) for it in ("memory", "held", "loan", "target", "ballooned", "spare")
     )
-    return (guest["name"], guest["state"], *sizes, wait_of(guest))
+    return (guest["name"], guest["state"], *sizes, words_of(guest))
 
 
 def summary(host):
     """Returns the line about the host."""
     parts = [f"{it} {mebibytes(host[it])}" for it in ("budget", "held", "lent", "missing")]
-    counts = [f"{host['guests']} guests"] + [
-        f"{host[it]} {it}"
-        for it in ("waiting", "silent", "uncooperative", "pressed")
-        if host.get(it)
-    ]
+    counts = [f"{host['guests']} guests"] + [f"{host[it]} {it}" for it in COUNTS if host.get(it)]
     tier = f"tier {host['tier']}; " if "tier" in host else ""
     return f"{', '.join(parts)} MiB; {tier}{', '.join(counts)}; version {host['version']}"
 

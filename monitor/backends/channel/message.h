@@ -9,7 +9,7 @@
 #include <sys/types.h>
 
 /* Memory of a guest may end at page MOST_SET, 64 GiB, as its process has a set of its pages. */
-enum { LENDING_VERSION = 1, MOST_WORDS = 256, MOST_SET = 1 << 24 };
+enum { LENDING_VERSION = 1, MOST_WORDS = 256, MOST_VERSION = 32, MOST_SET = 1 << 24 };
 
 enum lending_kind {
     /* Of the lender. */
@@ -31,6 +31,10 @@ enum lending_kind {
 
 /* For what a guest's process waits before it answers its client. */
 enum lending_wait { WAIT_NOTHING, WAIT_ROOM, WAIT_RESET };
+
+/* Whether a guest leaves for another host, or a file, as what its device writes is logged; or comes
+ * from one, until its queues start. */
+enum lending_migration { MIGRATES_NOT, MIGRATES_OUT, MIGRATES_IN };
 
 /* What of a guest waits for its grant: nothing; its deflates and resets, of a process of 0.3.0; and
  * it may start with less than its memory; it has, and its driver hasn't put as much into the
@@ -75,7 +79,13 @@ struct lending_message {
     };
     struct counters counters;
     VbStatistic figures[MOST_TAGS];
-    char words[MOST_WORDS]; /* of a report: the version of the process */
+    union {
+        char words[MOST_WORDS];
+        struct {                        /* of a report */
+            char program[MOST_VERSION]; /* the version of the process */
+            uint32_t migration;         /* enum lending_migration; an older process says 0 */
+        };
+    };
 };
 
 /* The pages outside of its memory's slots by a report; one with terms doesn't say. */

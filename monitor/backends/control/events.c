@@ -26,6 +26,7 @@ struct seen {
     double waits;
     uint64_t ended; /* how many of its waits had ended */
     uint64_t refusals;
+    const char *migration;
     bool cooperates, answers;
     bool here; /* the host still has it */
 };
@@ -120,8 +121,10 @@ static struct seen *seen_or_new(struct control *control, const struct guest_view
     if (seen || !make_room(events))
         return seen;
     seen = &events->seen[events->count++];
-    *seen =
-        (struct seen){.state = GUEST_ABSENT, .waits_for = WAITS_FOR_NOTHING, .cooperates = true};
+    *seen = (struct seen){.state = GUEST_ABSENT,
+                          .waits_for = WAITS_FOR_NOTHING,
+                          .migration = "none",
+                          .cooperates = true};
     snprintf(seen->name, sizeof seen->name, "%s", guest->name);
     tell(control, "added", guest->name);
     return seen;
@@ -179,6 +182,14 @@ static void tell_manners(struct control *control, const struct seen *seen,
         tell(control, guest->answers ? "answers" : "silent", guest->name);
 }
 
+static void tell_migration(struct control *control, const struct seen *seen,
+                           const struct guest_view *guest)
+{
+    if (strcmp(seen->migration, guest->migration) != 0)
+        tell_more(control, "migration", guest->name,
+                  json_pack("{s:s}", "migration", guest->migration));
+}
+
 static void look_at_guest(struct control *control, const struct guest_view *guest, unsigned place)
 {
     struct seen *seen = seen_or_new(control, guest, place);
@@ -191,11 +202,13 @@ static void look_at_guest(struct control *control, const struct guest_view *gues
     tell_state(control, seen, guest);
     tell_wait(control, seen, guest);
     tell_manners(control, seen, guest);
+    tell_migration(control, seen, guest);
     seen->state = guest->state;
     seen->waits_for = guest->waits_for;
     seen->waits = guest->waits;
     seen->ended = guest->ended.number;
     seen->refusals = guest->refusals;
+    seen->migration = guest->migration;
     seen->cooperates = guest->cooperates;
     seen->answers = guest->answers && guest->state != GUEST_ABSENT;
     seen->here = true;

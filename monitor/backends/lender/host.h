@@ -102,7 +102,7 @@ struct seat {
     VbPressure pressure;   /* what its counters said of waits for memory */
     uint32_t target;       /* what was decided; what is wanted so far is in its VbSeat */
     uint32_t by_hand;      /* what an operator wants in its balloon until all is decided again */
-    int64_t waits_since;
+    int64_t waits_since, migrates_since;
     struct ended_wait ended; /* the last of its waits that ended, also those of clients before */
     bool wait_named;         /* it was said that its wait is long */
     bool
@@ -409,6 +409,12 @@ enum guest_wait seat_waits_for(const struct seat *seat);
 /* Follows what a process waits for, by its next report; and ends its wait, if it has one. */
 void seat_waits(struct seat *seat, const struct lending_message *report);
 void seat_ends_wait(struct seat *seat);
+
+/* ---- migrations.c */
+
+/* What a report says of a migration, of one word; and notes what changes by it. */
+const char *migration_word(const struct lending_message *report);
+void seat_migrates(struct seat *seat, const struct lending_message *report);
 
 /* ---- rest.c */
 

@@ -2,8 +2,6 @@
 #include "measures.h"
 #include "places.h"
 
-enum { MOST_VERSION = 32 };
-
 /* What no process of a guest can have: more pages than its memory may have, or a number of held
  * pages that isn't one; NULL: all may be. */
 static const char *number_fault(const struct lending_message *report)
@@ -15,6 +13,8 @@ static const char *number_fault(const struct lending_message *report)
             return "more pages than a guest may have";
     if (report->held_kib / PAGE_KIB > UINT32_MAX)
         return "more memory that it holds than there is";
+    if (report->migration > MIGRATES_IN)
+        return "a migration that isn't one";
     return report->waits > WAIT_RESET ? "a wait that isn't one" : NULL;
 }
 
@@ -155,13 +155,13 @@ static void adopt(struct seat *seat)
 }
 
 /* The version that a process says that it has; empty where it isn't one. */
-static void check_version(char words[MOST_WORDS])
+static void check_version(char version[MOST_VERSION])
 {
     static const char signs[] =
         "abcdefghijklmnopqrstuvwxyzABCDEFGHIJKLMNOPQRSTUVWXYZ0123456789.+~-";
-    size_t length = strlen(words);
-    if (length >= MOST_VERSION || strspn(words, signs) != length)
-        words[0] = 0;
+    size_t length = strnlen(version, MOST_VERSION);
+    if (length == MOST_VERSION || strspn(version, signs) != length)
+        version[0] = 0;
 }
 
 /* The pages for which it waits since this report, as its client brings them: none of those that
@@ -203,8 +203,9 @@ static void take_report(struct seat *seat, const struct lending_message *message
 {
     uint32_t brought = brings(seat, message);
     seat_waits(seat, message);
+    seat_migrates(seat, message);
     seat->report = *message;
-    check_version(seat->report.words);
+    check_version(seat->report.program);
     take_answer(seat, message->number, message->asked != 0);
     if (seat->adopts)
         adopt(seat);

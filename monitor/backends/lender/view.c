@@ -112,6 +112,7 @@ void host_see(const struct host *host, struct host_view *view)
         view->silent += seat_is_ready(seat) && !seat_answers(seat);
         view->uncooperative += !cooperates(seat);
         view->pressed += seat_is_pressed(seat);
+        view->migrating += seat->report.migration != MIGRATES_NOT;
     }
 }
 
@@ -142,7 +143,7 @@ void host_see_guest(const struct host *host, unsigned number, struct guest_view 
     *view = (struct guest_view){.name = seat->name,
                                 .path = seat->path,
                                 .process = seat->serving,
-                                .version = report->words,
+                                .version = report->program,
                                 .state = state_of(seat),
                                 .terms = seat->terms,
                                 .pages = seat_pages(seat),
@@ -166,6 +167,7 @@ void host_see_guest(const struct host *host, unsigned number, struct guest_view 
                                 .figures = report->figures,
                                 .figure_count = report->figure_count,
                                 .waits_for = seat_waits_for(seat),
+                                .migration = migration_word(report),
                                 .ended = seat->ended,
                                 .refused_for = refusal_word(seat->refused_for),
                                 .refused_by = seat->refused_by,
@@ -174,6 +176,8 @@ void host_see_guest(const struct host *host, unsigned number, struct guest_view 
                                 .lost = seat->lost + report->lost};
     if (seat_waits_for(seat) != WAITS_FOR_NOTHING)
         view->waits = seconds_since(seat->waits_since);
+    if (report->migration != MIGRATES_NOT)
+        view->migrating = seconds_since(seat->migrates_since);
     if (seat_is_taken(seat)) {
         view->silent = seconds_since(seat->heard_at);
         view->process_silent = seconds_since(seat->asked_at);

@@ -92,6 +92,8 @@ struct guest_view {
     bool pressed;    /* its own work waits for memory, or did just now */
     enum guest_wait waits_for;
     double waits;            /* seconds, for that */
+    const char *migration;   /* a word: none, outgoing or incoming */
+    double migrating;        /* seconds, as far as this lender knows */
     struct ended_wait ended; /* its last wait that ended */
     const char *refused_for; /* why its last client wasn't admitted: room, memory or start; NULL
                                 once one was */
@@ -131,7 +133,7 @@ struct host_view {
     bool is_short;           /* they couldn't for that long */
     const char *gives_first; /* who had the lowest priority then; NULL: nobody */
     uint64_t overdrawn;      /* frames that are lent above the budget */
-    unsigned waiting, silent, uncooperative, pressed; /* guests */
+    unsigned waiting, silent, uncooperative, pressed, migrating; /* guests */
     bool strict;    /* of a guest that comes without terms of its own */
     int64_t period; /* milliseconds */
     uint64_t looks, above, peak_kib, decisions, changed, shorts, admitted, refused, gone;

@@ -21,6 +21,17 @@ enum lending_hold lent_hold(const struct lent *lent)
     return lent->awaited > 0 ? HAS_STARTED_SMALL : MAY_START_SMALL;
 }
 
+enum lending_migration lent_migration(const struct lent *lent)
+{
+    const struct backend *backend = &lent->backend;
+    enum transfer_state transfer = backend->transfer.state;
+    bool comes = lent->reserved > 0 || backend->moved.awaits || transfer == TRANSFER_LOADS ||
+                 transfer == TRANSFER_READ;
+    if (comes && !rings_run(backend))
+        return MIGRATES_IN;
+    return backend->told.features & LOG_ALL ? MIGRATES_OUT : MIGRATES_NOT;
+}
+
 bool awaited_comes(struct backend *backend, uint32_t pages, uint32_t given)
 {
     struct lent *lent = (struct lent *)backend;

@@ -30,7 +30,8 @@ struct lent {
     uint32_t returns;  /* as many fewer of them are wanted: a deflate of these is held */
     uint32_t outside;  /* pages that may have frames though their slot was removed, as another slot
                          has their file */
-    uint32_t wanted;   /* pages for which it waits, and for what */
+    uint32_t migration; /* as the last report has it: enum lending_migration */
+    uint32_t wanted;    /* pages for which it waits, and for what */
     enum lending_wait waits;
     int answered; /* 1: they may be had; -1: they may not; 0: it waits */
 };
@@ -52,8 +53,13 @@ int lent_run(const struct options *options, struct kept *kept);
 uint32_t lent_ballooned(const struct lent *lent);
 enum lending_hold lent_hold(const struct lent *lent);
 
+/* Whether its guest migrates, by what its client has told: one that comes has said so, or brings a
+ * device that hasn't begun. */
+enum lending_migration lent_migration(const struct lent *lent);
+
 /* A guest of `pages` pages comes from another host, with `given` of them given up: its process
- * waits for room for the others; false where there is none. */
+ * waits for room for the others, or for all where it holds nothing back; false where there is
+ * none. */
 bool awaited_comes(struct backend *backend, uint32_t pages, uint32_t given);
 
 /* It starts, or restarts, while these count in its balloon; whether it does: added memory has

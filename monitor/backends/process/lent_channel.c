@@ -85,10 +85,12 @@ void lent_report(struct lent *lent, uint64_t number, bool asked)
                                       .ballooned_then = lent->notes.ballooned_then,
                                       .taken_since = lent->notes.taken_since,
                                       .counters = backend->counters,
-                                      .figure_count = backend->figure_count};
+                                      .figure_count = backend->figure_count,
+                                      .migration = lent_migration(lent)};
     message.outside = lent_outside(lent);
     memcpy(message.figures, backend->figures, sizeof message.figures);
-    strcpy(message.words, VB_VERSION);
+    strcpy(message.program, VB_VERSION);
+    lent->migration = message.migration;
     if (lent->waits == WAIT_NOTHING)
         kept_save(lent);
     send_to_lender(lent, &message);
@@ -124,7 +126,8 @@ bool lent_note(struct lent *lent)
         lent->notes.held_pages = 0, lent->news = true; /* its queue was stopped */
     lent->news |= backend->options->holds && backend->ballooned != lent->notes.ballooned_before;
     lent->notes.ballooned_before = backend->ballooned;
-    lent->news |= heard || taken || ready != lent->notes.ready_then;
+    lent->news |= heard || taken || ready != lent->notes.ready_then ||
+                  lent_migration(lent) != lent->migration;
     lent->notes.heard = counters->statistics;
     lent->notes.taken = counters->taken;
     lent->notes.ready_then = ready;

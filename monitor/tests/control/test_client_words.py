@@ -8,7 +8,7 @@ from bigvasta.commands import log
 from bigvasta.picture import PLAIN, Shown
 from bigvasta.sizes import mebibytes, parse_size, seconds
 from bigvasta.statuses import Usage
-from bigvasta.waits import wait_of
+from bigvasta.waits import wait_of, words_of
 from test_client import MIB
 
 
@@ -130,7 +130,25 @@ WAITS = (
 
 @pytest.mark.parametrize("fields, said", WAITS)
 def test_who_waits(fields, said):
-    assert wait_of(guest(**fields)) == said
+    assert wait_of(guest(**fields)) == words_of(guest(**fields)) == said
+
+
+# Who migrates is told beside that; an older host doesn't say.
+MIGRATIONS = (
+    ({"migration": "none", "migrating": 0}, "", "plain"),
+    ({"migration": "outgoing", "migrating": 3.21}, "outgoing migration, 3.2 s", "plain"),
+    (
+        {"migration": "incoming", "migrating": 120, "waits_for": "room", "waits": 2},
+        "room, 2.0 s; incoming migration, 2 min",
+        "warning",
+    ),
+)
+
+
+@pytest.mark.parametrize("fields, said, kind", MIGRATIONS)
+def test_who_migrates(fields, said, kind):
+    its = guest(**fields)
+    assert words_of(its) == said and picture.wait_line(its) == picture.Line(said, kind)
 
 
 def a_status(guests, **host):

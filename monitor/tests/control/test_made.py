@@ -57,7 +57,7 @@ TERMS = {
 COUNTERS_IN_PAGES = "granted inflated deflated reported taken discarded skipped"
 COUNTERS = "limit_failures statistics told chains kicks clients lost refusals"
 GUEST = {
-    **rows("text", "name path=socket version"),
+    **rows("text", "name path=socket version migration"),
     **rows("count", "process"),
     **rows("word", "state waits_for"),
     **rows("kib", "held_kib=held"),
@@ -65,13 +65,13 @@ GUEST = {
         "pages", "pages=memory loan excess asked limit target ballooned actual free available spare"
     ),
     **rows("flag", "answers reports cooperates pressed"),
-    **rows("seconds", "waits silent process_silent"),
+    **rows("seconds", "waits silent process_silent migrating"),
     **rows("pages", " ".join(f"{it}=counters.{it}" for it in COUNTERS_IN_PAGES.split())),
     **rows("count", " ".join(f"{it}=counters.{it}" for it in COUNTERS.split())),
 }
 HOST = {
     **rows("text", "folder on_short gives_first tier"),
-    **rows("count", "guests reserve step waiting silent uncooperative pressed patience"),
+    **rows("count", "guests reserve step waiting silent uncooperative pressed patience migrating"),
     **rows("pages", "budget most_budget lowest_budget keep overdraft floor lent short_by=missing"),
     **rows("pages", "wanted least_budget overdrawn"),
     **rows("kib", "held_kib=held peak_kib=counters.peak"),
@@ -263,6 +263,8 @@ def test_each_field_of_an_event(made, host):
     its = made[0].hosts[1]
     short = {"event": "short", "guest": its["gives_first"], "missing": its["short_by"] * PAGE}
     wanted = [{"event": "budget", "budget": budget}, {"event": "enough"}, short]
+    words = [it["migration"] for it in made[0].guests[1]]
+    about = [(*its, {"event": "migration", "migration": it}) for its, it in zip(about, words)]
     wanted += [
         its | {"guest": f"guest-{number}"} for number, events in enumerate(about) for its in events
     ]
@@ -299,6 +301,7 @@ METRICS = {
     "guests_silent": "silent",
     "guests_uncooperative": "uncooperative",
     "guests_pressed": "pressed",
+    "guests_migrating": "migrating",
     "looks_total": "counters.looks",
     "looks_above_budget_total": "counters.above",
     "decisions_total": "counters.decisions",
@@ -407,6 +410,7 @@ def metrics_of(host, guests):
             if place in guest["statistics"]
         }
         flags = {"ready": guest["state"] == "ready", "is_waiting": guest["waits_for"] != "nothing"}
+        flags |= {"leaves": 0, "arrives": 0}  # its made word is neither
         wanted |= {f"bigvasta_guest_{name}{label}": it for name, it in flags.items()}
         wanted[
             f'bigvasta_guest_process_info{{guest="{guest["name"]}",version="{guest["version"]}"}}'
@@ -492,7 +496,7 @@ def test_each_column_and_each_line(made, host):
     sums = {it: mebibytes(its[it]) for it in ("budget", "held", "lent", "missing")}
     assert its["most_budget"] > its["budget"], "the made budget follows no machine"
     counts = ", ".join(
-        f"{its[it]} {it}" for it in ("waiting", "silent", "uncooperative", "pressed")
+        f"{its[it]} {it}" for it in ("waiting", "silent", "uncooperative", "pressed", "migrating")
     )
     head, columns, *rest = bigvasta(host.control, "status").stdout.splitlines()
     assert (

@@ -6,6 +6,7 @@ import struct
 from hosts import FREE_MEMORY, Answering
 from test_waits import GIVEN, GUEST, Coming
 from vhost_client import BUFFERS, DEFLATE, INFLATE, PAGE, STATISTICS
+from vhost_logs import set_logging
 from waiting import eventually
 
 # The tag of processes that were killed for lack of memory (Linux 6.12), which presses a guest for
@@ -19,6 +20,7 @@ COUNTS = {
     "silent": lambda it: it["state"] == "ready" and not it["answers"],
     "uncooperative": lambda it: not it["cooperates"],
     "pressed": lambda it: it["pressed"],
+    "migrating": lambda it: it["migration"] != "none",
     "held": lambda it: it["held"],
     "lent": lambda it: it["loan"],
 }
@@ -61,6 +63,7 @@ def come_all(host, arrive):
     taker, silent = arrive("taker"), arrive("silent")
     host.ask("add", name="kills")
     kills = Killing(host, "kills")
+    set_logging(kills.client, True)
     eventually(lambda: all(it["answers"] for it in host.ask("status")["guests"]))
     eventually(lambda: takes_back(host, taker.client))
     silent.stop()

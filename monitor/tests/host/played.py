@@ -17,6 +17,7 @@ PAGES_PER_KIB = 4
 VERSION, ORDER_LOOK, ORDER_TARGET, ORDER_GRANT, ORDER_LEAVE = 1, 1, 3, 7, 8
 TELL_REPORT, TELL_REFUSED, TELL_REMARK, TELL_GONE, WAIT_ROOM, WAIT_RESET = 9, 10, 11, 12, 1, 2
 COUNTERS, FIGURES, WORDS = 19, 16, 256
+MIGRATION_AT = 32  # among the words of a report, after its process's version
 NUMBERS = (
     "pages",
     "wanted",
@@ -67,6 +68,16 @@ class Message(ctypes.Structure):
     @outside.setter
     def outside(self, pages):
         self.least = pages
+
+    @property
+    def migration(self):
+        """Whether its guest migrates: after the version, in a report."""
+        return bytes(self)[Message.words.offset + MIGRATION_AT]
+
+    @migration.setter
+    def migration(self, number):
+        at = ctypes.addressof(self) + Message.words.offset + MIGRATION_AT
+        ctypes.memmove(at, number.to_bytes(4, "little"), 4)
 
 
 class Listens:

@@ -29,6 +29,10 @@ LIES = {
     "holds": ({"holds": 0}, "that its deflates don't wait"),
     "held": ({"held_kib": (1 << 64) - 4096}, "more memory that it holds than there is"),
     "waits": ({"waits": 3, "wait": 1}, "a wait that isn't one"),
+    **{
+        f"migration {it}": ({"migration": it}, "a migration that isn't one")
+        for it in (3, 256, HUGE)
+    },
     "wanted": ({"waits": WAIT_ROOM, "wait": 1, "wanted": MOST_PAGES + 1}, TOO_MANY),
     **{
         it: ({it: HUGE}, TOO_MANY)
