@@ -91,12 +91,16 @@ bool transfer_load(struct backend *backend, int file)
     return begin(backend, file, TRANSFER_LOADS);
 }
 
+void transfer_read_on(struct backend *backend)
+{
+    while (backend->transfer.state == TRANSFER_LOADS && read_on(backend))
+        continue;
+}
+
 /* The client has read all, or written all, before it asks: what is missing doesn't come. */
 bool transfer_ends(struct backend *backend)
 {
     struct transfer *transfer = &backend->transfer;
-    while (transfer->state == TRANSFER_LOADS && read_on(backend))
-        ;
     enum transfer_state state = transfer->state;
     if (state == TRANSFER_NONE)
         remark(backend, "there is no state of a device");

@@ -34,6 +34,9 @@ static inline bool transfer_has_file(const struct transfer *transfer)
 bool transfer_save(struct backend *backend, int file);
 bool transfer_load(struct backend *backend, int file);
 
+/* Reads what has come of a device that is loaded. */
+void transfer_read_on(struct backend *backend);
+
 /* Whether what was begun has ended well: the device is saved whole, or the pipe has ended and what
  * came by it is loaded; else it is said why not. There is no transfer after that. */
 bool transfer_ends(struct backend *backend);

@@ -75,6 +75,7 @@ enum outcome set_device_state_fd(struct backend *backend, struct message *messag
 /* What has come through the pipe is kept before the reply: it comes once. */
 enum outcome check_device_state(struct backend *backend, struct message *message)
 {
+    transfer_read_on(backend);
     if (backend->keep)
         backend->keep(backend);
     return answer_u64(backend, message, !transfer_ends(backend));
