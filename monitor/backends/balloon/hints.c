@@ -42,9 +42,10 @@ bool hints_line(struct backend *backend, const char *line)
 void hints_go_on(struct backend *backend, VbBalloon before)
 {
     VbSettings settings = backend->balloon.state.device.settings;
+    const VbRegion memory = {.length = settings.memory_end};
     uint32_t then;
     settings.memory_end = before.device.settings.memory_end;
     if (memcmp(&settings, &before.device.settings, sizeof settings) == 0 &&
-        vb_set_status(&before, 0, &then) == 0)
+        vb_set_status(&before, 0, &then) == 0 && vb_set_regions(&before, &memory, 1) == VB_OK)
         backend->balloon.state = before;
 }

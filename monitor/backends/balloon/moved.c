@@ -17,7 +17,8 @@ enum {
 };
 enum { GOES_ON = 1 };
 
-static const char name[8] = "VBMOVED";
+static const char name[8] = "VBMOVED", no_memory[] = "has pages in the balloon that aren't memory",
+                  too_few[] = "has fewer pages in its balloon than it was to come with";
 
 static uint32_t get_u32(const uint8_t *bytes, unsigned at)
 {
@@ -47,11 +48,25 @@ static uint16_t index_of(const struct backend *backend)
     return ring ? (uint16_t)ring->base : 0;
 }
 
-size_t moved_save(const struct backend *backend, uint8_t bytes[MOST_MOVED])
+/* What is saved of the balloon, and its set: of a device that was loaded and hasn't begun since, as
+ * it was loaded. */
+static struct moved moved_of(const struct backend *backend, const uint64_t **set)
 {
     const struct balloon *balloon = &backend->balloon;
-    size_t words = balloon->ballooned ? balloon->ballooned_words : 0;
-    size_t length = MOVED_HEAD + words * sizeof(uint64_t);
+    bool has_set = balloon->ballooned && !backend->moved.awaits;
+    *set = has_set ? balloon->ballooned : backend->room->set;
+    if (backend->moved.awaits)
+        return backend->moved;
+    return (struct moved){.awaits = backend->told.goes_on,
+                          .index = index_of(backend),
+                          .words = has_set ? (uint32_t)balloon->ballooned_words : 0};
+}
+
+size_t moved_save(const struct backend *backend, uint8_t bytes[MOST_MOVED])
+{
+    const uint64_t *set;
+    const struct moved moved = moved_of(backend, &set);
+    size_t length = MOVED_HEAD + moved.words * sizeof *set;
     uint32_t code = state_bytes(backend, bytes + STATE_AT);
     if (code != VB_OK)
         return refuse("the device can't be saved: %s", answer_words(code)), 0;
@@ -59,11 +74,10 @@ size_t moved_save(const struct backend *backend, uint8_t bytes[MOST_MOVED])
     memcpy(bytes + NAME_AT, name, sizeof name);
     put_u32(bytes, VERSION_AT, MOVED_VERSION);
     put_u32(bytes, LENGTH_AT, (uint32_t)(length + MOVED_SUM));
-    put_u32(bytes, FLAGS_AT, backend->told.goes_on ? GOES_ON : 0);
-    put_u32(bytes, INDEX_AT, index_of(backend));
-    put_u32(bytes, WORDS_AT, (uint32_t)words);
-    if (words > 0)
-        memcpy(bytes + MOVED_HEAD, balloon->ballooned, words * sizeof(uint64_t));
+    put_u32(bytes, FLAGS_AT, moved.awaits ? GOES_ON : 0);
+    put_u32(bytes, INDEX_AT, moved.index);
+    put_u32(bytes, WORDS_AT, moved.words);
+    memcpy(bytes + MOVED_HEAD, set, moved.words * sizeof *set);
     uint64_t sum = sum_of(bytes, length);
     memcpy(bytes + length, &sum, sizeof sum);
     return length + MOVED_SUM;
@@ -113,6 +127,27 @@ static uint64_t count_set(const uint8_t *set, uint32_t words)
     return pages;
 }
 
+/* What a device that is loaded says, beside its saved state. */
+static struct moved read_moved(const VbDevice *device, const uint8_t *bytes)
+{
+    return (struct moved){.awaits = get_u32(bytes, FLAGS_AT) & GOES_ON,
+                          .index = (uint16_t)get_u32(bytes, INDEX_AT),
+                          .memory_end = device->settings.memory_end,
+                          .actual = device->actual,
+                          .words = get_u32(bytes, WORDS_AT)};
+}
+
+/* Why there is no such balloon, or none of a guest that comes with `given` pages given up; NULL
+ * where there may be. */
+static const char *fault_of_balloon(const struct moved *moved, const uint8_t *set, uint32_t given)
+{
+    if (moved->memory_end % BALLOON_PAGE != 0)
+        return "has memory that isn't whole pages";
+    if (!is_within(moved, set))
+        return no_memory;
+    return count_set(set, moved->words) < given ? too_few : NULL;
+}
+
 bool moved_load(struct backend *backend, const uint8_t *bytes, size_t length)
 {
     struct moved moved = {0};
@@ -121,16 +156,9 @@ bool moved_load(struct backend *backend, const uint8_t *bytes, size_t length)
     if (!fault && vb_restore(&before.device, &before.held, bytes + STATE_AT, VB_STATE_BYTES))
         fault = "has no saved state of a device";
     if (!fault) {
-        moved.awaits = get_u32(bytes, FLAGS_AT) & GOES_ON;
-        moved.index = (uint16_t)get_u32(bytes, INDEX_AT);
-        moved.words = get_u32(bytes, WORDS_AT);
-        moved.memory_end = before.device.settings.memory_end;
-        moved.actual = before.device.actual;
-        if (!is_within(&moved, bytes + MOVED_HEAD))
-            fault = "has pages in the balloon that aren't memory";
+        moved = read_moved(&before.device, bytes);
+        fault = fault_of_balloon(&moved, bytes + MOVED_HEAD, backend->comes_with);
     }
-    if (!fault && count_set(bytes + MOVED_HEAD, moved.words) < backend->comes_with)
-        fault = "has fewer pages in its balloon than it was to come with";
     if (fault) {
         remark(backend, "the device that is to be loaded %s", fault);
         return false;
@@ -160,20 +188,40 @@ static void discard_set(struct backend *backend)
     }
 }
 
-/* The pages of the set are the balloon's, where this process keeps a set. They are its driver's as
- * soon as that likes unless it tells the host before. */
-static void take_set(struct backend *backend)
+/* Takes the pages from `first` to before `end` of one set into another. */
+static void take_pages(uint64_t *set, const uint64_t *other, uint64_t first, uint64_t end)
+{
+    while (first < end) {
+        uint64_t room = WORD_BITS - first % WORD_BITS,
+                 here = room < end - first ? room : end - first;
+        uint64_t mask = UINT64_MAX >> (WORD_BITS - here) << first % WORD_BITS;
+        set[first / WORD_BITS] |= other[first / WORD_BITS] & mask;
+        first += here;
+    }
+}
+
+/* The pages of the set are the balloon's, where this process keeps a set; false where some aren't
+ * memory. They are its driver's as soon as that likes unless it tells the host before. */
+static bool take_set(struct backend *backend)
 {
     struct balloon *balloon = &backend->balloon;
     const struct moved *moved = &backend->moved;
+    const uint64_t *set = backend->room->set;
+    size_t bytes = moved->words * sizeof *set;
     bool tells = features_of_device(backend->told.features) & MUST_TELL_HOST;
     if (!balloon->ballooned || balloon->ballooned_words != moved->words)
-        return;
-    memcpy(balloon->ballooned, backend->room->set, moved->words * sizeof balloon->ballooned[0]);
+        return true;
+    memset(balloon->ballooned, 0, bytes);
+    for (unsigned i = 0; i < backend->memory.count; i++) {
+        const struct balloon_region *region = &backend->memory.regions[i];
+        uint64_t first = region->guest / BALLOON_PAGE;
+        take_pages(balloon->ballooned, set, first, first + region->length / BALLOON_PAGE);
+    }
     backend->ballooned = (uint32_t)vb_count_ballooned(balloon->ballooned, moved->words);
     backend->undiscarded = 0;
-    if (tells && moved->index > 0 && !balloon->keeps_pages)
+    if (tells && !balloon->keeps_pages)
         discard_set(backend);
+    return memcmp(balloon->ballooned, set, bytes) == 0;
 }
 
 bool moved_begin(struct backend *backend)
@@ -185,7 +233,10 @@ bool moved_begin(struct backend *backend)
                       (unsigned long long)moved->memory_end,
                       (unsigned long long)device->settings.memory_end);
     configuration_write(device, ACTUAL_AT, moved->actual);
-    take_set(backend);
+    if (!take_set(backend))
+        return refuse("the device that was loaded %s", no_memory);
+    if (backend->ballooned < backend->comes_with)
+        return refuse("the device that was loaded %s", too_few);
     backend->comes_with = 0;
     return true;
 }

@@ -44,9 +44,9 @@ bool ring_describes(const struct backend *backend, uint32_t kind, uint64_t guest
 }
 
 /* Whether the balloon may be empty from now on. */
-static bool may_empty(struct backend *backend)
+static bool may_empty(struct backend *backend, bool is_empty)
 {
-    return backend->ballooned == 0 || !backend->balloon.ballooned || !backend->empties ||
+    return is_empty || !backend->balloon.ballooned || !backend->empties ||
            backend->empties(backend);
 }
 
@@ -55,7 +55,7 @@ static bool may_empty(struct backend *backend)
 static bool write_status(struct backend *backend, uint8_t status, uint32_t kind)
 {
     struct balloon_result result;
-    if (status == 0 && !may_empty(backend))
+    if (status == 0 && !may_empty(backend, backend->ballooned == 0))
         return false;
     uint32_t answer = balloon_write_status(&backend->balloon, status, &result);
     if (answer != 0)
@@ -160,19 +160,22 @@ static bool find_start(struct backend *backend, unsigned number, VbQueueStart *a
 
 /* The queue of inflates restarts: at 0 a new life begins, with nothing in the balloon; else the
  * last one continues. Where a device was loaded that says at which index it continues, so does its
- * driver at that one, and at another one a new life begins. */
+ * driver at that one, and at another one a new life begins; and where none was, of a guest that was
+ * to come with its balloon. */
 static bool begin_life(struct backend *backend, uint16_t position)
 {
     struct balloon *balloon = &backend->balloon;
     bool is_loaded = backend->moved.awaits;
-    bool goes_on = is_loaded ? position == backend->moved.index : position > 0;
-    if (!backend->told.goes_on)
+    bool is_awaited = backend->comes_with > 0;
+    bool goes_on = is_loaded ? position == backend->moved.index : position > 0 && !is_awaited;
+    if (!backend->told.goes_on && !is_awaited)
         return true;
-    if (!goes_on && !may_empty(backend))
+    if (!goes_on && !may_empty(backend, backend->ballooned == 0 && !is_awaited))
         return false;
     backend->told.goes_on = backend->moved.awaits = false;
     if (goes_on && is_loaded)
         return moved_begin(backend);
+    backend->comes_with = 0;
     if (goes_on)
         configuration_write(&balloon->state.device, ACTUAL_AT, backend->told.actual);
     else if (balloon->ballooned)

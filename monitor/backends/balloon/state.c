@@ -61,10 +61,13 @@ bool state_load(struct backend *backend)
 
 uint32_t state_bytes(const struct backend *backend, uint8_t bytes[VB_STATE_BYTES])
 {
-    VbDevice device = backend->balloon.state.device;
+    VbBalloon its = backend->balloon.state;
+    const VbRegion loaded = {.length = backend->moved.memory_end};
     if (backend->told.goes_on)
-        configuration_write(&device, ACTUAL_AT, backend->told.actual);
-    return vb_save(&device, backend->balloon.state.held, bytes, VB_STATE_BYTES);
+        configuration_write(&its.device, ACTUAL_AT, backend->told.actual);
+    if (backend->moved.awaits && vb_set_regions(&its, &loaded, 1) != VB_OK)
+        return VB_BAD_ARGUMENT;
+    return vb_save(&its.device, its.held, bytes, VB_STATE_BYTES);
 }
 
 /* Has the disk keep what a file or a folder has, and closes that; false where it can't, with

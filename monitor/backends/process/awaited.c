@@ -36,7 +36,7 @@ bool awaited_comes(struct backend *backend, uint32_t pages, uint32_t given)
 {
     struct lent *lent = (struct lent *)backend;
     lent->reserved = pages;
-    lent->awaited = given;
+    lent->awaited = backend->options->holds ? given : 0;
     if (pages == 0 || !lent_await(lent, WAIT_ROOM, pages))
         return false;
     lent->notes.pages = pages;

@@ -3,16 +3,17 @@ pages."""
 
 import contextlib
 import os
+import struct
 
 import pytest
 from bigvasta.connection import Connection
 from moving import ALL, EACH_WAY, WAYS, continues, with_pages
 from tenants import FREE, eventually, read_target
-from test_strict import GIVEN, lent
+from test_strict import GIVEN, Later, lent
 from vhost_client import DEFLATE, FEATURES, HAS_PROTOCOL, INFLATE, PAGE, SET_FEATURES
 from vhost_demands import demand_served, word
 from vhost_logs import log_base, log_file, set_logging
-from vhost_moves import FINE, WRONG, comes, load, saved, stopped
+from vhost_moves import FINE, HEAD, PROTOCOL, WRONG, comes, edited, load, saved, stopped
 
 # Pages in the balloon of a guest that comes from another host.
 GIVEN_UP = 88
@@ -80,6 +81,29 @@ def test_there_is_no_room_for_who_comes(moving, crowded):
     source.become("a", ready=1, ballooned=GIVEN_UP, lent=ALL - GIVEN_UP)
 
 
+def test_who_is_not_strict_comes_with_all_of_its_memory(crowded, lend):
+    """Whatever it says: its deflates don't wait, so nothing of it counts as given up."""
+    lender, other = crowded(ALL - 1)
+    lender.demand("terms a strict=0")
+    other.socket.close()
+    lender.become("a", here=0)
+    other.connect()
+    other.begin(PROTOCOL)
+    with contextlib.suppress(ConnectionResetError):
+        assert comes(other, GIVEN_UP, ALL) is None
+    lender.become("a", here=0, lent=0)
+    lender.hear()
+    assert "refused a: no room for 512K: 4K are missing" in lender.said()
+    lender.set_budget(2 * ALL)
+    other.connect()
+    other.begin(PROTOCOL)
+    assert comes(other, GIVEN_UP, ALL) == FINE
+    lender.become("a", lent=ALL, ballooned=0)
+    other.add_memory()
+    lender.become("a", lent=ALL, ballooned=0, pages=ALL)
+    assert lent(lender) == 2 * ALL
+
+
 @pytest.mark.parametrize("given, pages", ((ALL + 1, ALL), (0, 0), (2**32 - 1, 2**32 - 2)))
 def test_who_comes_with_what_cannot_be(crowded, given, pages):
     lender, other = crowded(ALL)
@@ -108,6 +132,52 @@ def test_who_comes_with_all_of_its_memory_in_its_balloon_is_answered(crowded):
     lender.become("a", pages=ALL, lent=1, waits="nothing")
 
 
+@pytest.mark.parametrize("is_loaded", (False, True), ids=("no device", "its device"))
+def test_who_comes_and_starts_from_scratch_waits_for_all(moving, crowded, is_loaded):
+    """No more comes than is lent, though it said that it comes with its balloon."""
+    _, _, _, data = moving
+    lender, other = crowded(ALL - GIVEN_UP)
+    assert comes(other, GIVEN_UP, ALL) == FINE
+    lender.become("a", lent=ALL - GIVEN_UP, ballooned=GIVEN_UP)
+    if is_loaded:
+        assert load(other, data)
+    other.negotiate(protocol=PROTOCOL)
+    other.add_memory()
+    starts = Later(other.go_on)
+    lender.become("a", waits="reset", lent=ALL - GIVEN_UP, ballooned=GIVEN_UP)
+    assert starts.waits() and lent(lender) == ALL + ALL - GIVEN_UP
+    lender.set_budget(2 * ALL)
+    starts.ends()
+    lender.become("a", ready=1, lent=ALL, ballooned=0, waits="nothing", cooperates=1)
+
+
+def test_who_says_again_what_it_comes_with(moving, crowded):
+    """The last word counts, also of a device that has come before it."""
+    _, client, bases, data = moving
+    lender, other = crowded(ALL)
+    assert comes(other, GIVEN_UP, ALL) == FINE and load(other, data)
+    assert comes(other, GIVEN_UP + 1, ALL) == FINE
+    with contextlib.suppress(ConnectionResetError, BrokenPipeError, TypeError, AssertionError):
+        continues(other, client, bases)
+    lender.become("a", here=0, lent=0)
+    lender.hear()
+    assert any("has fewer pages in its balloon than it was" in it for it in lender.said())
+
+
+def test_what_is_no_memory_is_not_in_a_balloon(moving, crowded):
+    """A device whose balloon has as many pages as were said, which the guest doesn't have."""
+    _, client, bases, data = moving
+    lender, other = crowded(ALL - GIVEN_UP)
+    assert comes(other, GIVEN_UP, ALL) == FINE
+    low = struct.pack("<7Q", 2**64 - 1, 2 ** (GIVEN_UP - 64) - 1, *5 * [0])
+    assert load(other, edited(data, HEAD, low))
+    with contextlib.suppress(ConnectionError, TypeError, AssertionError):
+        continues(other, client, bases)
+    lender.become("a", here=0, lent=0)
+    lender.hear()
+    assert any("has pages in the balloon that aren't memory" in it for it in lender.said())
+
+
 def test_who_comes_and_goes_gives_all_back(crowded):
     lender, other = crowded(ALL)
     assert comes(other, GIVEN_UP, ALL) == FINE
@@ -126,6 +196,7 @@ def test_a_start_is_not_for_who_comes_from_another_host(migrating, moving, limit
         control.ask("guest", name="a", **terms)
     assert comes(other, GIVEN_UP, ALL) == FINE
     lender.become("a", lent=ALL - GIVEN_UP, ballooned=GIVEN_UP)
+    lender.set_budget(ALL - GIVEN_UP)
     assert load(other, data)
     continues(other, client, bases)
     lender.become("a", lent=ALL - GIVEN_UP, ready=1)

@@ -213,6 +213,23 @@ def test_a_guest_that_is_not_strict_has_no_more_outside_than_it_lost(lend):
     a.leave()
 
 
+def test_who_is_not_strict_comes_without_nothing_by_what_a_process_says(lend):
+    """It is let in where there is room for all of its memory."""
+    lender = lend(1, *STRICT)
+    lender.set_budget(ALL - 1)
+    lender.demand("add a strict=0")
+    keep_pages(lender, f"terms 0 {HUGE} 1 0 0 {HUGE} {HUGE} {HUGE} 1 0 none")
+    listens = Listens(lender.folder, "a")
+    later = lend(1, *STRICT, folder=lender.folder)
+    later.set_budget(ALL - 1)
+    a = Played(later, "a", listens=listens, holds=0, ballooned=ALL, held_kib=0)
+    a.report(waits=WAIT_ROOM, wait=1, wanted=ALL)
+    words = "refused a: no room for 512K: 4K are missing"
+    eventually(lambda: later.hear() or words in later.said(), later.said)
+    assert lent(later) == 0
+    a.leave()
+
+
 # What an earlier lender's process has beside the pages that were kept.
 MORE = {
     "pages": {"pages": ALL + 1},

@@ -97,6 +97,7 @@ def test_a_balloon_continues_on_another_host(migrating, lend, way):
     assert read_target(other)[12:16] == bytes(4)
     go_on(lender.process.pid)
     lender = WAYS[way](lender, lend)
+    assert load(other, saved(other))  # once more, as a guest that stays paused migrates twice
     continues(other, client, bases)
     lender.become("a", ready=1, ballooned=40, pages=ALL, cooperates=1)
     assert [it for it in other.holes() if it in GIVEN] == GIVEN[:40]

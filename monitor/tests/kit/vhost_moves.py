@@ -37,6 +37,12 @@ def sum_of(data):
     return struct.pack("<Q", number)
 
 
+def edited(data, at, new):
+    """Returns a device's bytes with others in place of some, and the right sum."""
+    body = data[:at] + new + data[at + len(new) : -SUM]
+    return body + sum_of(body)
+
+
 def comes(client, given, pages):
     """Says that a client's guest of `pages` pages comes from another host, with `given` of them
     given up; returns the answer."""

@@ -1,6 +1,7 @@
 """Tests of pipes and states of a device that are none: each is refused by name, and harms nobody
 else."""
 
+import contextlib
 import fcntl
 import os
 import struct
@@ -12,9 +13,10 @@ from vhost_client import (
     INFLATE,
     PAGE,
     PAGES_OF_REGION,
+    REGIONS,
     STATE_BYTES,
 )
-from vhost_demands import FIRST, demand_served
+from vhost_demands import FIRST, demand_refused, demand_served
 from vhost_moves import (
     BADLY,
     HEAD,
@@ -25,7 +27,9 @@ from vhost_moves import (
     WELL,
     WRONG,
     ask,
+    edited,
     load,
+    moved_memory,
     saved,
     stopped,
     sum_of,
@@ -60,12 +64,6 @@ def test_queues_that_start_before_the_state_has_come(ready):
     demand_served(client, INFLATE, [FIRST + 1])
 
 
-def edited(data, at, new):
-    """Returns a device's bytes with others in place of some, and the right sum."""
-    body = data[:at] + new + data[at + len(new) : -SUM]
-    return body + sum_of(body)
-
-
 def wrong_states(data):
     """Returns states that are none, and what is said of each."""
     whole = (
@@ -89,6 +87,7 @@ def wrong_states(data):
         *whole,
         *((edited(data, at, struct.pack("<I", it)), said) for at, it, said in words),
         (edited(data, 32, b"X"), "no saved state"),
+        (with_end(data, 447.5, 0), "isn't whole pages"),
         (edited(longer, 24, struct.pack("<I", 8)), "aren't memory"),
     )
 
@@ -118,7 +117,7 @@ END_AT, STATE_SUM_AT, WORD = HEAD - STATE_BYTES + 16, HEAD - SUM, 64
 def with_end(data, pages, word):
     """Returns a device's bytes whose memory ends after these pages, with this last word of the set
     in place of its own."""
-    data = data[:END_AT] + struct.pack("<Q", pages * PAGE) + data[END_AT + 8 :]
+    data = data[:END_AT] + struct.pack("<Q", int(pages * PAGE)) + data[END_AT + 8 :]
     data = data[:STATE_SUM_AT] + sum_of(data[HEAD - STATE_BYTES : STATE_SUM_AT]) + data[HEAD:]
     return edited(data, len(data) - SUM - 8, struct.pack("<Q", word))
 
@@ -141,6 +140,27 @@ def test_states_at_their_bounds(ready, serve):
             wrong = with_end(data, (words - 1) * WORD + pages, 1 << at)
             assert load(other, wrong) == of_memory, (pages, at)
             assert of_memory or "aren't memory" in other.why()
+
+
+def test_a_state_with_pages_that_are_no_memory(ready, serve):
+    """The page before the first one of a region, or after the last one, is refused by name as its
+    queues start: which are memory isn't known before."""
+    client = ready()
+    with_pages(client, [FIRST], 1)
+    bases = stopped(client)
+    data = saved(client)
+    for page in (REGIONS[0][0] // PAGE - 1, REGIONS[0][0] // PAGE + PAGES_OF_REGION):
+        other = serve()
+        other.begin(PROTOCOL)
+        assert load(
+            other, edited(data, HEAD + page // WORD * 8, struct.pack("<Q", 1 << page % WORD))
+        )
+        moved_memory(client, other)
+        other.negotiate(protocol=PROTOCOL)
+        other.add_memory()
+        with contextlib.suppress(AssertionError, ConnectionError):
+            other.go_on(bases)
+        demand_refused(other, "has pages in the balloon that aren't memory")
 
 
 # Words of the set of the largest memory that has one, 64 GiB (docs/LINUX.md, "Migration").

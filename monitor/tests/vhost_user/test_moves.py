@@ -4,6 +4,7 @@ by one, and loaded from a pipe by the other."""
 import socket
 import struct
 
+import pytest
 from vhost_client import (
     CHECK_DEVICE_STATE,
     FEATURES,
@@ -17,13 +18,16 @@ from vhost_client import (
 from vhost_demands import FIRST, demand_refused, demand_served
 from vhost_moves import (
     FINE,
+    HEAD,
     LOAD,
     PROTOCOL,
     SAVE,
+    SUM,
     WELL,
     arrive,
     ask,
     load,
+    moved_memory,
     saved,
     stopped,
     with_pages,
@@ -87,7 +91,8 @@ def test_a_new_driver_after_a_load(ready, serve):
 
 
 def test_a_driver_that_goes_on_at_index_0(ready, serve):
-    """65536 requests were used: the state says that the driver continues, and no guess does."""
+    """65536 requests were used: the state says that the driver continues, and no guess does; and
+    what was sent of its balloon is given up."""
     client = ready()
     client.write(client.table(INFLATE) + PAGE + 2, b"\xff\xff")
     client.write(client.table(INFLATE) + 2 * PAGE + 2, b"\xff\xff")
@@ -99,10 +104,11 @@ def test_a_driver_that_goes_on_at_index_0(ready, serve):
     with_pages(client, [FIRST], 1)
     other, bases = arrive(client, serve)
     assert bases[INFLATE] == 0
+    other.write(FIRST * PAGE, b"\xaa" * PAGE)
     other.negotiate(protocol=PROTOCOL)
     other.add_memory()
     other.go_on(bases)
-    assert other.counter("actual") == 1
+    assert other.counter("actual") == 1 and FIRST in other.holes()
 
 
 def test_a_source_goes_on(ready):
@@ -154,11 +160,70 @@ def test_a_state_of_another_memory(ready, serve):
     other.pages_of_region = 32
     other.negotiate(protocol=PROTOCOL)
     other.add_memory()
+    demand_no_start(other, bases)
+
+
+def test_a_state_of_another_memory_than_there_is(ready, serve):
+    """Where the guest's memory ends is known by itself, and not by a state that comes after it."""
+    client = ready()
+    with_pages(client, [FIRST], 1)
+    bases = stopped(client)
+    other = serve()
+    other.pages_of_region = 32
+    other.negotiate(protocol=PROTOCOL)
+    other.add_memory()
+    assert load(other, saved(client))
+    assert other.counter("end") == 0x1A0
+    other.available = list(client.available)
+    demand_no_start(other, bases)
+
+
+def demand_no_start(client, bases):
+    """Demands that no queue starts over memory that ends after 416 pages, by the state of a guest
+    with 448."""
     for number in range(4):
-        other.tell_place(number, base=bases[number])
-    other.send(SET_VRING_KICK, struct.pack("<Q", INFLATE | NO_FILE), flags=1)
-    other.send(SET_VRING_ENABLE, struct.pack("<II", INFLATE, 1), flags=1)
-    demand_refused(other, "the device that was loaded has memory up to 0x1c0000, and this guest")
+        client.write(client.table(number) + 2 * PAGE + 2, struct.pack("<H", bases[number]))
+        client.tell_place(number, base=bases[number])
+    client.send(SET_VRING_KICK, struct.pack("<Q", INFLATE | NO_FILE), flags=1)
+    client.send(SET_VRING_ENABLE, struct.pack("<II", INFLATE, 1), flags=1)
+    words = "memory up to 0x1c0000, and this guest 0x1a0000"
+    demand_refused(client, f"the device that was loaded has {words}")
+
+
+# Where a device says which features are offered, and where its sums are (docs/LINUX.md,
+# "Migration", docs/INTEGRATION.md, "A saved state").
+OFFERED_AT, OFFERED_END, SUM_AT = 56, 64, HEAD - SUM
+
+
+def without_offer(data):
+    """Returns a device but for the features that its backend offers, and the sums of that."""
+    return data[:OFFERED_AT], data[OFFERED_END:SUM_AT], data[HEAD:-SUM]
+
+
+@pytest.mark.parametrize("options", ((), ("--hints",)), ids=("alike", "with other features"))
+@pytest.mark.parametrize("pages", (0, 32, 64), ids=("no memory", "other memory", "its memory"))
+def test_a_device_that_is_saved_again_before_it_begins(ready, serve, options, pages):
+    """It is what was loaded, whatever memory there is: a guest that stays paused migrates twice."""
+    client = ready()
+    with_pages(client, [FIRST, FIRST + 2], 7)
+    bases = stopped(client)
+    data = saved(client)
+    other = serve(*options)
+    other.begin(PROTOCOL)
+    if pages > 0:
+        other.pages_of_region = pages
+        other.add_memory()
+    assert load(other, data)
+    again = saved(other)
+    assert without_offer(again) == without_offer(data)
+    third = serve()
+    third.begin(PROTOCOL)
+    assert load(third, again)
+    moved_memory(client, third)
+    third.negotiate(protocol=PROTOCOL)
+    third.add_memory()
+    third.go_on(bases)
+    assert (third.counter("actual"), third.counter("target")) == (2, 7)
 
 
 def test_the_balloon_is_shown_while_no_queue_runs(ready, serve):
