@@ -35,9 +35,11 @@ enum { ASK_STATISTICS = 1, KEEP_PAGES = 2, DISCARD_PAGES = 3, COMMAND_BYTES = 8 
 /* Whether the message has room for the bytes that it says. */
 static bool has_bytes(const struct message *message, uint32_t size)
 {
-    return size == message->size - HEAD_OF_CONFIG ||
-           refuse("%u bytes of the configuration, in a message with %u", size,
-                  message->size - HEAD_OF_CONFIG);
+    bool has = size == message->size - HEAD_OF_CONFIG;
+    if (!has)
+        refuse("%u bytes of the configuration, in a message with %u", size,
+               message->size - HEAD_OF_CONFIG);
+    return has;
 }
 
 static void put_u32(uint8_t *bytes, unsigned at, uint32_t number)

@@ -18,7 +18,7 @@ int client_comes(void)
 {
     int ends[2];
     client = (struct client){
-        .others = {-1, -1}, .source = -1, .events = {-1, -1, -1, -1, -1, -1, -1, -1}};
+        .others = {-1, -1}, .source = -1, .log = -1, .events = {-1, -1, -1, -1, -1, -1, -1, -1}};
     demand(!socketpair(AF_UNIX, SOCK_STREAM | SOCK_CLOEXEC | SOCK_NONBLOCK, 0, ends));
     for (unsigned i = 0; i < REGIONS; i++) {
         client.memory[i] = memfd_create("memory", MFD_CLOEXEC);
@@ -53,6 +53,7 @@ void client_goes(void)
 {
     let_go(&client.socket);
     let_go(&client.others[0]), let_go(&client.others[1]), let_go(&client.source);
+    let_go(&client.log);
     let_go_of_events();
     for (unsigned i = 0; i < REGIONS; i++) {
         munmap(client.bytes[i], REGION_BYTES);
@@ -86,7 +87,30 @@ static int open_log(void)
 {
     int file = memfd_create("log", MFD_CLOEXEC);
     demand(file >= 0 && !ftruncate(file, next_byte() == 255 ? 1 : PAGE));
-    return file;
+    let_go(&client.log);
+    client.log = file;
+    return dup(file);
+}
+
+/* A pipe into which nothing goes until its client reads it; or the end of a stream whose other end
+ * is closed while something is left unread there. */
+static int open_full(void)
+{
+    uint8_t bytes[PAGE] = {0};
+    int ends[2];
+    demand(!pipe2(ends, O_CLOEXEC) && fcntl(ends[1], F_SETPIPE_SZ, PAGE) == PAGE &&
+           write(ends[1], bytes, PAGE) == PAGE);
+    let_go(&client.others[1]);
+    client.others[1] = ends[0];
+    return ends[1];
+}
+
+static int open_broken(void)
+{
+    int ends[2];
+    demand(!socketpair(AF_UNIX, SOCK_STREAM | SOCK_CLOEXEC, 0, ends) && write(ends[1], "", 1) == 1);
+    close(ends[0]);
+    return ends[1];
 }
 
 /* The end of a pipe by which a device comes, whole or not; now and then the pipe stays open. */
@@ -111,6 +135,8 @@ static int open_kind(unsigned kind)
         return dup(client.memory[kind]);
     if (kind == LOG || kind == SOURCE)
         return kind == LOG ? open_log() : open_source();
+    if (kind == FULL || kind == BROKEN)
+        return kind == FULL ? open_full() : open_broken();
     if (kind == EVENT) {
         int *event = &client.events[client.handed++ % EVENTS];
         let_go(event);
@@ -207,5 +233,11 @@ void client_kicks(void)
     for (unsigned i = 0; i < EVENTS; i++)
         if (client.events[i] >= 0)
             eventfd_write(client.events[i], 1);
-    client.cut |= next_byte() == 255 && ftruncate(client.memory[next_below(REGIONS)], 0) == 0;
+    if (next_byte() != 255)
+        return;
+    unsigned file = next_below(REGIONS + 1);
+    if (file < REGIONS)
+        client.cut |= ftruncate(client.memory[file], 0) == 0;
+    else if (client.log >= 0)
+        demand(!ftruncate(client.log, 0));
 }

@@ -13,6 +13,7 @@ struct client {
     unsigned handed;
     int others[2]; /* the other ends of the last socket and of the last pipe that it handed over */
     int source;    /* the end of the last pipe by which it has a device loaded */
+    int log;       /* the last one that it handed over */
     int memory[REGIONS]; /* files */
     uint8_t *bytes[REGIONS];
     uint16_t available[8]; /* of each queue */

@@ -31,11 +31,14 @@ static jmp_buf ended;
 /* Turns in which messages are served that are left at the end. */
 enum { MOST_LEFT = 8 };
 static int lender, later; /* the lender's end of the channel; where a later one comes */
+static bool is_other;     /* who comes there is another user */
 static struct timespec now;
 
 int __real_poll_some(struct pollfd *files, nfds_t count, int limit);
 int __wrap_poll_some(struct pollfd *files, nfds_t count, int limit);
 int __wrap_clock_gettime(clockid_t clock, struct timespec *time);
+int __real_process_accept(int listener);
+int __wrap_process_accept(int listener);
 void __real_kept_save(struct lent *lent);
 void __wrap_kept_save(struct lent *lent);
 int LLVMFuzzerTestOneInput(const uint8_t *data, size_t size);
@@ -69,14 +72,25 @@ static void lender_orders(void)
         lending_send(lender, &order);
 }
 
-/* The lender goes, or a later one comes. */
-static void lender_changes(bool comes)
+int __wrap_process_accept(int listener)
 {
+    int channel = __real_process_accept(listener);
+    if (!is_other)
+        return channel;
+    close(channel);
+    return -1;
+}
+
+/* The lender goes, or a later one comes, or another user. */
+static void lender_changes(unsigned how)
+{
+    enum { COMES = 1, IS_OTHER = 6 };
     struct sockaddr_un address;
     socklen_t size = sizeof address;
     close(lender);
     lender = -1;
-    if (!comes)
+    is_other = (how & IS_OTHER) == IS_OTHER;
+    if (!(how & COMES))
         return;
     lender = socket(AF_UNIX, SOCK_SEQPACKET | SOCK_CLOEXEC | SOCK_NONBLOCK, 0);
     demand(lender >= 0 && !getsockname(later, (struct sockaddr *)&address, &size));
@@ -100,7 +114,7 @@ static void act_while_it_waits(void)
     else if (what < 3)
         lender_orders();
     else
-        lender_changes(next_byte() % 2);
+        lender_changes(next_byte());
 }
 
 int __wrap_poll_some(struct pollfd *files, nfds_t count, int limit)
@@ -125,7 +139,7 @@ static void act(void)
     ends = what >= ENDS && what < CHANGES;
     ends_at = what >= ENDS_AMID && ends ? 1 + next_below(4) : 0;
     if (what >= CHANGES)
-        lender_changes(what % 2);
+        lender_changes(what);
     else if (ends_at > 0)
         client_sends();
     else if (what >= PLANS && !ends)
@@ -153,13 +167,18 @@ static int process_begins(void)
     return guard(go_on, &fuzzed);
 }
 
-/* A process ends as it has read a message, or some bytes that it hasn't noted. */
+/* A process ends as it has read a message, perhaps with a part of the next one, or some bytes that
+ * it hasn't noted. */
 static void reads(void)
 {
     struct inbox *inbox = &kept->inbox;
+    enum { READS_WHOLE = 1, SENDS_TWO = 2 };
     client_sends();
     kept->unnoted = 0;
-    if (next_byte() % 2 && inbox_read(fuzzed.backend.socket, inbox) == STREAM_WHOLE)
+    unsigned how = next_byte();
+    if (how & SENDS_TWO)
+        client_sends();
+    if (how & READS_WHOLE && inbox_read(fuzzed.backend.socket, inbox) == STREAM_WHOLE)
         return;
     size_t came = 0;
     if (inbox->got < sizeof inbox->head || inbox->message.size <= MOST_BODY)
@@ -181,11 +200,15 @@ static void changes_used(const struct guest_memory *memory, const struct ring *r
     }
 }
 
-/* The process ends, with nothing that it has mapped, and another one goes on. */
+/* The process ends, with nothing that it has mapped, perhaps amid a transfer; and another one goes
+ * on. */
 static int another_goes_on(void)
 {
+    enum { IS_AMID = 250 };
     const struct guest_memory *memory = &fuzzed.backend.memory;
-    if (next_byte() % 8 == 7)
+    unsigned what = next_byte();
+    kept_there.room.amid = what >= IS_AMID;
+    if (what % 8 == 7)
         changes_used(memory, &fuzzed.backend.rings[next_below(QUEUES)]);
     for (unsigned i = 0; i < memory->count; i++)
         munmap(memory->regions[i].host, memory->regions[i].length);
@@ -201,6 +224,7 @@ static int comes(unsigned kind)
 {
     int ends[2];
     plans_clear();
+    is_other = false;
     process_is_shut = true;
     options = (struct options){.client = "fuzzed",
                                .features = UINT64_C(1) << 32 | 0x27,
@@ -271,7 +295,8 @@ static void lives(unsigned kind)
     while (served > 0 && script_goes_on()) {
         act();
         served = setjmp(ended) == 0 ? guard(loop_turn, &turns) : 1;
-        check_set(&fuzzed.backend);
+        if (served >= 0) /* else it is amid a request, and ends */
+            check_set(&fuzzed.backend);
         if ((served > 0 && ends) || (served == 0 && fuzzed.ends_anew))
             served = another_goes_on();
     }

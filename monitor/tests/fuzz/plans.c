@@ -1,8 +1,9 @@
 #include "plans.h"
 
-#include "../../backends/vhost/vhost_user.h"
 #include "client.h"
 #include "script.h"
+#include "sent.h"
+#include "vb.h"
 
 #include <poll.h>
 #include <unistd.h>
@@ -90,6 +91,18 @@ static void plan_transfer(unsigned direction, unsigned choice)
     add(CHECK_DEVICE_STATE, 0, 0);
 }
 
+/* A client without memory has its guest come from another host: its device, and then its memory. */
+static void plan_arrival(unsigned choice)
+{
+    enum { IS_COMER = OWN + 1 };
+    add(SET_OWNER, 0, 0), add(SET_OWNER, 0, 0);
+    add(SET_PROTOCOL_FEATURES, 0, 0);
+    add(SET_CONFIG, 0, IS_COMER + choice / 64 * 4);
+    plan_transfer(LOADS, choice);
+    plan_device(choice & (OTHER_FEATURES | MEMORY_ADDED));
+    plan_queues(0);
+}
+
 /* It stops its queues, saves the device, loads it again, and starts its queues. */
 static void plan_migration(unsigned choice)
 {
@@ -104,13 +117,15 @@ static void plan_migration(unsigned choice)
 
 void plan_begins(void)
 {
-    enum { STARTS, STOPS, RESTARTS, SAVES_IT, LOADS_IT, MIGRATES, PLANS };
+    enum { STARTS, STOPS, RESTARTS, SAVES_IT, LOADS_IT, MIGRATES, PLANS, ARRIVES = 16 };
     unsigned what = next_below(PLANS), choice = next_byte();
     plan.count = plan.at = 0;
     if (what == STARTS)
         plan_device(choice), plan_queues(choice);
     else if (what == STOPS || what == RESTARTS)
         plan_each(what == STOPS ? GET_VRING_BASE : SET_VRING_KICK);
+    else if (what == LOADS_IT && choice & ARRIVES)
+        plan_arrival(choice);
     else if (what == SAVES_IT || what == LOADS_IT)
         plan_transfer(what == SAVES_IT ? SAVES : LOADS, choice);
     else
@@ -146,19 +161,37 @@ static void put_sum(uint8_t *bytes, size_t length)
     memcpy(bytes + length, &sum, sizeof sum);
 }
 
+/* Adds a word to the set of a saved device, without its sum. */
+static size_t lengthen(uint8_t *bytes, size_t length)
+{
+    enum { LENGTH_AT = 12, WORDS_AT = 24, WORD = 8 };
+    uint32_t numbers[2];
+    if (length + WORD > MOST_SAVED)
+        return length;
+    memset(bytes + length - SUM, 0, WORD);
+    memcpy(&numbers[0], bytes + LENGTH_AT, 4), memcpy(&numbers[1], bytes + WORDS_AT, 4);
+    numbers[0] += WORD, numbers[1]++;
+    memcpy(bytes + LENGTH_AT, &numbers[0], 4), memcpy(bytes + WORDS_AT, &numbers[1], 4);
+    return length + WORD;
+}
+
 size_t saved_bytes(uint8_t to[MOST_SAVED])
 {
-    enum { CUT = 4, CHANGED, KINDS = 16 };
+    enum { CUT = 4, CHANGED, OF_STATE = 12, LONGER = 15, KINDS, STATE_AT = 32 };
     collect();
     memcpy(to, plan.saved, plan.length);
     unsigned how = next_below(KINDS);
-    size_t at = next_byte() | (size_t)next_byte() << 8;
-    if (plan.length <= SUM || how < CUT)
-        return plan.length;
+    size_t length = plan.length, at = next_byte() | (size_t)next_byte() << 8;
+    if (length < STATE_AT + VB_STATE_BYTES + SUM || how < CUT)
+        return length;
     if (how == CUT)
-        return at % plan.length;
-    to[at % plan.length] ^= next_byte();
+        return at % length;
+    if (how == LONGER)
+        length = lengthen(to, length);
+    to[at % length] ^= next_byte();
+    if (how >= OF_STATE)
+        put_sum(to + STATE_AT, VB_STATE_BYTES - SUM);
     if (how > CHANGED)
-        put_sum(to, plan.length - SUM);
-    return plan.length;
+        put_sum(to, length - SUM);
+    return length;
 }

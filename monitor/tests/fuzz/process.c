@@ -28,7 +28,8 @@ static void change_report(struct lending_message *report)
     else if (what == 12)
         report->wait += value % 3 != 1, report->held_wait += value % 3 != 2;
     else if (what == 13)
-        report->terms = (struct kept_terms){value % 64, value, value % 3, value % 2};
+        report->terms = (struct kept_terms){value % 64, value, value % 3, value % 2},
+        report->migration = is_wild ? MIGRATES_IN + 1 : value % 3;
     else if (what == 14)
         report->counters.statistics++,
             report->figures[0] =

@@ -69,7 +69,7 @@ static uint64_t to_migrate(uint32_t request, unsigned choice)
 /* A log of writes, or a device that is saved or loaded. */
 static void put_migration(struct sent *sent, unsigned choice)
 {
-    enum { SAVES = 0, LOADS = 1, OTHER_PHASE = 7 };
+    enum { SAVES = 0, LOADS = 1, OTHER_PHASE = 7, IS_NONE = 15, IS_WRONG = 14 };
     static const uint16_t sizes[] = {PAGE, 64, 32, 0}, offsets[] = {0, 0, PAGE, 8};
     bool loads = choice % 2 == LOADS;
     if (sent->request == SET_LOG_BASE) {
@@ -78,21 +78,48 @@ static void put_migration(struct sent *sent, unsigned choice)
         return;
     }
     put(sent, loads ? LOADS : SAVES, 4), put(sent, choice / 2 % 8 == OTHER_PHASE, 4);
-    sent->kinds[sent->files++] = choice / 16 == 15 ? NOTHING : loads ? SOURCE : PIPE;
+    if (choice / 16 == IS_NONE)
+        sent->kinds[sent->files++] = NOTHING;
+    else if (choice / 16 == IS_WRONG)
+        sent->kinds[sent->files++] = loads ? BROKEN : FULL;
+    else
+        sent->kinds[sent->files++] = loads ? SOURCE : PIPE;
 }
 
-/* A part of the configuration, or a command of the control area, or that a guest comes. */
+/* What a client writes in its own name: a command, a target, or what its guest comes with. */
+static void put_own(struct sent *sent, unsigned choice)
+{
+    enum {
+        COMMAND_AT = 20,
+        COMES_AT = 208,
+        OF_CLIENT = 1,
+        COMMANDS = 5,
+        ALL = 2 * PAGES_OF_REGION
+    };
+    static const uint32_t given[] = {0, 1, ALL, ALL + 1}, places[] = {0, COMMAND_AT, COMES_AT, 0};
+    uint32_t words[][5] = {
+        {COMMAND_AT, 8, OF_CLIENT, 1, choice % COMMANDS},
+        {COMES_AT, 8, OF_CLIENT, given[choice / 4 % 4], ALL},
+        {places[choice / 4 % 4], 4, OF_CLIENT, choice, 0},
+        {COMMAND_AT, 8, OF_CLIENT, 2, 1},
+    };
+    memcpy(sent->body, words[choice % 4], sizeof words[0]);
+    sent->size = choice % 4 == 2 ? sizeof words[0] - 4 : sizeof words[0];
+}
+
+/* A part of the configuration, and of the control area after it. */
 static void put_config(struct sent *sent, unsigned choice)
 {
-    enum { COMMANDS = 224, COMMAND_AT = 20, COMES_AT = 208, COMES = 14, OF_CLIENT = 1 };
     static const uint8_t sizes[] = {16, 4, 0, 200};
-    const uint32_t head[] = {choice / 4 % 4 * 4, sizes[choice % 4], choice / 16},
-                   command[] = {choice % 16 == COMES ? COMES_AT : COMMAND_AT, 8, OF_CLIENT,
-                                choice % 16 == 15 ? 2 : 1, choice % 5};
-    bool commands = sent->request == SET_CONFIG && choice >= COMMANDS;
-    memcpy(sent->body, commands ? command : head, commands ? sizeof command : sizeof head);
-    sent->size = commands ? sizeof command : (uint32_t)sizeof head + sizes[choice % 4];
-    if (sent->request == SET_CONFIG && !commands)
+    unsigned at = choice / 4 % 4 * (choice < OWN ? 4 : PAGE / 64);
+    const uint32_t head[] = {at, sizes[choice % 4], choice / 16};
+    if (sent->request == SET_CONFIG && choice >= OWN) {
+        put_own(sent, choice - OWN);
+        return;
+    }
+    memcpy(sent->body, head, sizeof head);
+    sent->size = (uint32_t)sizeof head + sizes[choice % 4];
+    if (sent->request == SET_CONFIG)
         sent->body[sizeof head] = next_byte();
 }
 

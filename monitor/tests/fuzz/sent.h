@@ -6,8 +6,12 @@
 
 enum { PAGE = 4096, OF_QUEUE = 3 * PAGE };
 
-/* Kinds of files. PIPE: the end that is written; SOURCE: the other one, with a device to load. */
-enum { MEMORY, OTHER_MEMORY, EVENT, PIPE, SOCKET, NOTHING, LOG, SOURCE, KINDS };
+/* Of a write to the configuration the choices from which on it is the client's own. */
+enum { OWN = 192 };
+
+/* Kinds of files. PIPE: the end that is written; SOURCE: the other one, with a device to load;
+ * FULL: a pipe without room; BROKEN: a stream whose other end is closed. */
+enum { MEMORY, OTHER_MEMORY, EVENT, PIPE, SOCKET, NOTHING, LOG, SOURCE, FULL, BROKEN, KINDS };
 
 /* Where the client's memory is in the guest. */
 static const uint64_t guest_at[REGIONS] = {0x100000, 0x180000};
