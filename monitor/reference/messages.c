@@ -49,11 +49,12 @@ static Sum stays_away(const VbMessage *message, uint32_t pages)
     return may ? beyond(pages, less(message->start, message->most)) : 0;
 }
 
-/* What came in its balloon, where any did, but for one page. */
+/* What came in a strict guest's balloon, where any did, but for one page. */
 static Sum came_without(const VbMessage *message, uint32_t pages)
 {
-    Sum brought = less(message->ballooned, beyond(pages, 1));
-    return is_newcomer(message) && brought ? brought : stays_away(message, pages);
+    bool may = is_newcomer(message) && message->holds != VB_HOLDS_NOTHING;
+    Sum brought = may ? less(message->ballooned, beyond(pages, 1)) : 0;
+    return brought ? brought : stays_away(message, pages);
 }
 
 static Sum reset_takes(const struct told *told)

@@ -82,7 +82,7 @@ comes_first = refl
 
 -- one that has all its memory in its balloon asks for a page of it
 gave : (map (λ b. given (coming b) 80) (0 ∷ 30 ∷ 79 ∷ 80 ∷ 99 ∷ []) ≡ 0 ∷ 30 ∷ 79 ∷ 79 ∷ 79 ∷ []) × (map (given (coming 30)) (0 ∷ 1 ∷ 2 ∷ []) ≡ 0 ∷ 0 ∷ 1 ∷ [])
-    × (given (record (coming 30) { waits = 0 }) 80 ≡ 0)
+    × (map (λ m. given m 80) (record (coming 30) { waits = 0 } ∷ record (coming 30) { holds = 0 } ∷ []) ≡ 0 ∷ 0 ∷ [])
 gave = (refl, refl, refl)
 
 -- what it gave elsewhere counts before what it may start without

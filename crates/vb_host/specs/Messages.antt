@@ -64,10 +64,10 @@ starts_without m pages = if is_small m then pages - min m.start m.most else 0
 abbrev pub comes : Message → Bool
 comes m = waits_for_room m && (m.pages == 0)
 
--- A guest that comes from another host has what it gave there in its balloon. Of one that has all
--- its memory there a page is asked for, so that it is let in by a grant.
+-- A strict guest that comes from another host has what it gave there in its balloon. Of one that
+-- has all its memory there a page is asked for, so that it is let in by a grant.
 abbrev pub given : Message → ℕ → ℕ
-given m pages = if comes m then min m.ballooned (pages - 1) else 0
+given m pages = if comes m && is_strict m then min m.ballooned (pages - 1) else 0
 
 abbrev pub comes_without : Message → ℕ → ℕ
 comes_without m pages =

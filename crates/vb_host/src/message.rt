@@ -171,11 +171,12 @@ impl Message {
         self.waits_for_room() && self.pages == 0
     }
 
-    /// Of this many pages of a guest that comes those that it gave on the host which it left.
+    /// Of this many pages of a strict guest that comes those that it gave on the host which it
+    /// left.
     fn given(&self, pages: u32) -> u32
         ensures { result ≡ given self.now pages }
     {
-        if self.comes() {
+        if self.comes() && self.is_strict() {
             self.ballooned.min(pages.saturating_sub(1))
         } else {
             0

@@ -206,6 +206,7 @@ static const struct {
     {"with all, as its process can't", 80, 0, 1, VB_HOLDS_DEFLATES, 20, 90, 0},
     {"as its process can by any other number", 80, 0, 1, 4, 20, 90, 60},
     {"with what it hasn't given elsewhere", 80, 30, 1, VB_MAY_START_SMALL, 20, 90, 30},
+    {"with all that it gave elsewhere, as it isn't strict", 80, 30, 1, VB_HOLDS_NOTHING, 20, 90, 0},
     {"with a page of all that it gave", 80, 80, 0, VB_HOLDS_DEFLATES, 0, 0, 79},
     {"with a page of more than it has", 80, 99, 0, VB_HOLDS_DEFLATES, 0, 0, 79},
     {"with none", 0, 30, 0, VB_HOLDS_DEFLATES, 0, 0, 0},
