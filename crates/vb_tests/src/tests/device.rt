@@ -2,6 +2,7 @@
 
 mod ballooned;
 mod rounds;
+mod states;
 
 use bitflags::Flags;
 use std::process::Abort;
@@ -28,6 +29,18 @@ const SMALL: Virtqueue = Virtqueue {
     size: 8,
     next_avail: 65_535,
     next_used: 65_535,
+};
+
+/// One whose table is aligned to half a descriptor.
+const TABLE_AT_HALF: Virtqueue = Virtqueue {
+    table: 0x1008,
+    ..SMALL
+};
+
+/// One whose table begins where the guest's memory ends.
+const TABLE_AT_THE_END: Virtqueue = Virtqueue {
+    table: 0x2000_0000,
+    ..SMALL
 };
 
 /// A device whose driver is ready, with this ring of one queue.
@@ -249,6 +262,38 @@ fn a_used_entry_wraps(rt: HostRuntime) {
         }
         Err(_) => assert!(rt; false),
     }
+}
+
+/// A ring, a head of which a chain is used, and where its element goes, or what refuses it: the
+/// last head, and the one after it; a table that is aligned to half a descriptor, or past memory.
+static USES: [(Virtqueue, u32, Result<u64, Denial>); 4] = [
+    (SMALL, 7, Ok(0x10dc)),
+    (SMALL, 8, Err(Denial::BadArgument)),
+    (TABLE_AT_HALF, 7, Err(Denial::Misplaced)),
+    (TABLE_AT_THE_END, 7, Err(Denial::Misplaced)),
+];
+
+/// Where the element of a used chain goes.
+fn element_at(ring: Virtqueue, head: u32) -> Result<u64, Denial> {
+    match ready(SETTINGS, Kind::Inflate, ring).use_chain(Kind::Inflate, head) {
+        Ok(entry) => Ok(entry.element_at),
+        Err(denial) => Err(denial),
+    }
+}
+
+/// The number of the first use that is answered otherwise.
+fn first_other_use() -> Option<usize> {
+    for (k, (ring, head, answer)) in USES.iter().enumerate() {
+        if element_at(*ring, *head) != *answer {
+            return Some(k);
+        }
+    }
+    None
+}
+
+#[test]
+fn chains_are_used_where_their_ring_has_its_place(rt: HostRuntime) {
+    assert!(rt; first_other_use().is_none());
 }
 
 /// Steps of a driver: the status, or else features, and the number of the fault.
