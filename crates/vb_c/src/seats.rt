@@ -190,12 +190,7 @@ pub extern "C" fn vb_seat_read(
 
 /// The report by which a guest that isn't strict is taken over.
 #[unsafe(no_mangle)]
-pub extern "C" fn vb_seat_follow(
-    seat: &Seat,
-    message: &Message,
-    pages: u32,
-    target: u32,
-) -> Report
+pub extern "C" fn vb_seat_follow(seat: &Seat, message: &Message, pages: u32, target: u32) -> Report
     ensures { result ≡ followed message.now seat.now pages target }
 {
     seat.follow(message, pages, target)

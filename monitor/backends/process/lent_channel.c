@@ -6,9 +6,8 @@
 #include <sys/socket.h>
 #include <unistd.h>
 
-/* Milliseconds between two reports that nobody asked for; those in which a report waits for the
- * statistics for which the guest was asked with it; of a turn in which the lender is waited
- * for. */
+/* Milliseconds between two reports that nobody asked for; in which a report waits for statistics
+ * that were asked for with it; of a turn in which the lender is waited for. */
 enum { NEWS_EVERY = 10, ANSWERS_IN = 100, AWAIT_EVERY = 1000 };
 
 /* Whose words go to the lender. */
@@ -56,8 +55,7 @@ void lent_reads(struct lent *lent)
     lent->notes.read_target = target;
 }
 
-/* What it says is kept before, so that another process says nothing else: but not in the middle of
- * a message. */
+/* What it says is kept before, so that another process says the same: but not amid a message. */
 void lent_report(struct lent *lent, uint64_t number, bool asked)
 {
     const struct backend *backend = &lent->backend;
