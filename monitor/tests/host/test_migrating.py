@@ -172,10 +172,13 @@ def test_states_and_pipes_that_are_none(migrating):
     ours, theirs = os.pipe()
     os.close(ours)
     assert ask(client, theirs, SAVE) == WELL and client.send(CHECK_DEVICE_STATE) == WRONG
-    lender.hear()
-    said = " ".join(it for it in lender.said() if it.startswith("a: "))
+
+    def is_said(words):
+        lender.hear()
+        return any(it.startswith("a: ") and words in it for it in lender.said())
+
     for words in ("while queues run", "its sum is wrong", "is none", "no pipe", "nobody takes"):
-        assert words in said, (words, said)
+        eventually(lambda it=words: is_said(it), lender.said)
     client.go_on(bases)
     lender.become("a", ready=1, ballooned=2)
 
