@@ -89,7 +89,7 @@ typedef struct {
     uint32_t overdraft; /* how many beyond it VB_OVERDRAWS may lend */
 } VbHost;
 
-/* What a guest's process asks for, as `waits` of a message and `ask` of a session have it. */
+/* What a guest's process asks for, as `waits` of a message and `ask` of an exchange have it. */
 enum {
     VB_ASK_NOTHING = 0,
     VB_ASK_ROOM = 1,  /* for memory that its guest comes with, or that is added */
@@ -136,7 +136,7 @@ typedef struct {
     uint64_t sent_by;  /* that of the first order to report after it */
     uint64_t obeyed;   /* that of the last order to report that was obeyed */
     uint64_t received; /* since when that target is known to be received, in ms; 0: it isn't */
-} VbSession;
+} VbExchange;
 
 /* What a message says. */
 typedef struct {
@@ -255,10 +255,10 @@ VB_ASSERT(offsetof(VbMessage, deflate) == 24 && offsetof(VbMessage, waits) == 28
 VB_ASSERT(offsetof(VbMessage, wait) == 32 && offsetof(VbMessage, holds) == 36);
 VB_ASSERT(offsetof(VbMessage, outside) == 40 && offsetof(VbMessage, files) == 44);
 VB_ASSERT(offsetof(VbMessage, start) == 48 && offsetof(VbMessage, most) == 52);
-VB_ASSERT(offsetof(VbMessage, limited) == 56 && sizeof(VbSession) == 48);
-VB_ASSERT(offsetof(VbSession, asked) == 4 && offsetof(VbSession, asks) == 8);
-VB_ASSERT(offsetof(VbSession, sent) == 16 && offsetof(VbSession, sent_by) == 24);
-VB_ASSERT(offsetof(VbSession, obeyed) == 32 && offsetof(VbSession, received) == 40);
+VB_ASSERT(offsetof(VbMessage, limited) == 56 && sizeof(VbExchange) == 48);
+VB_ASSERT(offsetof(VbExchange, asked) == 4 && offsetof(VbExchange, asks) == 8);
+VB_ASSERT(offsetof(VbExchange, sent) == 16 && offsetof(VbExchange, sent_by) == 24);
+VB_ASSERT(offsetof(VbExchange, obeyed) == 32 && offsetof(VbExchange, received) == 40);
 VB_ASSERT(sizeof(VbAim) == 40 && offsetof(VbAim, strict) == 4 && offsetof(VbAim, ready) == 8);
 VB_ASSERT(offsetof(VbAim, seconds) == 12 && offsetof(VbAim, needed) == 16);
 VB_ASSERT(offsetof(VbAim, frames) == 20 && offsetof(VbAim, held_kib) == 24);
@@ -294,12 +294,12 @@ uint32_t vb_seat_due_grant(const VbSeat *seat, const VbReport *report);
  * after the order that followed it has that target; and as read where `read` says so, or where
  * reads aren't seen and it was received 3 seconds ago. No more is outside than was, and was taken
  * away since, but for what has left the balloon. */
-VbReading vb_seat_read(const VbSeat *seat, const VbSession *session, const VbMessage *message,
+VbReading vb_seat_read(const VbSeat *seat, const VbExchange *exchange, const VbMessage *message,
                        uint64_t now);
-/* The session once that message is noted: an ask that is another than before, by its kind or by the
- * process's own number of it, is the next one. To be noted before the message is read. */
-VbSession vb_seat_note(const VbSeat *seat, const VbSession *session, const VbMessage *message,
-                       uint64_t now);
+/* The exchange once that message is noted: an ask that is another than before, by its kind or by
+ * the process's own number of it, is the next one. To be noted before the message is read. */
+VbExchange vb_seat_note(const VbSeat *seat, const VbExchange *exchange, const VbMessage *message,
+                        uint64_t now);
 
 /* The report by which VB_TAKES_OVER follows a guest that isn't strict (VB_HOLDS_NOTHING), with
  * these pages of its memory and this target: it has what its message says, and any target at once.

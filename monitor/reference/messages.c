@@ -6,7 +6,7 @@ enum { SURELY_READ = 3000 };
 /* All that an answer depends on. */
 struct told {
     const VbSeat *seat;
-    const VbSession *session;
+    const VbExchange *exchange;
     const VbMessage *message;
     uint64_t now;
 };
@@ -73,10 +73,10 @@ static struct ask ask_by(const struct told *told)
 {
     const VbMessage *message = told->message;
     const VbSeat *seat = told->seat;
-    const VbSession *session = told->session;
+    const VbExchange *exchange = told->exchange;
     struct ask deflate = {VB_ASK_DEFLATE, message->deflate, VB_LINE_DEFLATES, message->held};
-    bool is_last = session->ask == VB_ASK_DEFLATE && session->asked == message->deflate;
-    bool is_granted = message->held && is_last && session->asks == seat->granted;
+    bool is_last = exchange->ask == VB_ASK_DEFLATE && exchange->asked == message->deflate;
+    bool is_granted = message->held && is_last && exchange->asks == seat->granted;
     if (message->waits == VB_ASK_RESET && reset_takes(told) && !is_granted)
         return (struct ask){VB_ASK_RESET, message->wait, VB_LINE_RESETS, reset_takes(told)};
     if (message->waits == VB_ASK_ROOM && !seat->granted && !is_granted)
@@ -89,9 +89,9 @@ static struct ask ask_by(const struct told *told)
 
 static bool has_received(const struct told *told)
 {
-    const VbSession *session = told->session;
+    const VbExchange *exchange = told->exchange;
     return told->message->target == told->seat->target &&
-           session->sent == told->seat->target_number && session->obeyed >= session->sent_by;
+           exchange->sent == told->seat->target_number && exchange->obeyed >= exchange->sent_by;
 }
 
 /* Any number but this one. */
@@ -102,7 +102,7 @@ static uint64_t not_this(uint64_t number)
 
 static uint64_t has_read(const struct told *told)
 {
-    uint64_t since = told->session->received, read = told->message->read;
+    uint64_t since = told->exchange->received, read = told->message->read;
     bool surely = since && beyond(told->now, since) >= SURELY_READ;
     if (read)
         return read - 1;
@@ -142,15 +142,15 @@ static VbReport report_by(const struct told *told)
         .line = ask.line,
         .outside = (uint32_t)has_outside(told),
         .target_number = has_received(told) ? number : not_this(number),
-        .deflates = told->session->asks,
+        .deflates = told->exchange->asks,
         .removed = (uint64_t)less(removed, UINT64_MAX),
     };
 }
 
-VbReading vb_seat_read(const VbSeat *seat, const VbSession *session, const VbMessage *message,
+VbReading vb_seat_read(const VbSeat *seat, const VbExchange *exchange, const VbMessage *message,
                        uint64_t now)
 {
-    struct told told = {seat, session, message, now};
+    struct told told = {seat, exchange, message, now};
     VbReading reading = {.report = report_by(&told)};
     Sum back = come_back(&told), has = seat->granted ? seat->pages : 0;
     Sum wanted = message->waits == VB_ASK_ROOM ? message->wanted : 0;
@@ -182,20 +182,20 @@ VbReport vb_seat_follow(const VbSeat *seat, const VbMessage *message, uint32_t p
     };
 }
 
-VbSession vb_seat_note(const VbSeat *seat, const VbSession *session, const VbMessage *message,
-                       uint64_t now)
+VbExchange vb_seat_note(const VbSeat *seat, const VbExchange *exchange, const VbMessage *message,
+                        uint64_t now)
 {
-    struct told told = {seat, session, message, now};
+    struct told told = {seat, exchange, message, now};
     struct ask ask = ask_by(&told);
-    VbSession then = *session;
-    if (ask.what && (ask.what != session->ask || ask.number != session->asked)) {
+    VbExchange then = *exchange;
+    if (ask.what && (ask.what != exchange->ask || ask.number != exchange->asked)) {
         then.ask = ask.what;
         then.asked = ask.number;
-        then.asks = (uint64_t)less((Sum)session->asks + 1, UINT64_MAX);
+        then.asks = (uint64_t)less((Sum)exchange->asks + 1, UINT64_MAX);
     }
     if (!has_received(&told))
         then.received = 0;
-    else if (!session->received)
+    else if (!exchange->received)
         then.received = now;
     return then;
 }

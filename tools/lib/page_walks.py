@@ -1,5 +1,5 @@
-"""The walks of the map, for tools/check-sources: each row names a function where it is declared, by
-which a row above it goes on."""
+"""The walks of the map, for tools/check-sources: each row names a function where it is declared,
+which a row above it calls, or with which it shares a word."""
 
 import glob
 import re

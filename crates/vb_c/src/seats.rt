@@ -10,7 +10,7 @@ ghost use Rattle.vb_host.specs.Seats.{asked, due_grant, due_target, lent, waits}
 ghost use Rattle.vb_c.specs.Seats.{event_of, lending_of, FirstFor, StepsFor};
 
 use vb_host::{
-    Aim, Event, Message, Pace, Reading, Report, Seat, Session, first_in_line, least_budget, owed,
+    Aim, Event, Exchange, Message, Pace, Reading, Report, Seat, first_in_line, least_budget, owed,
     room, step,
 };
 use vb_monitor::{BAD_ARGUMENT, OK};
@@ -179,13 +179,13 @@ pub extern "C" fn vb_seat_due_grant(seat: &Seat, report: &Report) -> u32
 #[unsafe(no_mangle)]
 pub extern "C" fn vb_seat_read(
     seat: &Seat,
-    session: &Session,
+    exchange: &Exchange,
     message: &Message,
     now: u64,
 ) -> Reading
-    ensures { result ≡ reading now session.now message.now seat.now }
+    ensures { result ≡ reading now exchange.now message.now seat.now }
 {
-    seat.read(session, message, now)
+    seat.read(exchange, message, now)
 }
 
 /// The report by which a guest that isn't strict is taken over.
@@ -200,13 +200,13 @@ pub extern "C" fn vb_seat_follow(seat: &Seat, message: &Message, pages: u32, tar
 #[unsafe(no_mangle)]
 pub extern "C" fn vb_seat_note(
     seat: &Seat,
-    session: &Session,
+    exchange: &Exchange,
     message: &Message,
     now: u64,
-) -> Session
-    ensures { result ≡ noted now session.now message.now seat.now }
+) -> Exchange
+    ensures { result ≡ noted now exchange.now message.now seat.now }
 {
-    seat.noted(session, message, now)
+    seat.noted(exchange, message, now)
 }
 
 /// How a guest's target follows what was decided.

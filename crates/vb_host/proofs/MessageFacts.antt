@@ -3,12 +3,12 @@ use Rattle.std.proofs.Common.{◌≡◌, ℕ, true, false, [], ◌∷◌, map, r
 use Rattle.vb_host.specs.declared.message.Ask.TheVariants.{Nothing, Room, Reset, Deflate}
 use Rattle.vb_host.specs.declared.message.Hold.TheVariants.{Free, Strict, MayStartSmall, HasStartedSmall}
 use Rattle.vb_host.specs.declared.message.Message.{Message}
-use Rattle.vb_host.specs.declared.message.Session.{Session}
+use Rattle.vb_host.specs.declared.message.Exchange.{Exchange}
 use Rattle.vb_host.specs.declared.report.Report.{Report}
 use Rattle.vb_host.specs.declared.report.WaitingLine.TheVariants.{Deflates, Resets, Arrivals}
 use Rattle.vb_host.specs.declared.seat.Seat.{Seat}
 use Rattle.vb_host.specs.Messages.{another, ask_number, ask_of, asked_line, asked_pages, asking, beyond, comes, comes_without, followed, following_number}
-use Rattle.vb_host.specs.Messages.{given, has_granted, has_started_small, hold_number, is_asked_anew, is_let_in, is_received, is_small, is_strict, joins, kept_outside, lingers, needs_reset, needs_room, noted}
+use Rattle.vb_host.specs.Messages.{given, has_granted, has_started_small, hold_number, is_new_ask, is_let_in, is_received, is_small, is_strict, joins, kept_outside, lingers, needs_reset, needs_room, noted}
 use Rattle.vb_host.specs.Messages.{own_number, plain_report, read_target, reading, received_number, received_since, removed_by, report_of, reset_pages, resets_at_once, returned, roomy, said_outside, shown_ballooned, starts_small, starts_without, taken, taken_away, waits_for_reset, waits_for_room, wants_beyond}
 use Rattle.vb_host.specs.Seats.{newcomer, uncounting}
 
@@ -55,8 +55,8 @@ abbrev starting : ℕ → Message
 starting start = record says { limited = 1; holds = 2; start = start }
 
 -- Its last target, the fourth, was sent before the twelfth order to report, and received at 1000 ms.
-abbrev session : Session
-session = record { ask = 3; asked = 8; asks = 6; sent = 4; sent_by = 12; obeyed = 12; received = 1000 }
+abbrev exchange : Exchange
+exchange = record { ask = 3; asked = 8; asks = 6; sent = 4; sent_by = 12; obeyed = 12; received = 1000 }
 
 -- ---- what the numbers say
 
@@ -106,17 +106,17 @@ room : (map (needs_room (waiting 1)) (seat ∷ new ∷ []) ≡ false ∷ true �
 room = (refl, refl)
 
 -- each word of it
-granted : (map (λ m. has_granted session m seat) (holding 8 ∷ holding 9 ∷ says ∷ []) ≡ true ∷ false ∷ false ∷ [])
-    × (map (λ x. has_granted x (holding 8) seat) (record session { ask = 2 } ∷ record session { asked = 9 } ∷ record session { asks = 7 } ∷ []) ≡ false ∷ false ∷ false ∷ [])
-    × (has_granted session (holding 8) (record seat { granted = 5 }) ≡ false)
+granted : (map (λ m. has_granted exchange m seat) (holding 8 ∷ holding 9 ∷ says ∷ []) ≡ true ∷ false ∷ false ∷ [])
+    × (map (λ x. has_granted x (holding 8) seat) (record exchange { ask = 2 } ∷ record exchange { asked = 9 } ∷ record exchange { asks = 7 } ∷ []) ≡ false ∷ false ∷ false ∷ [])
+    × (has_granted exchange (holding 8) (record seat { granted = 5 }) ≡ false)
 granted = (refl, refl, refl)
 
-asks : map (λ m. ask_of session m seat) (says ∷ holding 8 ∷ holding 9 ∷ waiting 1 ∷ waiting 2 ∷ waiting 3 ∷ []) ≡ Nothing ∷ Deflate ∷ Deflate ∷ Nothing ∷ Reset ∷ Nothing ∷ []
+asks : map (λ m. ask_of exchange m seat) (says ∷ holding 8 ∷ holding 9 ∷ waiting 1 ∷ waiting 2 ∷ waiting 3 ∷ []) ≡ Nothing ∷ Deflate ∷ Deflate ∷ Nothing ∷ Reset ∷ Nothing ∷ []
 asks = refl
 
 -- a deflate that was granted comes before all, then a reset that takes any page, then room, and another deflate last
-in_order : (map (λ m. ask_of session m seat) (record (holding 8) { waits = 2 } ∷ record (holding 9) { waits = 2 } ∷ record (holding 9) { waits = 2; ballooned = 0 } ∷ record (holding 9) { waits = 1 } ∷ []) ≡ Deflate ∷ Reset ∷ Deflate ∷ Deflate ∷ [])
-    × (map (λ m. ask_of session m new) (holding 8 ∷ waiting 1 ∷ record (holding 9) { waits = 1 } ∷ record (waiting 2) { ballooned = 0 } ∷ []) ≡ Deflate ∷ Room ∷ Room ∷ Nothing ∷ [])
+in_order : (map (λ m. ask_of exchange m seat) (record (holding 8) { waits = 2 } ∷ record (holding 9) { waits = 2 } ∷ record (holding 9) { waits = 2; ballooned = 0 } ∷ record (holding 9) { waits = 1 } ∷ []) ≡ Deflate ∷ Reset ∷ Deflate ∷ Deflate ∷ [])
+    × (map (λ m. ask_of exchange m new) (holding 8 ∷ waiting 1 ∷ record (holding 9) { waits = 1 } ∷ record (waiting 2) { ballooned = 0 } ∷ []) ≡ Deflate ∷ Room ∷ Room ∷ Nothing ∷ [])
 in_order = (refl, refl)
 
 of_each : (map (λ a. own_number a (holding 8)) (Nothing ∷ Room ∷ Reset ∷ Deflate ∷ []) ≡ 0 ∷ 5 ∷ 5 ∷ 8 ∷ [])
@@ -125,23 +125,23 @@ of_each : (map (λ a. own_number a (holding 8)) (Nothing ∷ Room ∷ Reset ∷ 
     × (map (λ m. asked_pages Room m new) (coming 30 ∷ coming 99 ∷ starting 20 ∷ []) ≡ 30 ∷ 1 ∷ 20 ∷ [])
 of_each = (refl, refl, refl, refl)
 
-anew : (map (λ m. is_asked_anew session m seat) (says ∷ holding 8 ∷ holding 9 ∷ waiting 2 ∷ []) ≡ false ∷ false ∷ true ∷ true ∷ [])
-    × (map (λ x. is_asked_anew x (waiting 2) seat) (record session { ask = 2; asked = 5 } ∷ record session { ask = 2 } ∷ record session { ask = 1; asked = 5 } ∷ []) ≡ false ∷ true ∷ true ∷ [])
-anew = (refl, refl)
+another_ask : (map (λ m. is_new_ask exchange m seat) (says ∷ holding 8 ∷ holding 9 ∷ waiting 2 ∷ []) ≡ false ∷ false ∷ true ∷ true ∷ [])
+    × (map (λ x. is_new_ask x (waiting 2) seat) (record exchange { ask = 2; asked = 5 } ∷ record exchange { ask = 2 } ∷ record exchange { ask = 1; asked = 5 } ∷ []) ≡ false ∷ true ∷ true ∷ [])
+another_ask = (refl, refl)
 
 -- ---- which target its driver may obey
 
-receives : (map (λ x. is_received x says seat) (session ∷ record session { sent = 3 } ∷ record session { obeyed = 11 } ∷ record session { obeyed = 13 } ∷ []) ≡ true ∷ false ∷ false ∷ true ∷ []) × (is_received session (record says { target = 29 }) seat ≡ false)
+receives : (map (λ x. is_received x says seat) (exchange ∷ record exchange { sent = 3 } ∷ record exchange { obeyed = 11 } ∷ record exchange { obeyed = 13 } ∷ []) ≡ true ∷ false ∷ false ∷ true ∷ []) × (is_received exchange (record says { target = 29 }) seat ≡ false)
 receives = (refl, refl)
 
-waits_a_while : (map (λ now. lingers now session) (0 ∷ 1000 ∷ 3999 ∷ 4000 ∷ []) ≡ true ∷ true ∷ true ∷ false ∷ []) × (lingers 9999 (record session { received = 0 }) ≡ true)
+waits_a_while : (map (λ now. lingers now exchange) (0 ∷ 1000 ∷ 3999 ∷ 4000 ∷ []) ≡ true ∷ true ∷ true ∷ false ∷ []) × (lingers 9999 (record exchange { received = 0 }) ≡ true)
 waits_a_while = (refl, refl)
 
 others : map another (0 ∷ 1 ∷ 2 ∷ 30 ∷ []) ≡ 1 ∷ 0 ∷ 1 ∷ 29 ∷ []
 others = refl
 
-reads : (map (λ n. read_target 1000 session (record says { read = n }) seat) (31 ∷ 1 ∷ 0 ∷ []) ≡ 30 ∷ 0 ∷ 29 ∷ []) × (map (λ now. read_target now session (record says { read = 0 }) seat) (3999 ∷ 4000 ∷ []) ≡ 29 ∷ 30 ∷ [])
-    × (map (λ x. received_number x says seat) (session ∷ record session { sent = 3 } ∷ []) ≡ 4 ∷ 3 ∷ [])
+reads : (map (λ n. read_target 1000 exchange (record says { read = n }) seat) (31 ∷ 1 ∷ 0 ∷ []) ≡ 30 ∷ 0 ∷ 29 ∷ []) × (map (λ now. read_target now exchange (record says { read = 0 }) seat) (3999 ∷ 4000 ∷ []) ≡ 29 ∷ 30 ∷ [])
+    × (map (λ x. received_number x says seat) (exchange ∷ record exchange { sent = 3 } ∷ []) ≡ 4 ∷ 3 ∷ [])
 reads = (refl, refl, refl)
 
 -- ---- pages outside of slots
@@ -169,22 +169,22 @@ takes_away = (refl, refl, refl)
 abbrev report : Report
 report = record { ballooned = 30; target = 30; read_target = 30; held = 0; line = 0; outside = 7; target_number = 4; deflates = 6; removed = 0 }
 
-reports : (report_of 1000 session says seat ≡ report) × (report_of 1000 (record session { asks = 7 }) (holding 9) seat ≡ record report { held = 10; deflates = 7 })
-    × (report_of 1000 (record session { asks = 7 }) (waiting 2) seat ≡ record report { held = 30; line = 1; deflates = 7 })
-    × (report_of 1000 (record session { asks = 1 }) (coming 20) new ≡ record report { held = 40; line = 2; target_number = 3; outside = 0; deflates = 1; target = 0 })
+reports : (report_of 1000 exchange says seat ≡ report) × (report_of 1000 (record exchange { asks = 7 }) (holding 9) seat ≡ record report { held = 10; deflates = 7 })
+    × (report_of 1000 (record exchange { asks = 7 }) (waiting 2) seat ≡ record report { held = 30; line = 1; deflates = 7 })
+    × (report_of 1000 (record exchange { asks = 1 }) (coming 20) new ≡ record report { held = 40; line = 2; target_number = 3; outside = 0; deflates = 1; target = 0 })
 reports = (refl, refl, refl, refl)
 
 -- 10 pages are taken away, and no more of them stay outside than there were
-reports_fewer : (report_of 1000 session (back 50 99) seat ≡ record report { outside = 17; removed = 10 }) × ((plain_report 1000 session (back 50 99) seat).outside ≡ 99)
-    × (report_of 1000 session (record says { outside = 3; target = 29; read = 0 }) seat ≡ record report { outside = 3; target = 29; read_target = 29; target_number = 3 })
+reports_fewer : (report_of 1000 exchange (back 50 99) seat ≡ record report { outside = 17; removed = 10 }) × ((plain_report 1000 exchange (back 50 99) seat).outside ≡ 99)
+    × (report_of 1000 exchange (record says { outside = 3; target = 29; read = 0 }) seat ≡ record report { outside = 3; target = 29; read_target = 29; target_number = 3 })
 reports_fewer = (refl, refl, refl)
 
 -- ---- what else it says
 
-takes : (map (λ b. taken 1000 session (record says { ballooned = b }) seat) (30 ∷ 28 ∷ []) ≡ 0 ∷ 2 ∷ []) × (taken 1000 session (record says { ballooned = 28; holds = 0 }) seat ≡ 0)
+takes : (map (λ b. taken 1000 exchange (record says { ballooned = b }) seat) (30 ∷ 28 ∷ []) ≡ 0 ∷ 2 ∷ []) × (taken 1000 exchange (record says { ballooned = 28; holds = 0 }) seat ≡ 0)
 takes = (refl, refl)
 
-joining : map (λ m. joins 1000 session m seat) (back 64 3 ∷ record (back 64 3) { ballooned = 28 } ∷ record (back 64 3) { ballooned = 28; holds = 0 } ∷ []) ≡ 4 ∷ 0 ∷ 4 ∷ []
+joining : map (λ m. joins 1000 exchange m seat) (back 64 3 ∷ record (back 64 3) { ballooned = 28 } ∷ record (back 64 3) { ballooned = 28; holds = 0 } ∷ []) ≡ 4 ∷ 0 ∷ 4 ∷ []
 joining = refl
 
 has_room : (map roomy (seat ∷ new ∷ []) ≡ 60 ∷ 0 ∷ []) × (map (beyond seat 4) (64 ∷ 65 ∷ 0 ∷ []) ≡ 0 ∷ 1 ∷ 0 ∷ []) × (map (λ m. wants_beyond m seat 4) (record (waiting 1) { wanted = 70 } ∷ record (waiting 0) { wanted = 70 } ∷ []) ≡ 6 ∷ 0 ∷ [])
@@ -194,7 +194,7 @@ has_room = (refl, refl, refl)
 abbrev brought : Message
 brought = record (back 66 3) { waits = 1; wanted = 80; ballooned = 29; limited = 1; holds = 3; start = 20 }
 
-all_of_it : reading 1000 session brought seat ≡ record {
+all_of_it : reading 1000 exchange brought seat ≡ record {
   report = record report { ballooned = 29; outside = 3 };
   taken = 1;
   joins = 0;
@@ -207,7 +207,7 @@ all_of_it : reading 1000 session brought seat ≡ record {
 }
 all_of_it = refl
 
-at_once : ((reading 1000 session (record (waiting 2) { ballooned = 0 }) seat).resets ≡ 1) × ((reading 1000 session (record (back 66 3) { waits = 1; wanted = 80 }) seat).wants ≡ 16) × ((reading 1000 session (coming 30) new).without ≡ 30)
+at_once : ((reading 1000 exchange (record (waiting 2) { ballooned = 0 }) seat).resets ≡ 1) × ((reading 1000 exchange (record (back 66 3) { waits = 1; wanted = 80 }) seat).wants ≡ 16) × ((reading 1000 exchange (coming 30) new).without ≡ 30)
 at_once = (refl, refl, refl)
 
 -- ---- a guest that isn't strict
@@ -223,11 +223,11 @@ following = (refl, refl, refl, refl, refl)
 
 -- ---- what is noted of it
 
-notes : (noted 9000 session says seat ≡ session) × (noted 9000 session (holding 8) seat ≡ session) × (noted 9000 session (holding 9) seat ≡ record session { asked = 9; asks = 7 })
-    × (noted 9000 session (waiting 2) seat ≡ record session { ask = 2; asked = 5; asks = 7 })
-    × (asking (record session { asks = 18446744073709551615 }) (holding 9) seat ≡ record session { asked = 9; asks = 18446744073709551615 })
+notes : (noted 9000 exchange says seat ≡ exchange) × (noted 9000 exchange (holding 8) seat ≡ exchange) × (noted 9000 exchange (holding 9) seat ≡ record exchange { asked = 9; asks = 7 })
+    × (noted 9000 exchange (waiting 2) seat ≡ record exchange { ask = 2; asked = 5; asks = 7 })
+    × (asking (record exchange { asks = 18446744073709551615 }) (holding 9) seat ≡ record exchange { asked = 9; asks = 18446744073709551615 })
 notes = (refl, refl, refl, refl, refl)
 
-notes_receipt : (map (λ x. received_since 9000 x says seat) (session ∷ record session { received = 0 } ∷ record session { sent = 3 } ∷ record session { sent = 3; received = 0 } ∷ []) ≡ 1000 ∷ 9000 ∷ 0 ∷ 0 ∷ [])
-    × (noted 9000 (record session { received = 0 }) (holding 9) seat ≡ record session { asked = 9; asks = 7; received = 9000 })
+notes_receipt : (map (λ x. received_since 9000 x says seat) (exchange ∷ record exchange { received = 0 } ∷ record exchange { sent = 3 } ∷ record exchange { sent = 3; received = 0 } ∷ []) ≡ 1000 ∷ 9000 ∷ 0 ∷ 0 ∷ [])
+    × (noted 9000 (record exchange { received = 0 }) (holding 9) seat ≡ record exchange { asked = 9; asks = 7; received = 9000 })
 notes_receipt = (refl, refl)

@@ -4,26 +4,26 @@ use Rattle.std.proofs.lemmas.Bool.Decides.{nat_tests}
 use Rattle.vb_host.specs.declared.message.Ask.{Ask}
 use Rattle.vb_host.specs.declared.message.Ask.TheVariants.{Nothing, Room, Reset, Deflate}
 use Rattle.vb_host.specs.declared.message.Message.{Message}
-use Rattle.vb_host.specs.declared.message.Session.{Session}
+use Rattle.vb_host.specs.declared.message.Exchange.{Exchange}
 use Rattle.vb_host.specs.declared.seat.Seat.{Seat}
-use Rattle.vb_host.specs.Messages.{another, ask_number, ask_of, asked_line, asked_pages, has_granted, is_asked_anew, is_let_in, is_received, lingers, needs_reset, needs_room, own_number, plain_report, read_target, removed_by, reset_pages, said_outside, shown_ballooned, taken_away, waits_for_room}
-use Rattle.vb_host.specs.Sessions.{GrantsStay, MessagesAreSnapshots, NewAsksCount, ReadsRaise}
+use Rattle.vb_host.specs.Messages.{another, ask_number, ask_of, asked_line, asked_pages, has_granted, is_new_ask, is_let_in, is_received, lingers, needs_reset, needs_room, own_number, plain_report, read_target, removed_by, reset_pages, said_outside, shown_ballooned, taken_away, waits_for_room}
+use Rattle.vb_host.specs.Exchanges.{GrantsStay, MessagesAreSnapshots, NewAsksCount, ReadsRaise}
 use Rattle.vb_host.specs.Outside.{believed_outside}
 use Rattle.vb_host.specs.Seats.{is_uncounted, line_number}
 use Rattle.vb_host.proofs.Sound.{and_left, and_right, either}
 
 -- ---- a deflate that was granted
 
-held_of : (x : Session) (m : Message) (s : Seat) → has_granted x m s ≡ true → nat_lt 0 m.held ≡ true
+held_of : (x : Exchange) (m : Message) (s : Seat) → has_granted x m s ≡ true → nat_lt 0 m.held ≡ true
 held_of x m s h = and_left (nat_lt 0 m.held) _ (and_left (nat_lt 0 m.held && (x.ask == 3)) _ (and_left (nat_lt 0 m.held && (x.ask == 3) && (x.asked == m.deflate)) _ h))
 
-is_its_ask : (x : Session) (m : Message) (s : Seat) → has_granted x m s ≡ true → (x.ask == 3) ≡ true
+is_its_ask : (x : Exchange) (m : Message) (s : Seat) → has_granted x m s ≡ true → (x.ask == 3) ≡ true
 is_its_ask x m s h = and_right (nat_lt 0 m.held) _ (and_left (nat_lt 0 m.held && (x.ask == 3)) _ (and_left (nat_lt 0 m.held && (x.ask == 3) && (x.asked == m.deflate)) _ h))
 
-is_its_number : (x : Session) (m : Message) (s : Seat) → has_granted x m s ≡ true → (x.asked == m.deflate) ≡ true
+is_its_number : (x : Exchange) (m : Message) (s : Seat) → has_granted x m s ≡ true → (x.asked == m.deflate) ≡ true
 is_its_number x m s h = and_right (nat_lt 0 m.held && (x.ask == 3)) _ (and_left (nat_lt 0 m.held && (x.ask == 3) && (x.asked == m.deflate)) _ h)
 
-asks_deflate : (x : Session) (m : Message) (s : Seat) → has_granted x m s ≡ true → ask_of x m s ≡ Deflate
+asks_deflate : (x : Exchange) (m : Message) (s : Seat) → has_granted x m s ≡ true → ask_of x m s ≡ Deflate
 asks_deflate x m s h = either (λ (a : Ask). a ≡ Deflate) (has_granted x m s) _ _ (λ _. refl) (λ f. absurd (cc))
 
 both : (a b : Bool) → a ≡ true → b ≡ true → (a && b) ≡ true
@@ -50,7 +50,7 @@ next_or n true e = let f : n < 18446744073709551615 = grind (arith, nat_tests) i
 next_or n false e = inr (grind (arith, nat_tests))
 
 pub new_asks_count : NewAsksCount
-new_asks_count now x m s h = either (λ (y : Session). (x.asks < y.asks) ⊎ (18446744073709551615 ≤ x.asks)) (is_asked_anew x m s) _ _
+new_asks_count now x m s h = either (λ (y : Exchange). (x.asks < y.asks) ⊎ (18446744073709551615 ≤ x.asks)) (is_new_ask x m s) _ _
     (λ _. next_or x.asks (nat_lt x.asks 18446744073709551615) refl) (λ f. absurd (cc))
 
 -- ---- what the driver has read
@@ -95,7 +95,7 @@ reset_not m s e = subst (λ (w : ℕ). ((w == 2) && nat_lt 0 (reset_pages m s)) 
 needs_not : (m : Message) (s : Seat) → m.waits ≡ 0 → needs_room m s ≡ false
 needs_not m s e = subst (λ (w : ℕ). ((w == 1) && not (is_let_in s)) ≡ false) (sym e) refl
 
-asks_by : (x : Session) (m : Message) (s : Seat) → m.waits ≡ 0 → ask_of x m s ≡ (if nat_lt 0 m.held then Deflate else Nothing)
+asks_by : (x : Exchange) (m : Message) (s : Seat) → m.waits ≡ 0 → ask_of x m s ≡ (if nat_lt 0 m.held then Deflate else Nothing)
 asks_by x m s e = idle (has_granted x m s) (needs_reset m s) (needs_room m s) (nat_lt 0 m.held) (reset_not m s e) (needs_not m s e) (held_of x m s)
 
 -- its deflate, or none, in the line of deflates
@@ -107,10 +107,10 @@ line_by : (b : Bool) → line_number (asked_line (if b then Deflate else Nothing
 line_by true = refl
 line_by false = refl
 
-holds : (x : Session) (m : Message) (s : Seat) → m.waits ≡ 0 → asked_pages (ask_of x m s) m s ≡ m.held
+holds : (x : Exchange) (m : Message) (s : Seat) → m.waits ≡ 0 → asked_pages (ask_of x m s) m s ≡ m.held
 holds x m s e = subst (λ (a : Ask). asked_pages a m s ≡ m.held) (sym (asks_by x m s e)) (pages_by (nat_lt 0 m.held) m s refl)
 
-waits_in : (x : Session) (m : Message) (s : Seat) → m.waits ≡ 0 → line_number (asked_line (ask_of x m s)) ≡ 0
+waits_in : (x : Exchange) (m : Message) (s : Seat) → m.waits ≡ 0 → line_number (asked_line (ask_of x m s)) ≡ 0
 waits_in x m s e = subst (λ (a : Ask). line_number (asked_line a) ≡ 0) (sym (asks_by x m s e)) (line_by (nat_lt 0 m.held))
 
 shows : (m : Message) (s : Seat) → m.waits ≡ 0 → shown_ballooned m s ≡ m.ballooned

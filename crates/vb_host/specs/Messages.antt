@@ -8,7 +8,7 @@ use Rattle.vb_host.specs.declared.message.Hold.{Hold}
 use Rattle.vb_host.specs.declared.message.Hold.TheVariants.{Free, Strict, MayStartSmall}
 use Rattle.vb_host.specs.declared.message.Hold.TheVariants.{HasStartedSmall}
 use Rattle.vb_host.specs.declared.message.Message.{Message}
-use Rattle.vb_host.specs.declared.message.Session.{Session}
+use Rattle.vb_host.specs.declared.message.Exchange.{Exchange}
 use Rattle.vb_host.specs.declared.reading.Reading.{Reading}
 use Rattle.vb_host.specs.declared.reading.TheConstants.{LINGERS}
 use Rattle.vb_host.specs.declared.report.Report.{Report}
@@ -85,7 +85,7 @@ abbrev pub reset_pages : Message → Seat → ℕ
 reset_pages m s = m.ballooned - starts_without m s.pages
 
 -- The deflate that it holds back is what it asked for last, and was granted.
-abbrev pub has_granted : Session → Message → Seat → Bool
+abbrev pub has_granted : Exchange → Message → Seat → Bool
 has_granted x m s =
     nat_lt 0 m.held && (x.ask == ask_number Deflate) && (x.asked == m.deflate)
     && (x.asks == s.granted)
@@ -98,7 +98,7 @@ needs_reset m s = waits_for_reset m && nat_lt 0 (reset_pages m s)
 abbrev pub needs_room : Message → Seat → Bool
 needs_room m s = waits_for_room m && not (is_let_in s)
 
-abbrev pub ask_of : Session → Message → Seat → Ask
+abbrev pub ask_of : Exchange → Message → Seat → Ask
 ask_of x m s =
     if has_granted x m s then Deflate
     else if needs_reset m s then Reset
@@ -127,34 +127,34 @@ asked_line Reset = Resets
 asked_line Deflate = Deflates
 
 -- It asks for something else than before: by its own number, or for another thing.
-abbrev pub is_asked_anew : Session → Message → Seat → Bool
-is_asked_anew x m s =
+abbrev pub is_new_ask : Exchange → Message → Seat → Bool
+is_new_ask x m s =
     not (ask_number (ask_of x m s) == ask_number Nothing)
     && not ((x.ask == ask_number (ask_of x m s)) && (x.asked == own_number (ask_of x m s) m))
 
 -- ---- which target its driver may obey
 
 -- The last target was sent, the process has reported after it, and says that it has that one.
-abbrev pub is_received : Session → Message → Seat → Bool
+abbrev pub is_received : Exchange → Message → Seat → Bool
 is_received x m s =
     (x.sent == s.target_number) && nat_le x.sent_by x.obeyed && (m.target == s.target)
 
 -- A driver whose reads aren't seen may obey an earlier target for a while.
-abbrev pub lingers : ℕ → Session → Bool
+abbrev pub lingers : ℕ → Exchange → Bool
 lingers now x = (x.received == 0) || nat_lt (now - x.received) LINGERS
 
 -- any number but this one
 abbrev pub another : ℕ → ℕ
 another n = if nat_lt 0 n then n - 1 else 1
 
-abbrev pub read_target : ℕ → Session → Message → Seat → ℕ
+abbrev pub read_target : ℕ → Exchange → Message → Seat → ℕ
 read_target now x m s =
     if nat_lt 0 m.read then m.read - 1
     else if lingers now x then another s.target
     else s.target
 
 -- A target that isn't received has another number than the last one.
-abbrev pub received_number : Session → Message → Seat → ℕ
+abbrev pub received_number : Exchange → Message → Seat → ℕ
 received_number x m s =
     if is_received x m s then s.target_number else another s.target_number
 
@@ -188,7 +188,7 @@ abbrev pub removed_by : Message → Seat → ℕ
 removed_by m s = min (s.removed + taken_away m s) 18446744073709551615
 
 -- What it asks for is a deflate with the number of that ask.
-abbrev pub plain_report : ℕ → Session → Message → Seat → Report
+abbrev pub plain_report : ℕ → Exchange → Message → Seat → Report
 plain_report now x m s =
     record {
       ballooned = shown_ballooned m s;
@@ -203,19 +203,19 @@ plain_report now x m s =
     }
 
 -- No more is outside than may be.
-abbrev pub report_of : ℕ → Session → Message → Seat → Report
+abbrev pub report_of : ℕ → Exchange → Message → Seat → Report
 report_of now x m s =
     with_outside (believed_outside (plain_report now x m s) s) (plain_report now x m s)
 
 -- ---- what else a message says
 
 -- what a strict guest has taken unasked
-abbrev pub taken : ℕ → Session → Message → Seat → ℕ
+abbrev pub taken : ℕ → Exchange → Message → Seat → ℕ
 taken now x m s = if is_strict m then taken_unasked (plain_report now x m s) s else 0
 
 -- Pages that return are lent already, and join its memory; not where the guest took some unasked:
 -- of such a message the step takes nothing of memory.
-abbrev pub joins : ℕ → Session → Message → Seat → ℕ
+abbrev pub joins : ℕ → Exchange → Message → Seat → ℕ
 joins now x m s = if nat_lt 0 (taken now x m s) then 0 else returned m s
 
 -- the pages of its memory that have room
@@ -233,7 +233,7 @@ wants_beyond m s more = if waits_for_room m then beyond s more m.wanted else 0
 abbrev pub resets_at_once : Message → Seat → Bool
 resets_at_once m s = waits_for_reset m && (reset_pages m s == 0)
 
-abbrev pub reading : ℕ → Session → Message → Seat → Reading
+abbrev pub reading : ℕ → Exchange → Message → Seat → Reading
 reading now x m s =
     record {
       report = report_of now x m s;
@@ -274,9 +274,9 @@ followed m s pages target =
 -- ---- what is noted of it
 
 -- An ask that is another than before has the next number.
-abbrev pub asking : Session → Message → Seat → Session
+abbrev pub asking : Exchange → Message → Seat → Exchange
 asking x m s =
-    if is_asked_anew x m s
+    if is_new_ask x m s
     then record x {
       ask = ask_number (ask_of x m s);
       asked = own_number (ask_of x m s) m;
@@ -284,9 +284,9 @@ asking x m s =
     }
     else x
 
-abbrev pub received_since : ℕ → Session → Message → Seat → ℕ
+abbrev pub received_since : ℕ → Exchange → Message → Seat → ℕ
 received_since now x m s =
     if is_received x m s then (if x.received == 0 then now else x.received) else 0
 
-abbrev pub noted : ℕ → Session → Message → Seat → Session
+abbrev pub noted : ℕ → Exchange → Message → Seat → Exchange
 noted now x m s = record (asking x m s) { received = received_since now x m s }

@@ -2,13 +2,13 @@
 
 ghost use Rattle.std.specs.Prelude.{◌≡◌};
 ghost use Rattle.vb_host.specs.Messages.{ask_of, asked_line, asked_pages, asking, has_granted};
-ghost use Rattle.vb_host.specs.Messages.{is_asked_anew, is_let_in, is_received, needs_reset};
+ghost use Rattle.vb_host.specs.Messages.{is_new_ask, is_let_in, is_received, needs_reset};
 ghost use Rattle.vb_host.specs.Messages.{needs_room, noted, own_number, received_since};
 ghost use Rattle.vb_host.specs.Messages.{reset_pages, resets_at_once, starts_small};
-ghost use Rattle.vb_host.specs.Sessions.{GrantsStay, MessagesAreSnapshots, NewAsksCount};
-ghost use Rattle.vb_host.specs.Sessions.{ReadsRaise};
+ghost use Rattle.vb_host.specs.Exchanges.{GrantsStay, MessagesAreSnapshots, NewAsksCount};
+ghost use Rattle.vb_host.specs.Exchanges.{ReadsRaise};
 
-use crate::{Ask, Message, Seat, Session, WaitingLine};
+use crate::{Ask, Exchange, Message, Seat, WaitingLine};
 
 impl Ask {
     /// The process's own number of it.
@@ -69,13 +69,13 @@ impl Seat {
 
     /// Whether the deflate that its process holds back is what that asked for last, and was
     /// granted.
-    fn has_granted(&self, session: &Session, message: &Message) -> bool
-        ensures { result ≡ has_granted session.now message.now self.now }
+    fn has_granted(&self, exchange: &Exchange, message: &Message) -> bool
+        ensures { result ≡ has_granted exchange.now message.now self.now }
     {
         message.held > 0
-            && session.ask == Ask::Deflate.number()
-            && session.asked == message.deflate
-            && session.asks == self.granted
+            && exchange.ask == Ask::Deflate.number()
+            && exchange.asked == message.deflate
+            && exchange.asks == self.granted
     }
 
     /// Whether its process waits in a reset that takes any page.
@@ -93,10 +93,10 @@ impl Seat {
     }
 
     /// What its process asks for.
-    pub(crate) fn ask(&self, session: &Session, message: &Message) -> Ask
-        ensures { result ≡ ask_of session.now message.now self.now }
+    pub(crate) fn ask(&self, exchange: &Exchange, message: &Message) -> Ask
+        ensures { result ≡ ask_of exchange.now message.now self.now }
     {
-        if self.has_granted(session, message) {
+        if self.has_granted(exchange, message) {
             Ask::Deflate
         } else if self.needs_reset(message) {
             Ask::Reset
@@ -122,58 +122,58 @@ impl Seat {
     }
 
     /// Whether its process asks for something else than before.
-    fn is_asked_anew(&self, session: &Session, message: &Message) -> bool
-        ensures { result ≡ is_asked_anew session.now message.now self.now }
+    fn is_new_ask(&self, exchange: &Exchange, message: &Message) -> bool
+        ensures { result ≡ is_new_ask exchange.now message.now self.now }
     {
-        let ask = self.ask(session, message);
+        let ask = self.ask(exchange, message);
         let number = ask.number();
-        let is_same = session.ask == number && session.asked == ask.own_number(message);
+        let is_same = exchange.ask == number && exchange.asked == ask.own_number(message);
         number != Ask::Nothing.number() && !is_same
     }
 
     /// What is noted of what a message asks for.
-    fn asking(&self, session: &Session, message: &Message) -> Session
-        ensures { result ≡ asking session.now message.now self.now }
+    fn asking(&self, exchange: &Exchange, message: &Message) -> Exchange
+        ensures { result ≡ asking exchange.now message.now self.now }
     {
-        let mut noted = *session;
-        if self.is_asked_anew(session, message) {
-            let ask = self.ask(session, message);
+        let mut noted = *exchange;
+        if self.is_new_ask(exchange, message) {
+            let ask = self.ask(exchange, message);
             noted.ask = ask.number();
             noted.asked = ask.own_number(message);
-            noted.asks = session.asks.saturating_add(1);
+            noted.asks = exchange.asks.saturating_add(1);
         }
         noted
     }
 
     /// Whether its process is known to have received its last target.
-    pub(crate) fn is_received(&self, session: &Session, message: &Message) -> bool
-        ensures { result ≡ is_received session.now message.now self.now }
+    pub(crate) fn is_received(&self, exchange: &Exchange, message: &Message) -> bool
+        ensures { result ≡ is_received exchange.now message.now self.now }
     {
-        session.sent == self.target_number
-            && session.sent_by <= session.obeyed
+        exchange.sent == self.target_number
+            && exchange.sent_by <= exchange.obeyed
             && message.target == self.target
     }
 
     /// Since when its process is known to have received its last target.
-    fn received_since(&self, session: &Session, message: &Message, now: u64) -> u64
-        ensures { result ≡ received_since now session.now message.now self.now }
+    fn received_since(&self, exchange: &Exchange, message: &Message, now: u64) -> u64
+        ensures { result ≡ received_since now exchange.now message.now self.now }
     {
-        if !self.is_received(session, message) {
+        if !self.is_received(exchange, message) {
             0
-        } else if session.received == 0 {
+        } else if exchange.received == 0 {
             now
         } else {
-            session.received
+            exchange.received
         }
     }
 
     /// What is noted of a message that comes at this time, in milliseconds: an ask that is another
     /// than before has the next number.
-    pub fn noted(&self, session: &Session, message: &Message, now: u64) -> Session
-        ensures { result ≡ noted now session.now message.now self.now }
+    pub fn noted(&self, exchange: &Exchange, message: &Message, now: u64) -> Exchange
+        ensures { result ≡ noted now exchange.now message.now self.now }
     {
-        let mut noted = self.asking(session, message);
-        noted.received = self.received_since(session, message, now);
+        let mut noted = self.asking(exchange, message);
+        noted.received = self.received_since(exchange, message, now);
         noted
     }
 }

@@ -102,7 +102,7 @@ pub struct Message {
 /// What a lender notes of a guest's process from one message to the next.
 #[repr(C)]
 #[derive(Clone, Copy, Debug, Default, PartialEq, Eq)]
-pub struct Session {
+pub struct Exchange {
     /// What the process has asked for last: the number of an `Ask`, and its own number of that.
     pub ask: u32,
     pub asked: u32,

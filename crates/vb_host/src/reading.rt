@@ -7,7 +7,7 @@ ghost use Rattle.vb_host.specs.Messages.{plain_report, read_target, reading, rec
 ghost use Rattle.vb_host.specs.Messages.{removed_by, report_of, returned, roomy, said_outside};
 ghost use Rattle.vb_host.specs.Messages.{shown_ballooned, taken, taken_away, wants_beyond};
 
-use crate::{Message, Report, Seat, Session};
+use crate::{Exchange, Message, Report, Seat};
 
 /// The milliseconds for which a driver whose reads aren't seen may obey an earlier target than the
 /// one that its process has received.
@@ -36,7 +36,14 @@ pub struct Reading {
     pub resets: u32,
 }
 
-impl Session {
+/// Another number than this one.
+fn another(number: u64) -> u64
+    ensures { result ≡ another number }
+{
+    if number > 0 { number - 1 } else { 1 }
+}
+
+impl Exchange {
     /// Whether a driver whose reads aren't seen may obey an earlier target yet.
     fn lingers(&self, now: u64) -> bool
         ensures { result ≡ lingers now self.now }
@@ -53,46 +60,28 @@ impl Seat {
         if self.is_let_in() { self.pages } else { 0 }
     }
 
-    /// Another target than its last one.
-    fn other_target(&self) -> u32
-        ensures { result ≡ another self.now.target }
-    {
-        if self.target > 0 { self.target - 1 } else { 1 }
-    }
-
-    /// Another number than that of its last target.
-    fn other_number(&self) -> u64
-        ensures { result ≡ another self.now.target_number }
-    {
-        if self.target_number > 0 {
-            self.target_number - 1
-        } else {
-            1
-        }
-    }
-
     /// The target that its driver has read last, or another one than its last, where it may obey
     /// an earlier one yet.
-    fn read_target(&self, session: &Session, message: &Message, now: u64) -> u32
-        ensures { result ≡ read_target now session.now message.now self.now }
+    fn read_target(&self, exchange: &Exchange, message: &Message, now: u64) -> u32
+        ensures { result ≡ read_target now exchange.now message.now self.now }
     {
         if message.read > 0 {
             message.read - 1
-        } else if session.lingers(now) {
-            self.other_target()
+        } else if exchange.lingers(now) {
+            another(u64::from(self.target)) as u32
         } else {
             self.target
         }
     }
 
     /// The number of its last target, where its process has received that; else another one.
-    fn received_number(&self, session: &Session, message: &Message) -> u64
-        ensures { result ≡ received_number session.now message.now self.now }
+    fn received_number(&self, exchange: &Exchange, message: &Message) -> u64
+        ensures { result ≡ received_number exchange.now message.now self.now }
     {
-        if self.is_received(session, message) {
+        if self.is_received(exchange, message) {
             self.target_number
         } else {
-            self.other_number()
+            another(self.target_number)
         }
     }
 
@@ -155,48 +144,48 @@ impl Seat {
     }
 
     /// A message as a report, with all that it says to be outside.
-    fn plain_report(&self, session: &Session, message: &Message, now: u64) -> Report
-        ensures { result ≡ plain_report now session.now message.now self.now }
+    fn plain_report(&self, exchange: &Exchange, message: &Message, now: u64) -> Report
+        ensures { result ≡ plain_report now exchange.now message.now self.now }
     {
-        let ask = self.ask(session, message);
+        let ask = self.ask(exchange, message);
         Report {
             ballooned: self.shown_ballooned(message),
             target: message.target,
-            read_target: self.read_target(session, message, now),
+            read_target: self.read_target(exchange, message, now),
             held: self.asked_pages(ask, message),
             line: ask.line().number(),
             outside: self.said_outside(message),
-            target_number: self.received_number(session, message),
-            deflates: session.asks,
+            target_number: self.received_number(exchange, message),
+            deflates: exchange.asks,
             removed: self.removed_by(message),
         }
     }
 
     /// A message as the step takes it: with no more outside than may be.
-    fn report(&self, session: &Session, message: &Message, now: u64) -> Report
-        ensures { result ≡ report_of now session.now message.now self.now }
+    fn report(&self, exchange: &Exchange, message: &Message, now: u64) -> Report
+        ensures { result ≡ report_of now exchange.now message.now self.now }
     {
-        let mut report = self.plain_report(session, message, now);
+        let mut report = self.plain_report(exchange, message, now);
         report.outside = self.believed_outside(&report);
         report
     }
 
     /// The pages that a strict guest has taken unasked.
-    fn taken(&self, session: &Session, message: &Message, now: u64) -> u32
-        ensures { result ≡ taken now session.now message.now self.now }
+    fn taken(&self, exchange: &Exchange, message: &Message, now: u64) -> u32
+        ensures { result ≡ taken now exchange.now message.now self.now }
     {
         if message.is_strict() {
-            self.taken_unasked(&self.plain_report(session, message, now))
+            self.taken_unasked(&self.plain_report(exchange, message, now))
         } else {
             0
         }
     }
 
     /// The pages that return to its memory.
-    fn joins(&self, session: &Session, message: &Message, now: u64) -> u32
-        ensures { result ≡ joins now session.now message.now self.now }
+    fn joins(&self, exchange: &Exchange, message: &Message, now: u64) -> u32
+        ensures { result ≡ joins now exchange.now message.now self.now }
     {
-        if self.taken(session, message, now) > 0 {
+        if self.taken(exchange, message, now) > 0 {
             0
         } else {
             self.returned(message)
@@ -258,14 +247,14 @@ impl Seat {
     }
 
     /// What a message says of this guest at this time, in milliseconds.
-    pub fn read(&self, session: &Session, message: &Message, now: u64) -> Reading
-        ensures { result ≡ reading now session.now message.now self.now }
+    pub fn read(&self, exchange: &Exchange, message: &Message, now: u64) -> Reading
+        ensures { result ≡ reading now exchange.now message.now self.now }
     {
         let returned = self.returned(message);
-        let joins = self.joins(session, message, now);
+        let joins = self.joins(exchange, message, now);
         Reading {
-            report: self.report(session, message, now),
-            taken: self.taken(session, message, now),
+            report: self.report(exchange, message, now),
+            taken: self.taken(exchange, message, now),
             joins,
             ungranted: self.beyond(message.pages, returned),
             brings: self.wants_beyond(message, returned),

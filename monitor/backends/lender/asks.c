@@ -31,13 +31,13 @@ VbMessage ask_message(const struct seat *seat, const struct lending_message *sai
 VbReading ask_read(const struct seat *seat, const struct lending_message *said)
 {
     VbMessage message = ask_message(seat, said);
-    return vb_seat_read(place_of(seat), &seat->session, &message, (uint64_t)loop_now());
+    return vb_seat_read(place_of(seat), &seat->exchange, &message, (uint64_t)loop_now());
 }
 
 void ask_note(struct seat *seat)
 {
     VbMessage message = ask_message(seat, &seat->report);
-    uint64_t asks = seat->session.asks;
-    seat->session = vb_seat_note(place_of(seat), &seat->session, &message, (uint64_t)loop_now());
-    seat->host->news |= seat->session.asks != asks;
+    uint64_t asks = seat->exchange.asks;
+    seat->exchange = vb_seat_note(place_of(seat), &seat->exchange, &message, (uint64_t)loop_now());
+    seat->host->news |= seat->exchange.asks != asks;
 }

@@ -110,7 +110,7 @@ struct seat {
     bool cooperates; /* it hasn't taken pages that nobody granted */
     /* What was passed on to the lender's step, and sent by what that made of it. */
     size_t place, added;   /* of its VbSeat; of that of memory which is added to it: NO_PLACE */
-    VbSession session;     /* what was noted of its process, and sent to it */
+    VbExchange exchange;   /* what was noted of its process, and sent to it */
     uint64_t granted_asks; /* the number of the last grant that was noted */
     uint32_t lent;    /* frames that were lent to it as what a step made of it was looked at last */
     uint64_t granted; /* frames that were lent to it since it came, as it asked for them or was told

@@ -299,7 +299,7 @@ static bool reports_are_new(const struct host *host)
     for (unsigned i = 0; i < host->count; i++) {
         const struct seat *seat = host->seats[i];
         if (seat_is_taken(seat) && seat->number > question->number &&
-            seat->session.obeyed <= question->number && seat_reports(seat))
+            seat->exchange.obeyed <= question->number && seat_reports(seat))
             return false;
     }
     return true;

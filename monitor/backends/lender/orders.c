@@ -49,15 +49,15 @@ void seat_tell(struct seat *seat)
         return;
     tell_target(seat);
     seat_look(seat, false);
-    seat->session.sent = place_of(seat)->target_number;
-    seat->session.sent_by = seat->number;
-    seat->session.received = 0;
+    seat->exchange.sent = place_of(seat)->target_number;
+    seat->exchange.sent_by = seat->number;
+    seat->exchange.received = 0;
 }
 
 /* Whether it was sent no target, or has received the last one. */
 static bool is_told(const struct seat *seat)
 {
-    return seat->session.sent == 0 || seat->session.received > 0;
+    return seat->exchange.sent == 0 || seat->exchange.received > 0;
 }
 
 void seat_look_again(struct seat *seat, bool asks)

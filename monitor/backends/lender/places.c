@@ -53,7 +53,7 @@ static bool may_have_changed(const struct seat *seat, size_t guest)
 {
     const VbSeat *its = place_of(seat);
     return seat->place == guest || seat->added != NO_PLACE || its->granted != seat->granted_asks ||
-           its->target_number != seat->session.sent;
+           its->target_number != seat->exchange.sent;
 }
 
 /* Notes and sends what a step has made of a guest. */
@@ -66,7 +66,7 @@ static void follow_step(struct seat *seat)
         seat->granted += lent - before;
     if (seat->holds && its->granted != seat->granted_asks)
         note_grant(seat);
-    if (its->target_number != seat->session.sent)
+    if (its->target_number != seat->exchange.sent)
         seat_tell(seat);
 }
 
@@ -244,7 +244,7 @@ void place_takes_over(struct seat *seat)
                        .outside = lending_outside(message),
                        .target_number = 1,
                        .deflates = 1};
-    seat->session.asks = seat->session.sent = seat->granted_asks = 1;
+    seat->exchange.asks = seat->exchange.sent = seat->granted_asks = 1;
     take_over(seat, message->pages, report);
     seat->granted = 0;
     host_changed(seat->host, BY_GUESTS);

@@ -194,7 +194,7 @@ static void take_answer(struct seat *seat, uint64_t number, bool asked)
         return;
     if (number == seat->number)
         seat->asked_at = 0;
-    seat->session.obeyed = number > seat->session.obeyed ? number : seat->session.obeyed;
+    seat->exchange.obeyed = number > seat->exchange.obeyed ? number : seat->exchange.obeyed;
     if (number == question->ask && seat == question->of)
         question->asked = asked;
 }

@@ -52,7 +52,7 @@ void seat_clear(struct seat *seat)
     seat->pressure = (VbPressure){0};
     seat->still = (struct stillness){0};
     seat->moved_at = seat->passed_over = 0;
-    seat->session = (VbSession){0};
+    seat->exchange = (VbExchange){0};
     seat->granted_asks = seat->granted = 0;
     seat->cooperates = true;
     seat->reserves = false;

@@ -24,7 +24,7 @@ static enum wait_end end_of_wait(const struct seat *seat)
     const VbSeat *its = place_of(seat);
     bool waits_for_room = seat_waits_for(seat) == WAITS_FOR_ROOM;
     bool has_room = its->granted > 0 && seat->report.wanted <= its->pages;
-    if (waits_for_room ? has_room : its->granted == seat->session.asks)
+    if (waits_for_room ? has_room : its->granted == seat->exchange.asks)
         return WAS_GRANTED;
     return waits_for_room && seat->refused ? WAS_REFUSED : WAS_WITHDRAWN;
 }

@@ -7,7 +7,7 @@
 
 use crate::raw::*;
 
-pub use crate::raw::{Aim, Message, Pace, Reading, Report, Seat, Session};
+pub use crate::raw::{Aim, Message, Pace, Reading, Report, Seat, Exchange};
 
 /// In which line a deflate waits, as `line` of a [`Report`] has it. Those of an earlier line come
 /// before all of a later one.
@@ -20,7 +20,7 @@ pub enum Line {
     Arrivals = LINE_ARRIVALS as isize,
 }
 
-/// What a guest's process asks for, as `waits` of a [`Message`] and `ask` of a [`Session`] have it.
+/// What a guest's process asks for, as `waits` of a [`Message`] and `ask` of a [`Exchange`] have it.
 #[derive(Clone, Copy, Debug, PartialEq, Eq)]
 pub enum Ask {
     Nothing = ASK_NOTHING as isize,
@@ -134,9 +134,9 @@ impl Seat {
 
     /// What a message of its process says at this time, in milliseconds: the report that
     /// [`Event::Hears`] takes, and numbers of pages.
-    pub fn read(&self, session: &Session, message: &Message, now: u64) -> Reading {
+    pub fn read(&self, exchange: &Exchange, message: &Message, now: u64) -> Reading {
         // SAFETY: the pointers are of `&`.
-        unsafe { vb_seat_read(self, session, message, now) }
+        unsafe { vb_seat_read(self, exchange, message, now) }
     }
 
     /// The report by which [`Event::TakesOver`] follows a guest that isn't strict, with these pages
@@ -152,10 +152,10 @@ impl Seat {
         unsafe { vb_seat_pace(self, aim) }
     }
 
-    /// The session once that message is noted; to be noted before the message is read.
-    pub fn note(&self, session: &Session, message: &Message, now: u64) -> Session {
+    /// The exchange once that message is noted; to be noted before the message is read.
+    pub fn note(&self, exchange: &Exchange, message: &Message, now: u64) -> Exchange {
         // SAFETY: the pointers are of `&`.
-        unsafe { vb_seat_note(self, session, message, now) }
+        unsafe { vb_seat_note(self, exchange, message, now) }
     }
 }
 

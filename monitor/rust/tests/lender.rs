@@ -1,6 +1,6 @@
 //! A host of 100 frames and two guests, by pencil: vb_host.h over a list of seats.
 
-use vb_balloon::lender::{Aim, Ask, Event, Hold, Lender, Line, Message, Pace, Reading, Report, Seat, Session};
+use vb_balloon::lender::{Aim, Ask, Event, Hold, Lender, Line, Message, Pace, Reading, Report, Seat, Exchange};
 
 /// What the process of a guest of these pages reports before it is let in.
 fn coming(pages: u32, ballooned: u32) -> Report {
@@ -70,11 +70,11 @@ fn orders_are_due_until_a_report_shows_them() {
 #[test]
 fn a_message_is_read_as_a_report() {
     let seat = Seat { pages: 60, ballooned: 30, target: 30, outside: 7, deflates: 6, granted: 6, ..Seat::default() };
-    let session = Session { ask: Ask::Deflate as u32, asked: 8, asks: 6, ..Session::default() };
+    let exchange = Exchange { ask: Ask::Deflate as u32, asked: 8, asks: 6, ..Exchange::default() };
     let message = Message { pages: 50, ballooned: 26, target: 30, read: 31, outside: 14, ..Message::default() };
     let message = Message { held: 2, deflate: 9, holds: Hold::Deflates as u32, ..message };
-    let noted = seat.note(&session, &message, 70);
-    assert_eq!(noted, Session { asked: 9, asks: 7, received: 70, ..session });
+    let noted = seat.note(&exchange, &message, 70);
+    assert_eq!(noted, Exchange { asked: 9, asks: 7, received: 70, ..exchange });
     let reading = seat.read(&noted, &message, 70);
     let report = Report { ballooned: 26, target: 30, read_target: 30, held: 2, outside: 13, ..Report::default() };
     assert_eq!(reading, Reading { report: Report { deflates: 7, removed: 10, ..report }, ..Reading::default() });

@@ -1,6 +1,7 @@
 """A guest's process that ends amid its work, and another one that takes it over on the same
 client, which notices nothing."""
 
+import contextlib
 import os
 import random
 import select
@@ -290,14 +291,21 @@ WRONG = (
 )
 
 
-@pytest.mark.timeout(900)
-@pytest.mark.parametrize("wrong", [pytest.param(it, marks=pytest.mark.wrong(it)) for it in WRONG])
-def test_a_process_that_goes_on_wrongly_is_found(lend, cutting, wrong, monkeypatch):
+@contextlib.contextmanager
+def is_found(wrong, monkeypatch):
+    """Later processes do something wrong, by which a fault is found; waits end soon."""
     monkeypatch.setenv("ANEW_WRONG", wrong)
     for it in ("vhost_client", "tenants", "waiting"):
         monkeypatch.setattr(f"{it}.PATIENCE", 2)
-    lender = lend(64, *WIDE, "--strict", "--lines", "10000", "--program", cutting)
     with pytest.raises((AssertionError, OSError, struct.error, TypeError)) as found:
+        yield
+    print(f"{wrong}: {found.value}")
+
+
+@pytest.mark.timeout(900)
+@pytest.mark.parametrize("wrong", [pytest.param(it, marks=pytest.mark.wrong(it)) for it in WRONG])
+def test_a_process_that_goes_on_wrongly_is_found(lend, cutting, wrong, monkeypatch):
+    with is_found(wrong, monkeypatch):
+        lender = lend(64, *WIDE, "--strict", "--lines", "10000", "--program", cutting)
         for way in BEGINS:
             cut_everywhere(lender, BEGINS[way], range(1, MOST_CUTS), True)
-    print(f"{wrong}: {found.value}")

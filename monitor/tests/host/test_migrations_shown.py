@@ -46,7 +46,7 @@ def logs(client, on):
 
 @EACH_WAY
 def test_a_guest_that_leaves(migrating, lend, way):
-    """As long as what its device writes is logged; whatever goes on with it meanwhile."""
+    """As long as what its device writes is logged; whichever process or lender takes it over."""
     lender, client = migrating()
     becomes(lender, NONE)
     logs(client, True)

@@ -23,7 +23,7 @@
  *     old-round         hints are told whose round's id wasn't read
  *     after-done        hints are told whose round has ended
  *     discards-kept     hints are discarded that are to be kept
- *     ids-anew          the ids of rounds restart with each process
+ *     ids-restart       the ids of rounds restart with each process
  *
  * Three are right, but for their age or their machine:
  *
@@ -177,7 +177,7 @@ WRAPPED(uint32_t, vb_begin, VbNotice *notice, VbBalloon *balloon, const VbRegion
 
 WRAPPED(void, hints_go_on, struct backend *backend, VbBalloon before)
 {
-    if (!is("ids-anew"))
+    if (!is("ids-restart"))
         __real_hints_go_on(backend, before);
 }
 

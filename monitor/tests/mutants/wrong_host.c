@@ -120,10 +120,10 @@ uint64_t __wrap_policy_lacks(struct host *host, const struct seat *newcomer, uin
     return wrong() == ADMITS_ALL ? 0 : __real_policy_lacks(host, newcomer, pages);
 }
 
-VbReading __wrap_vb_seat_read(const VbSeat *seat, const VbSession *session,
+VbReading __wrap_vb_seat_read(const VbSeat *seat, const VbExchange *exchange,
                               const VbMessage *message, uint64_t now)
 {
-    VbReading reading = __real_vb_seat_read(seat, session, message, now);
+    VbReading reading = __real_vb_seat_read(seat, exchange, message, now);
     if (wrong() != LENDS_ALL)
         return reading;
     reading.without = 0;

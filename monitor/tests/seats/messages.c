@@ -16,9 +16,9 @@ static VbSeat seat_of_60(void)
 }
 
 /* Its fourth target was sent before the twelfth order to report, and received at 1000 ms. */
-static VbSession session_of_6(void)
+static VbExchange exchange_of_6(void)
 {
-    return (VbSession){VB_ASK_DEFLATE, 8, 6, 4, 12, 12, 1000};
+    return (VbExchange){VB_ASK_DEFLATE, 8, 6, 4, 12, 12, 1000};
 }
 
 /* What it says where it is as it was. */
@@ -69,21 +69,21 @@ static void check_memories(void)
 {
     for (size_t i = 0; i < COUNT(memories); i++) {
         VbSeat seat = seat_of_60();
-        VbSession session = session_of_6();
+        VbExchange exchange = exchange_of_6();
         VbMessage message = message_of_60();
         message.pages = memories[i].pages;
         message.ballooned = memories[i].ballooned;
         message.held = memories[i].held;
         message.outside = memories[i].says;
-        session.asks = memories[i].asks;
-        VbReading reading = vb_seat_read(&seat, &session, &message, 1000);
+        exchange.asks = memories[i].asks;
+        VbReading reading = vb_seat_read(&seat, &exchange, &message, 1000);
         expect(reading.report.outside == memories[i].outside, memories[i].what);
         expect(reading.taken == memories[i].taken, memories[i].what);
         expect(reading.report.removed == 60 - memories[i].pages, memories[i].what);
         uint32_t then = memories[i].taken > 0 ? 7 : memories[i].outside;
         expect(outside_after(reading.report) == then, memories[i].what);
         message.holds = VB_HOLDS_NOTHING;
-        reading = vb_seat_read(&seat, &session, &message, 1000);
+        reading = vb_seat_read(&seat, &exchange, &message, 1000);
         expect(reading.taken == 0, "who isn't strict takes none unasked");
     }
 }
@@ -107,7 +107,7 @@ static void check_returns(void)
 {
     for (size_t i = 0; i < COUNT(returns); i++) {
         VbSeat seat = seat_of_60();
-        VbSession session = session_of_6();
+        VbExchange exchange = exchange_of_6();
         VbMessage message = message_of_60();
         message.pages = returns[i].pages;
         message.outside = returns[i].says;
@@ -115,7 +115,7 @@ static void check_returns(void)
         message.files = returns[i].files;
         if (returns[i].uncounted)
             seat.ballooned = seat.least_target = 0, seat.uncounted = 1;
-        VbReading reading = vb_seat_read(&seat, &session, &message, 1000);
+        VbReading reading = vb_seat_read(&seat, &exchange, &message, 1000);
         expect(reading.report.outside == returns[i].outside, returns[i].what);
         expect(reading.joins == returns[i].joins, returns[i].what);
         expect(reading.ungranted == returns[i].ungranted, returns[i].what);
@@ -151,7 +151,7 @@ static void check_asks(void)
 {
     for (size_t i = 0; i < COUNT(asks); i++) {
         VbSeat seat = seat_of_60();
-        VbSession session = session_of_6();
+        VbExchange exchange = exchange_of_6();
         VbMessage message = message_of_60();
         seat.granted = asks[i].granted;
         message.waits = asks[i].waits;
@@ -161,14 +161,14 @@ static void check_asks(void)
         message.limited = asks[i].limited;
         message.start = asks[i].limited ? asks[i].start : UINT32_MAX;
         message.holds = VB_MAY_START_SMALL;
-        VbSession then = vb_seat_note(&seat, &session, &message, 9000);
+        VbExchange then = vb_seat_note(&seat, &exchange, &message, 9000);
         expect(then.asks == 6u + asks[i].is_new, asks[i].what);
         VbReading reading = vb_seat_read(&seat, &then, &message, 9000);
         expect(reading.report.held == asks[i].asks_for, asks[i].what);
         expect(reading.report.line == asks[i].line, asks[i].what);
         expect(reading.report.deflates == then.asks, asks[i].what);
         expect(reading.resets == asks[i].resets, asks[i].what);
-        VbSession again = vb_seat_note(&seat, &then, &message, 9999);
+        VbExchange again = vb_seat_note(&seat, &then, &message, 9999);
         expect(!memcmp(&again, &then, sizeof then), "an ask is noted once");
     }
 }
@@ -177,10 +177,10 @@ static void check_asks(void)
 static void check_numbers(void)
 {
     VbSeat seat = seat_of_60();
-    VbSession session = session_of_6();
+    VbExchange exchange = exchange_of_6();
     VbMessage message = message_of_60();
     message.waits = VB_ASK_RESET;
-    VbSession then = vb_seat_note(&seat, &session, &message, 0);
+    VbExchange then = vb_seat_note(&seat, &exchange, &message, 0);
     expect(then.ask == VB_ASK_RESET && then.asked == 5, "a reset has the number of its wait");
     message.waits = VB_ASK_NOTHING;
     message.held = 1;
@@ -214,7 +214,7 @@ static const struct {
 
 static void check_comers(void)
 {
-    VbSession session = {0};
+    VbExchange exchange = {0};
     for (size_t i = 0; i < COUNT(comes); i++) {
         VbSeat seat = {.pages = 80, .ballooned = 50};
         VbMessage message = {.wanted = comes[i].wanted, .ballooned = comes[i].ballooned};
@@ -223,16 +223,16 @@ static void check_comers(void)
         message.holds = comes[i].holds;
         message.start = comes[i].start;
         message.most = comes[i].most;
-        VbReading reading = vb_seat_read(&seat, &session, &message, 0);
+        VbReading reading = vb_seat_read(&seat, &exchange, &message, 0);
         expect(reading.without == comes[i].without, comes[i].what);
         expect(reading.wants == comes[i].wanted, "it waits for all that it wants");
         expect(reading.brings == comes[i].wanted, "it brings all that it wants");
         expect(reading.report.ballooned == 50, "its balloon here is as it was");
         expect(reading.small == (comes[i].holds == VB_HAS_STARTED_SMALL), "it wasn't let in");
         seat.granted = 1;
-        expect(vb_seat_read(&seat, &session, &message, 0).small == 1, "it was let in with less");
+        expect(vb_seat_read(&seat, &exchange, &message, 0).small == 1, "it was let in with less");
         seat.ballooned = 0;
-        reading = vb_seat_read(&seat, &session, &message, 0);
+        reading = vb_seat_read(&seat, &exchange, &message, 0);
         expect(reading.small == (comes[i].holds == VB_HAS_STARTED_SMALL), "it was with all");
         expect(reading.wants == 0, "all that it wants has room");
     }
@@ -264,15 +264,15 @@ static void check_reads(void)
     for (size_t i = 0; i < COUNT(targets); i++) {
         VbSeat seat = seat_of_60();
         VbMessage message = message_of_60();
-        VbSession session = {0, 0, 0, targets[i].sent, targets[i].sent_by, targets[i].obeyed, 0};
-        session.received = targets[i].received;
+        VbExchange exchange = {0, 0, 0, targets[i].sent, targets[i].sent_by, targets[i].obeyed, 0};
+        exchange.received = targets[i].received;
         message.target = targets[i].target;
         message.read = targets[i].read;
-        VbReading reading = vb_seat_read(&seat, &session, &message, targets[i].now);
+        VbReading reading = vb_seat_read(&seat, &exchange, &message, targets[i].now);
         expect(reading.report.read_target == targets[i].read_target, targets[i].what);
         expect(reading.report.target == targets[i].target, targets[i].what);
         expect((reading.report.target_number == 4) == targets[i].is_received, targets[i].what);
-        VbSession then = vb_seat_note(&seat, &session, &message, targets[i].now);
+        VbExchange then = vb_seat_note(&seat, &exchange, &message, targets[i].now);
         expect(then.received == targets[i].then, targets[i].what);
     }
 }
@@ -281,9 +281,9 @@ static void check_reads(void)
 static void check_others(void)
 {
     VbSeat seat = {.pages = 60, .granted = 1};
-    VbSession session = {0};
+    VbExchange exchange = {0};
     VbMessage message = {.pages = 60, .target = 30};
-    VbReport report = vb_seat_read(&seat, &session, &message, 0).report;
+    VbReport report = vb_seat_read(&seat, &exchange, &message, 0).report;
     expect(report.read_target != 0 && report.target_number != 0, "no other number than this one");
 }
 

@@ -14,15 +14,15 @@ static uint64_t count_by(uint64_t count)
     return chance(2) ? count : chance(2) ? count + chance(3) - 1 : any();
 }
 
-static VbSession any_session(const VbSeat *seat)
+static VbExchange any_exchange(const VbSeat *seat)
 {
-    VbSession session = {.ask = chance(5), .asked = chance(3)};
-    session.asks = chance(9) ? count_by(seat->granted) : UINT64_MAX;
-    session.sent = count_by(seat->target_number);
-    session.sent_by = chance(3);
-    session.obeyed = chance(3);
-    session.received = chance(3) ? 1 + chance(9000) : 0;
-    return session;
+    VbExchange exchange = {.ask = chance(5), .asked = chance(3)};
+    exchange.asks = chance(9) ? count_by(seat->granted) : UINT64_MAX;
+    exchange.sent = count_by(seat->target_number);
+    exchange.sent_by = chance(3);
+    exchange.obeyed = chance(3);
+    exchange.received = chance(3) ? 1 + chance(9000) : 0;
+    return exchange;
 }
 
 static VbMessage any_message(const VbSeat *seat)
@@ -60,13 +60,13 @@ static bool paces_alike(const VbSeat *seat)
 
 bool is_read_alike(const VbSeat *seat)
 {
-    VbSession session = any_session(seat);
+    VbExchange exchange = any_exchange(seat);
     VbMessage message = any_message(seat);
-    uint64_t now = chance(3) ? session.received + 2999 + chance(3) : any();
-    VbSession noted = vb_seat_note(seat, &session, &message, now);
-    VbSession other = reference_seat_note(seat, &session, &message, now);
-    VbReading reading = vb_seat_read(seat, &session, &message, now);
-    VbReading beside = reference_seat_read(seat, &session, &message, now);
+    uint64_t now = chance(3) ? exchange.received + 2999 + chance(3) : any();
+    VbExchange noted = vb_seat_note(seat, &exchange, &message, now);
+    VbExchange other = reference_seat_note(seat, &exchange, &message, now);
+    VbReading reading = vb_seat_read(seat, &exchange, &message, now);
+    VbReading beside = reference_seat_read(seat, &exchange, &message, now);
     uint32_t pages = number_by(seat->pages), target = number_by(seat->target);
     VbReport report = vb_seat_follow(seat, &message, pages, target);
     VbReport same = reference_seat_follow(seat, &message, pages, target);

@@ -31,7 +31,7 @@ WRONG = {
     "old-round": "test_hints.py::test_a_story[the id of the round before]",
     "after-done": "test_hints.py::test_a_story[after DONE]",
     "discards-kept": "test_hints.py::test_hints_are_kept",
-    "ids-anew": "test_hints.py::test_ids_go_on_over_a_restart",
+    "ids-restart": "test_hints.py::test_ids_go_on_over_a_restart",
     "log-empty": "test_logs.py::test_a_log_that_is_none[no bytes]",
     "log-nowhere": "test_logs.py::test_a_log_that_is_none[an end that overflows]",
     "log-short": "test_logs.py::test_a_log_that_is_none[a byte more]",
