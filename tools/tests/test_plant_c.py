@@ -7,6 +7,7 @@ import subprocess
 import pytest
 from page_claims import tool
 from seen_by import commands_of, shipped, suites_of
+from waiting import eventually
 from wrong_bodies import drawn, edits_of
 
 PLANT = tool("plant-c")
@@ -174,6 +175,29 @@ def test_what_comes_of_an_edit(tree, tmp_path_factory, old, new, outcome):
     edit = edits_of("monitor/add.c", ADD)[0]._replace(begin=begin, end=begin + len(old), new=new)
     assert PLANT.Tree(str(folder)).judged(edit) == outcome
     assert tree.read_text() == (folder / "monitor/add.c").read_text() == ADD
+
+
+def runs(process):
+    """Whether a process runs."""
+    try:
+        with open(f"/proc/{process}/cmdline", encoding="ascii") as file:
+            return file.read() != ""
+    except FileNotFoundError:
+        return False
+
+
+def test_a_suite_leaves_no_process(tree, tmp_path):
+    its = PLANT.Tree(str(tmp_path / "copy"))
+    said = its.said(["sh", "-c", "sleep 1000 >/dev/null 2>&1 & echo $!; exit 1"])
+    eventually(lambda: not runs(int(said)))
+
+
+def test_as_many_are_tried_as_are_asked_for():
+    """One worker finds none left while another's doesn't count: then that one draws another."""
+    planting = PLANT.Planting(iter("abc"), 1, True)
+    assert [planting.next(), planting.next()] == ["a", None]
+    planting.note("a", PLANT.SAME)
+    assert [planting.next(), planting.next()] == ["b", None]
 
 
 # The last lines of a run, and the test that failed.
