@@ -10,6 +10,9 @@ from bigvasta.statuses import Usage
 # The library counts pages by 32 bits; a guest of the device has fewer than 2^32 of them.
 MOST_PAGES = (1 << 32) - 1
 
+# Seconds of a day.
+DAY = 86400
+
 
 class Use(NamedTuple):
     """From this moment on a guest uses this many pages, and of the others this many are page cache

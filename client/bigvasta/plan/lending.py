@@ -3,10 +3,9 @@ granted, at each moment of the host's metrics."""
 
 from typing import NamedTuple
 
-from bigvasta.plan.days import Line
+from bigvasta.plan.days import DAY, Line
 from bigvasta.plan.matrix import Key, result_of, series_by_key, table_of, tables_of
 from bigvasta.plan.metrics import BUDGET, LENDING, MEMORY
-from bigvasta.plan.replay import DAY
 from bigvasta.sizes import PAGE
 from bigvasta.statuses import Usage
 

@@ -3,10 +3,8 @@ page cache, reboots, and idle ones. The same seed makes the same day."""
 
 import random
 
-from bigvasta.plan.days import Recorded, Use, add_use
+from bigvasta.plan.days import DAY, Recorded, Use, add_use
 from bigvasta.sizes import MIB, PAGE
-
-DAY = 86400
 
 # A host looks at its guests five times a second: what happens is seen then.
 LOOKS = 5

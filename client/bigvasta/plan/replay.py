@@ -6,10 +6,9 @@ from typing import NamedTuple
 
 import numpy
 
+from bigvasta.plan.days import DAY
 from bigvasta.plan.lender import Lender
 from bigvasta.sizes import MIB, PAGE
-
-DAY = 86400
 
 
 class Answer(NamedTuple):

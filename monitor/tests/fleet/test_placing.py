@@ -9,7 +9,7 @@ from bigvasta.plan import fleet, reading
 from bigvasta.plan.days import Day, Recorded, Use, day_of
 from bigvasta.plan.lender import Terms
 from bigvasta.plan.placing import Promises, Stay, place
-from bigvasta.plan.replay import replay
+from bigvasta.plan.replay import Answer, replay
 from planner import run
 
 
@@ -119,6 +119,20 @@ def test_hosts_of_a_fleet_are_replayed_as_hosts_alone(shared, tmp_path):
         None,
         614400,
     )
+
+
+def test_each_number_of_hosts_together():
+    """Sums, but of what was worst the worst, and who waited longest of all."""
+    numbers = range(1, len(Answer._fields) + 1)
+    own = {"waits": ((0.5,), (0.25, 0.75)), "worst_guest": ("a", "b"), "worst_waited": (7.0, 5.0)}
+    first, second = (
+        Answer(*(factor * it for it in numbers))._replace(**{k: v[it] for k, v in own.items()})
+        for it, factor in enumerate((1, 100))
+    )
+    expected = {it: getattr(first, it) + getattr(second, it) for it in Answer._fields}
+    expected |= {it: getattr(second, it) for it in ("lacked", "overdrawn")}
+    expected |= {"worst_guest": "a", "worst_waited": 7.0}
+    assert fleet.together([first, second])._asdict() == expected
 
 
 def test_the_largest_promise_serves(shared, tmp_path):

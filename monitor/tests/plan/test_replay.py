@@ -60,6 +60,19 @@ ALONE = day_of(a=((0, 10), 30), b=((0, 100), 20))
 # 3 of 10: it gives its part, 36, and b 14.
 SLACK = day_of(a=((0, 20), (10, 34), (20, 37), (30, 38), 40), b=((0, 60), 40))
 
+# The same with c, which comes at 15 where there is no room for its 10: 60 are missing, of which a's
+# part is 43 and b's 17. a stays with its 45, as at 10, and b gives 10. Where all was decided again,
+# a would get 2, and b give 12.
+NO_ROOM = Day(
+    (
+        Recorded("a", 100, (Use(0.0, 20), Use(10.0, 34)), 40.0),
+        Recorded("b", 100, (Use(0.0, 60),), 40.0),
+        Recorded("c", 10, (Use(15.0, 10),), 40.0),
+    ),
+    0.0,
+    40.0,
+)
+
 # a and b use 40 each, and a has 50 as page cache: b gives the 50 that are missing. At 10 b can
 # spare 20: a gives the 10 that are free, and 20 of its page cache.
 CACHED = Day(
@@ -146,6 +159,17 @@ WORKED_OUT = {
         100,
     ),
     "a floor that lacks a little": (SLACK, Terms(150, 16), (0.0,), 0.0, 80.0, 0, 0.0, 0, 68),
+    "a newcomer without room changes no target that may stay": (
+        NO_ROOM,
+        Terms(150, 16),
+        (0.0,),
+        0.0,
+        105.0,
+        0,
+        0.0,
+        0,
+        60,
+    ),
     "page cache after what is free": (CACHED, Terms(150), (0.0,), 0.0, 40.0, 0, 0.0, 0, 110),
     "a guest that is pressed": (PRESSED, Terms(150), (0.0, 0.0, 0.0), 0.0, 40.0, 0, 0.0, 0, 150),
     "what there is room for comes first": (
@@ -182,6 +206,14 @@ def test_who_waits_longest_and_what_is_promised(library):
         14400.0,
     )
     assert promised_by(day_of(a=((0, 1), 10), b=((10, 1), 20), c=((15, 1), 20))) == 200
+
+
+def test_all_is_decided_again_as_a_guest_comes_or_goes(library):
+    """Of one page: at the start, at 10, at 20 and at 30, though nothing is missing."""
+    day = day_of(a=((0, 50), 30))
+    passing = Recorded("b", 1, (Use(10.0, 1),), 20.0)
+    found = replay(library, day._replace(guests=(*day.guests, passing)), Terms(200))
+    assert (found.decisions, found.moved, found.waits) == (4, 0, (0.0,))
 
 
 def test_quantiles_by_nearest_rank(library):
