@@ -37,9 +37,9 @@ class Chosen:
         return [GIB // MIB]
 
 
-# Less than 0.3 of the guests idle, and less than 0.15 pass. Of changes of a guest at work, every 300.2
-# seconds, less than 0.3 x 300 of 86400 are reboots; of those of an idle one, every 3600.2, less than
-# 0.3 x 3600. A working set grows as often as it shrinks.
+# Less than 0.3 of the guests idle, and less than 0.15 pass. Of changes of a guest at work, every
+# 300.2 seconds, less than 0.3 x 300 of 86400 are reboots; of those of an idle one, every 3600.2,
+# less than 0.3 x 3600. A working set grows as often as it shrinks.
 WORKS, STAYS, RUNS, GROWS, SHRINKS = 0.3, 0.15, 0.3 * 300 / 86400, 0.49, 0.5
 IDLES, PASSES, REBOOTS, RUNS_IDLE = 0.29, 0.14, 0.3 * 300 / 86401, 0.3 * 3600 / 86400
 
