@@ -156,6 +156,9 @@ def test_bars_of_a_host():
         host(budget=480, held=200, lent=300), [{"memory": 600 * MIB}], 32, Shown(blocks="#=. |")
     )
     assert bar.text == "[##########.....         |     ]"
+    # What is held beyond all of that has no place in a bar.
+    (_, bar) = host_lines(host(held=700), [{"memory": 600 * MIB}], 32, Shown(blocks="#=. |"))
+    assert bar.text == "[########################|#####]"
 
 
 def test_the_bar_of_a_guest():

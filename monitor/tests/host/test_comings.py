@@ -6,9 +6,10 @@ import time
 
 import pytest
 from played import WAIT_ROOM, Played
-from tenants import FREE, eventually
+from tenants import AVAILABLE, FREE, eventually
 from test_later_lender import QUICK
-from test_strict import STRICT, Later
+from test_pressed import KILLS
+from test_strict import GIVEN, STRICT, Later
 from test_turns import connect
 from vhost_client import ADD_MEM_REG, BY_MESSAGES, OFFERED, REM_MEM_REG, Client
 
@@ -88,6 +89,39 @@ def test_memory_is_paid_for_once_for_each_wait(lend, waits):
     lender.become("a", here=0)
     assert any(it.startswith(OFTEN) for it in lender.said()) == (waits > 1)
     b.leave()
+
+
+def gives_and_takes_unasked(lender, guest):
+    """It takes ten of the pages that it was asked for, and its own work waits for memory."""
+    guest.take(GIVEN[:10])
+    lender.become("a", taken=10, pressed=1)
+
+
+def gives_and_waits(lender, guest):
+    """It waits for ten of the pages that it has given."""
+    guest.take(GIVEN[:10])
+    lender.become("a", waits="deflate", pressed=1)
+
+
+@pytest.mark.parametrize(
+    "options, act",
+    ((QUICK, gives_and_takes_unasked), (STRICT, gives_and_waits)),
+    ids=("as-it-likes", "strict"),
+)
+def test_of_a_client_that_has_gone_nothing_is_known(lend, come, options, act):
+    """Its seat shows what one does that had none, but that there was one."""
+    lender = lend(1, *options)
+    a = come(lender, "a", {FREE: 60, AVAILABLE: 100, KILLS: 7})
+    lender.add("b"), lender.set_budget(ALL - 50)
+    lender.become("a", target=50)
+    a.give(GIVEN[:50]), lender.become("a", ballooned=50, lent=ALL - 50)
+    a.figures |= {KILLS: 8}
+    lender.become("a", pressed=1)
+    act(lender, a)
+    a.leave(), lender.become("a", here=0)
+    its, others = lender.status()["guests"]
+    assert (its["counters"].pop("clients"), others["counters"].pop("clients")) == (1, 0)
+    assert {it for it in others if its[it] != others[it]} == {"name", "socket"}, (its, others)
 
 
 # Pages of a slot, and seconds in which slots come and go.
