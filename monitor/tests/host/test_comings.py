@@ -5,7 +5,7 @@ import contextlib
 import time
 
 import pytest
-from played import WAIT_ROOM, Played
+from played import WAIT_ROOM, Listens, Played
 from tenants import AVAILABLE, FREE, eventually
 from test_later_lender import QUICK
 from test_pressed import KILLS
@@ -122,6 +122,23 @@ def test_of_a_client_that_has_gone_nothing_is_known(lend, come, options, act):
     its, others = lender.status()["guests"]
     assert (its["counters"].pop("clients"), others["counters"].pop("clients")) == (1, 0)
     assert {it for it in others if its[it] != others[it]} == {"name", "socket"}, (its, others)
+
+
+def test_messages_that_are_not_read_count_for_their_client_alone(lend):
+    """Nobody reads what the lender says to the process of this one."""
+    lender = lend(1, *STRICT)
+    listens = Listens(lender.folder, "a")
+    lender.demand("add a strict=1")
+    channel = listens.accept()
+
+    def lost():
+        lender.guests()
+        return lender.status()["guests"][0]["counters"]["lost"]
+
+    eventually(lambda: lost() > 1)
+    channel.close(), listens.end()
+    lender.become("a", here=0)
+    assert lost() == 0
 
 
 # Pages of a slot, and seconds in which slots come and go.

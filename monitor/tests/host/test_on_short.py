@@ -7,7 +7,8 @@ import time
 import pytest
 from bigvasta.connection import Connection
 from tenants import FREE, eventually, has_ended
-from test_strict import STRICT
+from test_strict import GIVEN, STRICT, Later
+from vhost_client import Client
 
 # Seconds of a host's patience here.
 PATIENCE = 1
@@ -86,6 +87,32 @@ def test_it_is_run_once_for_a_shortage_that_lasts(lend, come, command):
     lender.set_budget(156)
     wait_for(lender, 2, 0, True, "b")
     eventually(lambda: command.noted() == [wanted] * 2, command.noted)
+
+
+# The priorities of two guests, who has given ten pages, and who gives first.
+FIRST = ((2, 1, "b", "b"), (1, 2, "a", "a"), (1, 1, "b", "a"), (1, 1, "a", "b"))
+
+
+@pytest.mark.parametrize("of_a, of_b, giver, first", FIRST)
+def test_who_gives_first(lend, come, of_a, of_b, giver, first):
+    """The guest of the lowest priority, and of several the one to which most is lent: not one that
+    has nothing yet."""
+    lender = lend(1, *STRICT, "--patience", str(PATIENCE))
+    guests = {
+        name: come(lender, name, {FREE: 0}, f"priority={priority}")
+        for name, priority in (("a", of_a), ("b", of_b))
+    }
+    guests[giver].give(GIVEN[:10])
+    lender.become(giver, ballooned=10), lender.demand(f"{giver} target 10")
+    lender.become(giver, lent=118)
+    lender.demand("add c priority=0")
+    newcomer = Client(f"{lender.folder}/c")
+    newcomer.negotiate()
+    comes = Later(newcomer.hand_over_memory)
+    assert comes.waits()
+    wait_for(lender, 1, 0, True, first)
+    lender.set_budget(3 * 128)
+    comes.ends(), newcomer.leave()
 
 
 def test_it_is_not_run_for_a_shortage_that_ends(lend, come, command):
