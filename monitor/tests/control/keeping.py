@@ -45,6 +45,13 @@ class Kept:
         return self.start()
 
 
+def tmpfs():
+    """Returns where this machine has a tmpfs."""
+    with open("/proc/self/mounts", encoding="utf-8") as lines:
+        mounts = {folder: kind for _, folder, kind, *_ in map(str.split, lines)}
+    return next((folder for folder, kind in mounts.items() if kind == "tmpfs"), None)
+
+
 def terms(host):
     """Returns the terms of each guest, by its name."""
     return {it["name"]: it["terms"] for it in host.ask("status")["guests"]}

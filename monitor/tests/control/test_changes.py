@@ -10,18 +10,25 @@ import pytest
 from bigvasta.statuses import Refused
 from hosts import Host, Raw, say
 from installed import bigvasta
-from keeping import MIB, terms
+from keeping import MIB, terms, tmpfs
 from test_status import fields_of_requests
 from waiting import PATIENCE, eventually, patience_from_now
+
+
+# What is changed of guests, each term of one: `limited` where this machine has what limits a guest.
+OF_FIRST = {"most": None, "weight": 3, "priority": 0xFFFFFFFF}
+OF_SECOND = {"least": 4096, "user": 0, "limit": None}
+OF_NEW = {"strict": True, "memory": 0, "overhead": 12288}
+LIMITED = {"limit": f"tmpfs:{tmpfs()}", "start": MIB} if tmpfs() else {}
 
 
 def changed(host):
     """Changes one of each, and says what there is then."""
     assert host.ask("budget", bytes=300 * MIB)["lasts"]
     assert host.ask("floor", bytes=0)["lasts"]
-    assert host.ask("guest", name="web-1", most=None, weight=3, priority=0xFFFFFFFF)["lasts"]
-    assert host.ask("guest", name="web-2", least=4096, user=0, limit=None)["lasts"]
-    assert host.ask("add", name="new", strict=True, memory=0, overhead=12288)["lasts"]
+    assert host.ask("guest", name="web-1", **OF_FIRST)["lasts"]
+    assert host.ask("guest", name="web-2", **OF_SECOND)["lasts"]
+    assert host.ask("add", name="new", **OF_NEW, **LIMITED)["lasts"]
     assert host.ask("add", name="gone")["lasts"]
     assert host.ask("remove", name="gone")["lasts"]
     return host.status()["budget"], host.status()["floor"], terms(host)
@@ -30,7 +37,10 @@ def changed(host):
 def test_what_is_changed_is_there_after_a_restart_and_a_reload(kept):
     wanted = changed(kept.host)
     assert wanted[0] == 300 * MIB and wanted[1] == 0 and set(wanted[2]) == {"web-1", "web-2", "new"}
-    assert (wanted[2]["web-1"]["most"], wanted[2]["web-2"]["least"]) == (None, 4096)
+    asked = OF_FIRST | OF_SECOND | OF_NEW | {"limit": None, "start": None} | LIMITED
+    assert {it for its in wanted[2].values() for it in its} == asked.keys()
+    for name, its in (("web-1", OF_FIRST), ("web-2", OF_SECOND), ("new", OF_NEW | LIMITED)):
+        assert its.items() <= wanted[2][name].items()
     host = kept.again()
     assert (host.status()["budget"], host.status()["floor"], terms(host)) == wanted
     assert host.ask("reload")["ok"]
@@ -38,6 +48,16 @@ def test_what_is_changed_is_there_after_a_restart_and_a_reload(kept):
     host.process.send_signal(signal.SIGHUP)
     eventually(lambda: len([it for it in host.said() if it.endswith("read again")]) == 2)
     assert (host.status()["budget"], host.status()["floor"], terms(host)) == wanted
+
+
+def test_a_budget_is_no_less_than_the_overdraft(kept):
+    """A floor may be."""
+    kept.file.write_text(kept.file.read_text().replace("480M", "480M\noverdraft = 4M"))
+    assert kept.host.ask("reload")["ok"]
+    assert kept.host.ask("floor", bytes=MIB)["lasts"]
+    with pytest.raises(Refused, match="an overdraft is no more than the budget"):
+        kept.host.ask("budget", bytes=4 * MIB - 4096)
+    assert kept.host.ask("budget", bytes=4 * MIB)["lasts"]
 
 
 def test_a_guest_of_the_file_that_is_removed_stays_so(kept):

@@ -22,12 +22,18 @@ MANY, LEFT_OUT = 60, "a: further lines of this second are left out"
 
 TOO_MANY = "more pages than a guest may have"
 
+# What a process may report up to the pages that a guest's memory has at most.
+MAY_BE = ("ballooned", "held_pages", "ballooned_then", "outside")
+
 # What a process that was granted all pages of its guest reports, and why that isn't believed.
 LIES = {
     "pages": ({"pages": ALL + 1}, "pages that nobody has granted"),
     "no loan": ({"holds": 0, "pages": 4_000_000_000}, TOO_MANY),
     "holds": ({"holds": 0}, "that its deflates don't wait"),
-    "held": ({"held_kib": (1 << 64) - 4096}, "more memory that it holds than there is"),
+    **{
+        f"held {it}": ({"held_kib": it}, "more memory that it holds than there is")
+        for it in (1 << 34, (1 << 64) - 4096)
+    },
     "waits": ({"waits": 3, "wait": 1}, "a wait that isn't one"),
     **{
         f"migration {it}": ({"migration": it}, "a migration that isn't one")
@@ -35,8 +41,9 @@ LIES = {
     },
     "wanted": ({"waits": WAIT_ROOM, "wait": 1, "wanted": MOST_PAGES + 1}, TOO_MANY),
     **{
-        it: ({it: HUGE}, TOO_MANY)
-        for it in ("ballooned", "held_pages", "ballooned_then", "outside")
+        f"{it} {pages}": ({it: pages}, TOO_MANY)
+        for it in MAY_BE
+        for pages in (MOST_PAGES + 1, HUGE)
     },
 }
 
@@ -70,6 +77,21 @@ def test_a_lie_ends_the_service_of_its_process_alone(lend, come, lie):
     lender.become("b", ballooned=40)
     assert lent(lender) == ALL
     a.channel.close()
+
+
+@pytest.mark.parametrize(
+    "changed",
+    [{"held_kib": (1 << 34) - 1}, *({it: MOST_PAGES, "held_kib": 0} for it in MAY_BE)],
+    ids=str,
+)
+def test_the_most_that_is_believed(lend, changed):
+    lender = lend(1, *STRICT)
+    a = Played(lender, "a", pages=ALL)
+    a.report(**changed)
+    a.report(actual=7)
+    eventually(lambda: lender.status()["guests"][0]["actual"] == 7 * PAGE, lender.said)
+    assert not [it for it in lender.said() if "refused" in it]
+    a.leave()
 
 
 def test_pages_stay_lent_until_a_process_that_says_its_client_has_gone_has_ended(lend):
