@@ -9,7 +9,7 @@ import sys
 
 import pytest
 from bigvasta.cli import parser
-from bigvasta.plan import command
+from bigvasta.plan import command, making
 from bigvasta.plan.search import spread, tightest
 from bigvasta.statuses import Usage
 from linux_kit import HEADERS
@@ -147,6 +147,7 @@ def test_a_table(shared, day):
 
 def test_a_day_that_is_made_is_the_same_for_a_seed(tmp_path, shared):
     made = run("--make", "5", "--seed", "3", "--hours", "2")
+    assert made.splitlines() == [*making.make(5, 3, 2)]
     assert (
         made
         == run("--make", "5", "--seed", "3", "--hours", "2")
