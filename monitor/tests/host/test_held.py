@@ -143,17 +143,27 @@ def discard_outside(file):
     assert ctypes.CDLL(None).fallocate(file, PUNCHES_HOLE, size, size) == 0
 
 
-def test_what_a_file_holds_outside_of_its_slots_counts(lend, come):
+@pytest.mark.parametrize("overhead", (0, 4, OUTSIDE - 1))
+def test_what_a_file_holds_outside_of_its_slots_counts(lend, come, overhead):
     lender = lend(1, *STRICT)
-    a = come(lender, "a", {FREE: 100}, "overhead=0", client=Larger)
+    a = come(lender, "a", {FREE: 100}, f"overhead={4 * overhead}K", client=Larger)
     lender.become("a", held_kib=4 * ALL)
     a.client.fill_outside()
     lender.become("a", held_kib=4 * (ALL + OUTSIDE))
-    named(lender, OUTSIDE)
+    named(lender, OUTSIDE - overhead)
     lender.become("a", lent=ALL + OUTSIDE)
     assert lender.counters()["held_kib"] == 4 * (ALL + OUTSIDE)
     discard_outside(a.client.files[1])
     lender.become("a", lent=ALL, cooperates=0)
+
+
+def test_what_a_guest_may_hold_beside_its_memory_does_not_count(lend, come):
+    lender = lend(1, *STRICT)
+    a = come(lender, "a", {FREE: 100}, f"overhead={4 * OUTSIDE}K", client=Larger)
+    a.client.fill_outside()
+    lender.become("a", held_kib=4 * (ALL + OUTSIDE))
+    time.sleep(LOOKED)
+    lender.become("a", lent=ALL, cooperates=1)
 
 
 @pytest.fixture

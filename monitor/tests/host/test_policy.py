@@ -5,6 +5,7 @@ import time
 
 import pytest
 from tenants import AVAILABLE, FREE, PAGES, PAGES_OF_ALL, eventually
+from test_strict import GIVEN
 
 # A lender that looks often, without a floor or a reserve, and asks for all at once.
 QUICK = ("--floor", "0", "--reserve", "0", "--period", "100", "--step", "0")
@@ -38,6 +39,26 @@ def test_what_a_guest_can_spare_goes_by_available_memory(lend, come, figures, sp
     lender = lend(1, *QUICK)
     come(lender, "a", figures)
     lender.become("a", spare=spare)
+
+
+def test_who_is_asked_for_more_than_it_can_spare_is_named(lend, come):
+    """Not who is asked for all that it can: both have given that, and `b` takes ten of it back."""
+    lender = lend(1, *QUICK)
+    guests = [come(lender, name, {FREE: 50, AVAILABLE: 50}) for name in "ab"]
+    lender.set_budget(156)
+    become(lender, {"a": 50, "b": 50})
+    for it in guests:
+        it.answers = False
+        it.give(GIVEN[:50])
+        lender.become(it.name_of, ballooned=50)
+        it.figures |= {FREE: 0, AVAILABLE: 0}
+        it.answers = True
+    become(lender, {"a": 50, "b": 50})
+    lender.decisions()
+    guests[1].take(GIVEN[:10])
+    become(lender, {"a": 50, "b": 40})
+    said, _ = lender.decisions()[0]
+    assert (said["why"], said["who"], said["short"]) == ("spare", "b", 10)
 
 
 def test_page_cache_is_taken(lend, come):
