@@ -32,7 +32,7 @@ def heard(host):
     with Connection(host.control) as follower:
         events = follower.follow()
         yield lambda guest, what: next(
-            it["event"] for it in events if (it.get("guest"), it.get("waits_for")) == (guest, what)
+            it for it in events if (it.get("guest"), it.get("waits_for")) == (guest, what)
         )
 
 
@@ -105,9 +105,11 @@ def test_a_wait_for_room_that_ends_without_a_grant_is_no_grant(host, arrive, hea
     eventually(lambda: host.guest("a")["answers"])
     late = Coming(host, "b")
     before = ends(host)
-    assert heard("b", "room") == "waits"
+    assert heard("b", "room")["event"] == "waits"
+    eventually(lambda: host.guest("b")["waits"] > 0.1)
     act(host, late)
-    assert heard("b", "room") == how
+    end = heard("b", "room")
+    assert end["event"] == how and end["waits"] > 0
     eventually(lambda: ends(host) == before | {how: before[how] + 1}, lambda: (before, ends(host)))
     eventually(
         lambda: {why: count for why, count in host.status()["measures"]["gone"].items() if count}
@@ -126,9 +128,9 @@ def test_a_deflate_whose_guest_goes_is_no_grant(host, arrive, heard):
     host.ask("budget", bytes=PAGE)
     before = ends(host)
     guest.client.post_pages(DEFLATE, GIVEN)
-    assert heard("a", "deflate") == "waits"
+    assert heard("a", "deflate")["event"] == "waits"
     guest.leave()
-    assert heard("a", "deflate") == "withdrawn"
+    assert heard("a", "deflate")["event"] == "withdrawn"
     assert ends(host) == before | {"withdrawn": before["withdrawn"] + 1}
 
 
@@ -141,7 +143,7 @@ def test_each_wait_of_a_guest_is_told(host, arrive, heard):
     eventually(lambda: host.guest("a")["loan"] == loan)
     for first in range(0, 3 * pages, pages):
         guest.client.post_pages(DEFLATE, GIVEN[first : first + pages])
-        assert heard("a", "deflate") == "waits"
+        assert heard("a", "deflate")["event"] == "waits"
         loan += pages * PAGE
         host.ask("budget", bytes=loan)
-        assert heard("a", "deflate") == "granted"
+        assert heard("a", "deflate")["event"] == "granted"
