@@ -11,7 +11,8 @@ import pytest
 from bigvasta.connection import Connection
 from bigvasta.statuses import Unclear
 from installed import CLIENT, bigvasta
-from waiting import PATIENCE, eventually
+from linux_guest import Lines
+from waiting import PATIENCE, eventually, patience_from_now
 
 MIB = 1 << 20
 
@@ -248,26 +249,30 @@ def test_a_host_that_is_none(folder, answer, why):
     assert (ran.returncode, ran.stdout, ran.stderr) == (4, "", f"bigvasta: {path}: {why}\n")
 
 
-def test_log_that_is_followed(host, arrive):
-    host.ask("budget", bytes=400 * MIB)
+@pytest.fixture
+def log(host):
+    """Returns the next line of a log that is followed through a pipe, after its time: it is there
+    at once, whatever the environment says of what a program keeps back."""
     words = ["/usr/bin/python3", "-B", "-m", "bigvasta", "log", "-f", "--control", host.control]
-    with subprocess.Popen(
-        words, stdout=subprocess.PIPE, text=True, env={**os.environ, "PYTHONPATH": CLIENT}
-    ) as it:
-        first = [it.stdout.readline().split(" ", 1)[1] for _ in range(2)]
-        assert first[0].startswith("changed budget 480M > 400M by user "), first
-        assert first[1] == "decision 0: budget; budget 400, tier none; targets: no guests\n"
-        eventually(lambda: host.status()["control"]["clients"] == 2)
-        arrive("a")
-        wanted = [
-            "added a\n",
-            "arrived a\n",
-            "decision 1: guests; budget 400, tier none; targets: a 0\n",
-        ]
-        said = []
-        while not set(wanted) <= set(said):
-            said.append(it.stdout.readline().split(" ", 1)[1])
+    environment = {**os.environ, "PYTHONPATH": CLIENT}
+    environment.pop("PYTHONUNBUFFERED", None)
+    host.ask("budget", bytes=400 * MIB)
+    with subprocess.Popen(words, stdout=subprocess.PIPE, env=environment) as it:
+        lines = Lines(it.stdout, "the log")
+        yield lambda: lines.next(patience_from_now()).split(" ", 1)[1]
         it.terminate()
+
+
+def test_log_that_is_followed(host, arrive, log):
+    first = [log() for _ in range(2)]
+    assert first[0].startswith("changed budget 480M > 400M by user "), first
+    assert first[1] == "decision 0: budget; budget 400, tier none; targets: no guests"
+    eventually(lambda: host.status()["control"]["clients"] == 2)
+    arrive("a")
+    wanted = ["added a", "arrived a", "decision 1: guests; budget 400, tier none; targets: a 0"]
+    said = []
+    while not set(wanted) <= set(said):
+        said.append(log())
     assert [it for it in said if it in wanted] == wanted, said
 
 
