@@ -250,6 +250,7 @@ def test_what_is_about_a_guest(busy):
 
 def test_what_was_since(busy):
     assert log(busy, "--since", "1h") and log(busy, "--since", "1d")
+    assert " decision 1: " in next(it for it in log(busy, "--since", "1") if " decision " in it)
     time.sleep(8)
     busy.ask("floor", bytes=4096)
     lines = log(busy, "--since", "7s")

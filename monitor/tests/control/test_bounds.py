@@ -7,7 +7,7 @@ import types
 import pytest
 from bigvasta import answers, cli, words
 from bigvasta.commands import log, upgrade, watch
-from bigvasta.statuses import DONE, USAGE, Usage
+from bigvasta.statuses import DONE, USAGE, Refused, Usage
 from bigvasta.sizes import mebibytes, seconds
 from bigvasta.terms import TERMS, parse_terms, said
 
@@ -183,3 +183,51 @@ def test_each_decision_and_each_change_is_shown_once(monkeypatch, follow, number
         )
     )
     assert shown == numbers
+
+
+class Past:
+    """A host whose changes and decisions came one after the other; older ones have no moments, or
+    keep no changes."""
+
+    def __init__(self, moments, refuses=False):
+        self.moments, self.refuses = moments, refuses
+
+    def kept(self, name, since):
+        """Returns those of a kind from a number on."""
+        its = self.moments[name].items()
+        return [
+            {name: number, **({} if at is None else {"seconds": at})}
+            for number, at in its
+            if number >= since
+        ]
+
+    def ask(self, request, since):
+        """Answers with all that it has of a kind."""
+        if request == "changes" and self.refuses:
+            raise Refused({"code": "unknown-request", "text": ""})
+        of_log = {"decisions": self.kept("number", since)}
+        its = of_log if request == "log" else {"changes": self.kept("change", since)}
+        return {"lost": 0, "next": 0, **its}
+
+
+# Decisions and changes by their numbers, and when they came; from which decision on they are asked
+# for; and what there was, in its order. Changes are those from the first of these decisions on.
+MOMENTS = {"number": {0: 2.0, 1: 5.0, 2: 8.0}, "change": {3: 1.0, 4: 4.0, 5: 5.0, 6: 9.0}}
+PASTS = (
+    (
+        Past(MOMENTS),
+        0,
+        ["change 3", "number 0", "change 4", "change 5", "number 1", "number 2", "change 6"],
+    ),
+    (Past(MOMENTS), 1, ["change 5", "number 1", "number 2", "change 6"]),
+    (Past(MOMENTS), 2, ["number 2", "change 6"]),
+    (Past(MOMENTS), 3, []),
+    (Past(MOMENTS, refuses=True), 1, ["number 1", "number 2"]),
+    (Past({"number": {0: None, 1: None}, "change": {}}), 1, ["number 1"]),
+)
+
+
+@pytest.mark.parametrize("host, since, wanted", PASTS)
+def test_what_came_from_a_decision_on(host, since, wanted):
+    found = log.past(host, since)
+    assert [next(f"{key} {it[key]}" for key in it) for it in found] == wanted
