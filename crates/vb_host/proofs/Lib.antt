@@ -1,5 +1,6 @@
 pub mod Places
 pub mod Lines
+pub mod Lined
 pub mod Sound
 pub mod Changes
 pub mod Emptied
@@ -34,6 +35,7 @@ pub mod Proceeding
 pub mod Telling
 pub mod Said
 pub mod Pacing
+pub mod Relieving
 mod SeatFacts
 mod SystemFacts
 mod RunFacts
@@ -44,3 +46,4 @@ mod OutsideFacts
 mod LeastFacts
 mod MessageFacts
 mod PaceFacts
+mod ReliefFacts

@@ -1,11 +1,12 @@
 -- Who is granted next.
 use Rattle.std.specs.Prelude.{◌≡◌, ◌⊎◌, ℕ, ◌+◌, ◌<◌, ◌≤◌, true, false, List, Option, MatchOption}
+use Rattle.std.specs.Prelude.{nat_le, if◌then◌else◌}
 use Rattle.vb_host.specs.declared.event.Event.{Event}
 use Rattle.vb_host.specs.declared.event.Event.TheVariants.{Grants}
 use Rattle.vb_host.specs.declared.seat.Seat.{Seat}
 use Rattle.vb_host.specs.Lending.{Lending, owed, held_at, value_at, test_at, happens, rank_at}
 use Rattle.vb_host.specs.Lending.{all_targeted, room}
-use Rattle.vb_host.specs.Seats.{asked, covers}
+use Rattle.vb_host.specs.Seats.{asked, covers, line_rank}
 
 -- Guest n waits, and no other waits before it: of two at one rank the one at the lower place comes
 -- first.
@@ -45,6 +46,12 @@ pub record IsStep (old : Lending) (event : Event) (new : Lending) : Type 0 where
   pub by_grants : ByGrants (happens old event) granted
   pub grants_none : GrantsNone granted
   pub targets : new ≡ record granted { seats = all_targeted (room granted) granted.seats }
+
+-- ---- from one line on
+
+-- Those of earlier lines don't count as if they waited.
+abbrev pub lined : ℕ → Seat → Seat
+lined line s = if nat_le line (line_rank s) then s else record s { held = 0 }
 
 -- ---- for proofs
 

@@ -55,7 +55,7 @@ fn may_grant(frames: u32, seats: &[Seat], guest: usize) -> bool
 }
 
 /// Whether a guest's deflate may be granted from the overdraft.
-fn may_overdraw(frames: u32, overdraft: u32, seats: &[Seat], guest: usize) -> bool
+pub(crate) fn may_overdraw(frames: u32, overdraft: u32, seats: &[Seat], guest: usize) -> bool
     ensures { result ≡
         may_overdraw (record { frames = frames; overdraft = overdraft; seats = seats.now }) guest }
 {

@@ -1,12 +1,12 @@
 //! What is lent to all guests, and who is granted next.
 
-ghost use Rattle.std.specs.Prelude.{◌≡◌, ℕ, ◌+◌, ◌-◌, ◌*◌, ◌<◌, ◌≤◌, length, nat_le, Some, None};
+ghost use Rattle.std.specs.Prelude.{◌≡◌, ℕ, ◌+◌, ◌-◌, ◌*◌, ◌<◌, ◌≤◌, length, map, nat_le, Some, None};
 ghost use Rattle.std.specs.Prelude.{MatchOption, true, false};
 ghost use Rattle.vb_host.specs.Lending.{owed, waited, last_turn, next_turn, held_at};
 ghost use Rattle.vb_host.specs.Lending.{is_first};
 ghost use Rattle.vb_host.specs.Lending.{value_at, test_at};
 ghost use Rattle.std.specs.List.{list_all};
-ghost use Rattle.vb_host.specs.Line.{IsFirst, FirstBelow};
+ghost use Rattle.vb_host.specs.Line.{IsFirst, FirstBelow, lined};
 ghost use Rattle.vb_host.specs.Seats.{asked, covers, is_done};
 
 use crate::Seat;
@@ -64,14 +64,15 @@ pub(crate) fn next_turn(seats: &[Seat]) -> u64
     last_turn(seats).saturating_add(1)
 }
 
-/// Which of two guests waits before the other: the first so far, or the one at a place.
-fn earlier(seats: &[Seat], first: Option<usize>, place: usize) -> Option<usize>
+/// Which of two guests waits before the other, in a line or a later one: the first so far, or the
+/// one at a place.
+fn earlier(seats: &[Seat], line: u32, first: Option<usize>, place: usize) -> Option<usize>
     requires place { place < length seats.now }
-    requires first { FirstBelow seats.now place first }
-    ensures { FirstBelow seats.now (place + 1) result }
+    requires first { FirstBelow (map (lined line) seats.now) place first }
+    ensures { FirstBelow (map (lined line) seats.now) (place + 1) result }
 {
     let seat = &seats[place];
-    if seat.held == 0 {
+    if seat.held_from(line) == 0 {
         return first;
     }
     match first {
@@ -88,16 +89,25 @@ fn earlier(seats: &[Seat], first: Option<usize>, place: usize) -> Option<usize>
     }
 }
 
+/// The place of the guest that waits first in a line or a later one; none where no guest waits
+/// there.
+pub(crate) fn first_from(seats: &[Seat], line: u32) -> Option<usize>
+    ensures { MatchOption result ((n : ℕ) → held_at (map (lined line) seats.now) n ≡ 0)
+        (λ n. (n < length seats.now) × IsFirst (map (lined line) seats.now) n) }
+{
+    let mut first = None;
+    for place in 0..seats.len() {
+        first = earlier(seats, line, first, place);
+    }
+    first
+}
+
 /// The place of a guest that waits first; none where no guest waits.
 pub fn first_in_line(seats: &[Seat]) -> Option<usize>
     ensures { MatchOption result ((n : ℕ) → held_at seats.now n ≡ 0)
         (λ n. (n < length seats.now) × IsFirst seats.now n) }
 {
-    let mut first = None;
-    for place in 0..seats.len() {
-        first = earlier(seats, first, place);
-    }
-    first
+    first_from(seats, 0)
 }
 
 /// Whether a guest waits, and no other before it.

@@ -1,6 +1,7 @@
 //! What a lender knows of one guest, and what each event makes of it.
 
 ghost use Rattle.std.specs.Prelude.{◌≡◌, ◌+◌, ◌-◌, ◌<◌, ◌≤◌, ◌^◌};
+ghost use Rattle.vb_host.specs.Line.{lined};
 ghost use Rattle.vb_host.specs.Seats.{apart, lent, asked, waits, covers, granting, possible_target};
 ghost use Rattle.vb_host.specs.Seats.{targeted, retargeted, uncounting};
 ghost use Rattle.vb_host.specs.Seats.{is_done, is_uncounted, is_preferred, place_in_line};
@@ -183,6 +184,13 @@ impl Seat {
         self.waiting_line().number()
     }
 
+    /// The pages of its deflate, if that waits in a line or a later one; else 0.
+    pub(crate) fn held_from(&self, line: u32) -> u32
+        ensures { result ≡ (lined line self.now).held }
+    {
+        if line <= self.line_rank() { self.held } else { 0 }
+    }
+
     /// Its rank among those that wait.
     pub(crate) fn rank(&self) -> u128
         ensures { result ≡ rank self.now }
@@ -206,7 +214,7 @@ impl Seat {
     }
 
     /// Whether it waits in a line where it may let others pass.
-    fn may_defer(&self) -> bool
+    pub(crate) fn may_defer(&self) -> bool
         ensures { result ≡ may_defer self.now }
     {
         self.waits() && self.line_rank() > 0
