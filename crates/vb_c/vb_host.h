@@ -173,6 +173,30 @@ typedef struct {
     uint32_t gains; /* 1 where it is strict, and to get pages that others may give first, else 0 */
 } VbPace;
 
+/* How a host stands, from one look to the next; zeros before the first. */
+typedef struct {
+    uint64_t first;      /* 1 more than the place of the guest that waits first; 0: none does */
+    uint64_t lent;       /* frames that are lent to all guests together (vb_host_owed) */
+    uint64_t since;      /* since when both are so, in ms */
+    uint64_t head;       /* as `first`, in VB_LINE_RESETS and VB_LINE_ARRIVALS alone */
+    uint64_t turn;       /* the turn of that guest; 0: none waits there */
+    uint64_t head_since; /* since when both are so, in ms */
+} VbStand;
+
+/* How a host is as it looks. */
+typedef struct {
+    uint64_t time;     /* now, in ms */
+    uint64_t missing;  /* pages that guests can't give of those that are missing; 0: they can */
+    uint32_t patience; /* seconds for which the guest at `head` keeps others waiting */
+    uint32_t awaits;   /* a guest of an earlier lender hasn't reported yet; 0: all have */
+} VbLook;
+
+/* What is to be done then: an event, by its kind and guest. */
+typedef struct {
+    uint32_t kind; /* VB_OVERDRAWS, VB_PREFERS or VB_DEFERS; 0: nothing is */
+    size_t guest;
+} VbRelief;
+
 /* What may happen to a lender: `kind` of an event, and which of its other fields that reads. Where
  * there is no seat at a place, or the event isn't possible, it has no effect. */
 enum {
@@ -264,6 +288,12 @@ VB_ASSERT(offsetof(VbAim, seconds) == 12 && offsetof(VbAim, needed) == 16);
 VB_ASSERT(offsetof(VbAim, frames) == 20 && offsetof(VbAim, held_kib) == 24);
 VB_ASSERT(offsetof(VbAim, passed) == 32 && sizeof(VbPace) == 16 && offsetof(VbPace, now) == 4);
 VB_ASSERT(offsetof(VbPace, rises) == 8 && offsetof(VbPace, gains) == 12);
+VB_ASSERT(sizeof(VbStand) == 48 && offsetof(VbStand, lent) == 8);
+VB_ASSERT(offsetof(VbStand, since) == 16 && offsetof(VbStand, head) == 24);
+VB_ASSERT(offsetof(VbStand, turn) == 32 && offsetof(VbStand, head_since) == 40);
+VB_ASSERT(sizeof(VbLook) == 24 && offsetof(VbLook, missing) == 8);
+VB_ASSERT(offsetof(VbLook, patience) == 16 && offsetof(VbLook, awaits) == 20);
+VB_ASSERT(sizeof(VbRelief) == 16 && offsetof(VbRelief, guest) == 8);
 VB_ASSERT(sizeof(VbReading) == 80 && offsetof(VbReading, taken) == 48);
 VB_ASSERT(offsetof(VbReading, joins) == 52 && offsetof(VbReading, ungranted) == 56);
 VB_ASSERT(offsetof(VbReading, brings) == 60 && offsetof(VbReading, wants) == 64);
@@ -325,6 +355,18 @@ uint32_t vb_host_room(const VbHost *host, const VbSeat *seats, size_t count);
 /* The place of the guest that waits first, of two with one turn in one line the lower; SIZE_MAX
  * where no guest waits. */
 size_t vb_host_first(const VbSeat *seats, size_t count);
+
+/* How a host stands now, by how it stood at the look before: to be noted at each look, and after
+ * each step that follows one. A time is kept while what it is of stays as it was. */
+VbStand vb_host_stand(const VbSeat *seats, size_t count, const VbStand *stand, uint64_t now);
+/* The event by which it is helped, that stands so (vb_host_stand): to be followed by
+ * vb_host_step, and by another look at once. Nothing while a guest is awaited. A guest that has
+ * been at the head for as long as the host is patient, with another behind it, lets others pass,
+ * once it is preferred no longer. Else, once nothing has moved for a second: on a host that is
+ * short the guest that waits first is preferred, and nobody on another one; then it is lent from
+ * the overdraft, where that is possible. */
+VbRelief vb_host_relief(const VbHost *host, const VbSeat *seats, size_t count, const VbStand *stand,
+                        const VbLook *look);
 
 #undef VB_ASSERT
 #ifdef __cplusplus

@@ -42,6 +42,8 @@ REFERENCE(host_owed);
 REFERENCE(host_least_budget);
 REFERENCE(host_room);
 REFERENCE(host_first);
+REFERENCE(host_stand);
+REFERENCE(host_relief);
 REFERENCE(seat_lent);
 REFERENCE(seat_asked);
 REFERENCE(seat_waits);

@@ -211,9 +211,7 @@ static uint64_t next_turn(const VbSeat *seats, size_t count)
     return last == UINT64_MAX ? last : last + 1;
 }
 
-/* Whether a guest waits before another one that waits: by lines, then whether it is preferred, then
- * turns of those that aren't, then places. */
-static bool waits_before(const VbSeat *one, const VbSeat *other)
+bool waits_before(const VbSeat *one, const VbSeat *other)
 {
     uint64_t line = waiting_line(one), next = waiting_line(other);
     if (line != next)
@@ -241,7 +239,7 @@ static bool may_go(const VbSeat *seats, size_t count, size_t guest, uint64_t fra
     return vb_host_first(seats, count) == guest && pages <= frames;
 }
 
-static bool may_overdraw(const VbHost *host, const VbSeat *seats, size_t count, size_t guest)
+bool may_overdraw(const VbHost *host, const VbSeat *seats, size_t count, size_t guest)
 {
     for (size_t i = 0; i < count; i++)
         if (!is_done(&seats[i]))

@@ -8,4 +8,9 @@
  * where it doesn't count. */
 uint64_t stays_ballooned(const VbSeat *seat, const VbReport *report);
 
+/* Whether a guest waits before another one that waits: by lines, then whether it is preferred, then
+ * turns of those that aren't, then places; and whether it may be lent from the overdraft. */
+bool waits_before(const VbSeat *one, const VbSeat *other);
+bool may_overdraw(const VbHost *host, const VbSeat *seats, size_t count, size_t guest);
+
 #endif

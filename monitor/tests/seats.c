@@ -56,6 +56,7 @@ int main(int count, char **words)
     check_orders();
     check_messages();
     check_paces();
+    check_relief();
     check_targets();
     check_refused();
     check_largest();

@@ -189,7 +189,7 @@ class Lender:
     def due(self, until):
         """Returns when a host that stands still is relieved next, before something else happens;
         None where it isn't."""
-        return self.relief.due(self.now, until)
+        return self.relief.due(self.now, until, self.missing)
 
     def relieve(self):
         """Relieves the host, and does what follows of that."""

@@ -13,8 +13,11 @@ VERSION = int.from_bytes(bytes(map(int, __version__.split("."))), "big")
 
 # Of vb_host.h: the lines, and the kinds of events.
 LINE_DEFLATES, LINE_RESETS, LINE_ARRIVALS = 0, 1, 2
-HEARS, OVERDRAWS, WANTS, ARRIVES, TAKES_OVER = 1, 3, 4, 6, 8
+HEARS, WANTS, ARRIVES, TAKES_OVER = 1, 4, 6, 8
 BUDGET, PREFERS, DEFERS = 10, 11, 12
+
+# How many milliseconds nothing moves on a host that stands still.
+STANDS = 1000
 
 # Of vb_policy.h: whether a guest's statistics are at hand, and free memory that they don't tell.
 CONTACT_STARTS, CONTACT_HEARD, CONTACT_AWAY = 0, 2, 3
@@ -76,6 +79,24 @@ class Event(ctypes.Structure):
     ]
 
 
+class Stand(ctypes.Structure):
+    """VbStand."""
+
+    _fields_ = fields(LONG, "first lent since head turn head_since")
+
+
+class Look(ctypes.Structure):
+    """VbLook."""
+
+    _fields_ = [*fields(LONG, "time missing"), *fields(NUMBER, "patience awaits")]
+
+
+class Relief(ctypes.Structure):
+    """VbRelief."""
+
+    _fields_ = [("kind", NUMBER), ("guest", COUNT)]
+
+
 class Figures(ctypes.Structure):
     """VbFigures."""
 
@@ -126,17 +147,20 @@ class Pressure(ctypes.Structure):
     _fields_ = [("last", Sample), ("until", LONG)]
 
 
-SEAT, POLICY_BUDGET = ctypes.POINTER(Seat), ctypes.POINTER(PolicyBudget)
+HOST, SEAT = ctypes.POINTER(Host), ctypes.POINTER(Seat)
+POLICY_BUDGET = ctypes.POINTER(PolicyBudget)
 
 # Each call: what it answers, and what it takes.
 CALLS = {
     "vb_version": (NUMBER,),
     "vb_policy_decide": (Decision, POLICY_BUDGET, ROOM, COUNT, ROOM, COUNT, ROOM, COUNT),
     "vb_policy_press": (Pressure, ctypes.POINTER(Pressure), ctypes.POINTER(Sample), LONG),
-    "vb_host_step": (NUMBER, ctypes.POINTER(Host), ROOM, COUNT, ctypes.POINTER(Event)),
+    "vb_host_step": (NUMBER, HOST, ROOM, COUNT, ctypes.POINTER(Event)),
     "vb_host_owed": (LONG, ROOM, COUNT),
-    "vb_host_room": (NUMBER, ctypes.POINTER(Host), ROOM, COUNT),
+    "vb_host_room": (NUMBER, HOST, ROOM, COUNT),
     "vb_host_first": (COUNT, ROOM, COUNT),
+    "vb_host_stand": (Stand, ROOM, COUNT, ctypes.POINTER(Stand), LONG),
+    "vb_host_relief": (Relief, HOST, ROOM, COUNT, ctypes.POINTER(Stand), ctypes.POINTER(Look)),
     "vb_seat_lent": (LONG, SEAT),
     "vb_seat_asked": (NUMBER, SEAT),
 }

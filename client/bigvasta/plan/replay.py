@@ -125,8 +125,6 @@ def happen(lender, events):
             lender.arrive(guest, use)
         else:
             lender.use(guest, use)
-    if events:
-        lender.relief.was_relieved = False
 
 
 def promised_by(day):

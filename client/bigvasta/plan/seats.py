@@ -32,7 +32,6 @@ class Seats:
         self.wanted, self.target, self.number, self.last_granted = (
             seats[it] for it in ("wanted", "target", "target_number", "granted")
         )
-        self.turn, self.line, self.preferences = (seats[it] for it in ("turn", "line", "preferred"))
         self.ballooned, self.read_number, self.held, self.deflates = (
             told[it] for it in ("ballooned", "target_number", "held", "deflates")
         )
@@ -72,25 +71,16 @@ class Seats:
 
     def first(self):
         """Returns the guest that waits first; None where no guest waits."""
-        return self.first_in(self.seats)
-
-    def first_in(self, seats):
-        """Returns the guest of these seats that waits first; None where no guest waits."""
-        place = self.library.vb_host_first(seats, self.count)
+        place = self.library.vb_host_first(self.seats, self.count)
         return place if place < self.count else None
 
-    def first_of(self, guests):
-        """Returns which of these guests waits first; None where none of them does."""
-        if len(guests) < 2:
-            return guests[0] if guests else None
-        others = (Seat * self.count)()
-        for it in guests:
-            others[it] = self.seats[it]
-        return self.first_in(others)
+    def stand(self, stand, now):
+        """Returns how the host stands now, by how it stood before."""
+        return self.library.vb_host_stand(self.seats, self.count, stand, now)
 
-    def preferred(self):
-        """Returns the guest that comes before all others of its line; None where none does."""
-        return next(iter(self.preferences.nonzero()[0].tolist()), None)
+    def relief(self, stand, look):
+        """Returns the event by which a host is helped that stands so."""
+        return self.library.vb_host_relief(self.host, self.seats, self.count, stand, look)
 
     # ---- what the host wants
 

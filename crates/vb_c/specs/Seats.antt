@@ -11,6 +11,7 @@ use Rattle.vb_host.specs.Lending.{Lending, held_at}
 use Rattle.vb_host.specs.Line.{IsFirst, IsStep}
 use Rattle.vb_c.specs.declared.seats.VbHost.{VbHost}
 use Rattle.vb_c.specs.declared.seats.VbHostEvent.{VbHostEvent}
+use Rattle.vb_c.specs.declared.seats.VbRelief.{VbRelief}
 use Rattle.vb_monitor.specs.Codes.{code_of}
 
 -- the event of a kind, as vb_host.h numbers them, with the fields that it reads
@@ -47,3 +48,10 @@ abbrev pub FirstFor : List Seat → ℕ → Type 0
 FirstFor seats result =
     ((result ≡ 18446744073709551615) × ((n : ℕ) → held_at seats n ≡ 0))
     ⊎ ((result < length seats) × IsFirst seats result)
+
+-- The event by which a host is helped, by its kind and guest; of kind 0 where none is due.
+abbrev pub relief_of : Option Event → VbRelief
+relief_of (Some (Overdraws n)) = record { kind = 3; guest = n }
+relief_of (Some (Prefers n)) = record { kind = 11; guest = n }
+relief_of (Some (Defers n)) = record { kind = 12; guest = n }
+relief_of _ = record { kind = 0; guest = 0 }

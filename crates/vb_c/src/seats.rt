@@ -6,12 +6,13 @@ ghost use Rattle.vb_host.specs.Least.{least_budget};
 ghost use Rattle.vb_host.specs.Lending.{owed, room};
 ghost use Rattle.vb_host.specs.Messages.{followed, noted, reading};
 ghost use Rattle.vb_host.specs.Paces.{pace_of};
+ghost use Rattle.vb_host.specs.Relief.{due_relief, stood};
 ghost use Rattle.vb_host.specs.Seats.{asked, due_grant, due_target, lent, waits};
-ghost use Rattle.vb_c.specs.Seats.{event_of, lending_of, FirstFor, StepsFor};
+ghost use Rattle.vb_c.specs.Seats.{event_of, lending_of, relief_of, FirstFor, StepsFor};
 
 use vb_host::{
-    Aim, Event, Exchange, Message, Pace, Reading, Report, Seat, first_in_line, least_budget, owed,
-    room, step,
+    Aim, Event, Exchange, Look, Message, Pace, Reading, Report, Seat, Stand, due_relief,
+    first_in_line, least_budget, owed, room, step,
 };
 use vb_monitor::{BAD_ARGUMENT, OK};
 
@@ -111,6 +112,14 @@ impl VbHostEvent {
             _ => return None,
         })
     }
+}
+
+/// The event by which a host is helped that stands still; of kind 0 where none is due.
+#[repr(C)]
+#[derive(Clone, Copy, Debug)]
+pub struct VbRelief {
+    pub kind: u32,
+    pub guest: usize,
 }
 
 /// Which layout seats, reports and events have.
@@ -253,4 +262,32 @@ pub extern "C" fn vb_host_first(seats: &[Seat]) -> usize
         Some(guest) => guest,
         None => usize::MAX,
     }
+}
+
+/// How a host stands now.
+#[unsafe(no_mangle)]
+pub extern "C" fn vb_host_stand(seats: &[Seat], stand: &Stand, now: u64) -> Stand
+    ensures { result ≡ stood now stand.now seats.now }
+{
+    stand.noted(seats, now)
+}
+
+/// What a host that stands still is to do next.
+#[unsafe(no_mangle)]
+pub extern "C" fn vb_host_relief(
+    host: &VbHost,
+    seats: &[Seat],
+    stand: &Stand,
+    look: &Look,
+) -> VbRelief
+    ensures { result ≡
+        relief_of (due_relief look.now stand.now (lending_of host.now seats.now)) }
+{
+    let (kind, guest) = match due_relief(host.frames, host.overdraft, seats, stand, look) {
+        Some(Event::Prefers { guest }) => (PREFERS, guest),
+        Some(Event::Overdraws { guest }) => (OVERDRAWS, guest),
+        Some(Event::Defers { guest }) => (DEFERS, guest),
+        _ => (0, 0),
+    };
+    VbRelief { kind, guest }
 }

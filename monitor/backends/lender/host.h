@@ -131,20 +131,6 @@ struct host_counters {
     uint64_t grants;                      /* of room, deflates and resets that waited */
 };
 
-/* Who waits first, and what is lent to all; and since when nothing of that has changed. */
-struct stand {
-    size_t first;
-    uint64_t lent;
-    int64_t since;
-};
-
-/* The guest that waits first of those that restart or come, its turn, and since when. */
-struct head {
-    size_t first;
-    uint64_t turn;
-    int64_t since;
-};
-
 /* What guests that wait take in the end beyond what is lent to them, as their statistics say, and
  * the least budget with which all of them have it, in pages. */
 struct demand {
@@ -192,8 +178,7 @@ struct host {
     int channels;                 /* the folder where a later lender finds guests' processes */
     uint64_t features;
     VbHost lends; /* what it may lend: nothing before a guest of an earlier lender has reported */
-    struct stand stand;
-    struct head head;
+    VbStand stand; /* at the last look */
     struct shortage shortage;
     uint32_t patience;    /* seconds for which a shortage lasts until the operator is told, and for
                              which the first that waits to come keeps others waiting */

@@ -65,7 +65,7 @@ static void look(struct host *host)
     each_seat(host, seat_reach);
     loans_audit(host);
     policy_decide(host);
-    places_relieve(host), places_defer(host);
+    places_relieve(host);
     shortage_look(host);
     for (unsigned i = 0; i < host->leaving_count; i++)
         seat_hurry(host->leaving[i]);

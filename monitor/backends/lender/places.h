@@ -62,16 +62,11 @@ void places_follow_budget(struct host *host);
 
 /* ---- relief.c */
 
-/* Makes room for this many places; false where there is no memory. */
-bool relief_make(size_t places);
-
 /* Once nothing has moved for a while, the first that waits is granted from the overdraft, and on a
- * short host proceeds alone: it comes before all others of its line until it asks no more. */
+ * short host proceeds alone: it comes before all others of its line until it asks no more. Once the
+ * first of those that restart or come has waited for as long as the host is patient, it lets others
+ * pass, if there are any. */
 void places_relieve(struct host *host);
-
-/* Once the first of those that restart or come has waited for as long as the host is patient, it
- * lets others pass, if there are any. */
-void places_defer(struct host *host);
 
 /* ---- seats.c */
 

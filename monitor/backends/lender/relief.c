@@ -1,73 +1,28 @@
-/* The way out where guests wait for each other: one proceeds alone, or from the overdraft; and who
- * has waited too long lets others pass. */
+/* The way out where guests wait for each other, as the library says it (vb_host_relief). */
 #include "places.h"
 
-#include <stdlib.h>
+/* Events of one look: one each that its preference ends, that it lets others pass, that another is
+ * preferred, and that this one is lent from the overdraft. */
+enum { MOST_RELIEFS = 4 };
 
-enum { STANDS = 1000 }; /* milliseconds in which nothing moves, and a host stands still */
-
-/* The place of the guest that is preferred; SIZE_MAX where none is. */
-static size_t preferred(const struct host *host)
+/* The next event that is due; of kind 0 where none is. */
+static VbRelief relief_at(struct host *host, const VbLook *look)
 {
-    for (size_t i = 0; i < host->place_count; i++)
-        if (host->places[i].preferred)
-            return i;
-    return SIZE_MAX;
-}
-
-/* Whether nothing has moved for a while: who waits first, and what is lent. */
-static bool stands_still(struct host *host, size_t first)
-{
-    uint64_t lent = places_owed(host);
-    if (first != host->stand.first || lent != host->stand.lent)
-        host->stand = (struct stand){first, lent, loop_now()};
-    return !host_awaits(host) && loop_now() - host->stand.since >= STANDS;
+    const VbSeat *seats = host->places;
+    host->stand = vb_host_stand(seats, host->place_count, &host->stand, look->time);
+    return vb_host_relief(&host->lends, seats, host->place_count, &host->stand, look);
 }
 
 void places_relieve(struct host *host)
 {
-    size_t first = vb_host_first(host->places, host->place_count);
-    size_t alone = host->missing > 0 ? first : SIZE_MAX;
-    if (!stands_still(host, first))
-        return;
-    if (preferred(host) != alone)
-        places_step(host, (VbHostEvent){.kind = VB_PREFERS, .guest = alone});
-    if (first != SIZE_MAX)
-        places_step(host, (VbHostEvent){.kind = VB_OVERDRAWS, .guest = first});
-}
-
-/* All places but those that don't count. */
-static VbSeat *others;
-
-bool relief_make(size_t places)
-{
-    others = calloc(places, sizeof others[0]);
-    return others;
-}
-
-/* Who waits first of those that restart or come, but for one; SIZE_MAX where nobody does. */
-static size_t first_beside(const struct host *host, size_t except)
-{
-    for (size_t i = 0; i < host->place_count; i++) {
-        bool counts = host->places[i].line != VB_LINE_DEFLATES && i != except;
-        others[i] = counts ? host->places[i] : (VbSeat){0};
+    const VbLook look = {.time = (uint64_t)loop_now(),
+                         .missing = host->missing,
+                         .patience = host->patience,
+                         .awaits = host_awaits(host)};
+    for (int i = 0; i < MOST_RELIEFS; i++) {
+        VbRelief relief = relief_at(host, &look);
+        if (relief.kind == 0)
+            return;
+        places_step(host, (VbHostEvent){.kind = relief.kind, .guest = relief.guest});
     }
-    return vb_host_first(others, host->place_count);
-}
-
-void places_defer(struct host *host)
-{
-    enum { SECOND = 1000 };
-    struct head *head = &host->head;
-    size_t first = first_beside(host, SIZE_MAX);
-    uint64_t turn = first == SIZE_MAX ? 0 : host->places[first].turn;
-    if (first != head->first || turn != head->turn)
-        *head = (struct head){first, turn, loop_now()};
-    bool is_patient =
-        host_awaits(host) || loop_now() - head->since < (int64_t)host->patience * SECOND;
-    if (is_patient || first == SIZE_MAX || first_beside(host, first) == SIZE_MAX)
-        return;
-    if (host->places[first].preferred)
-        places_step(host, (VbHostEvent){.kind = VB_PREFERS, .guest = SIZE_MAX});
-    places_step(host, (VbHostEvent){.kind = VB_DEFERS, .guest = first});
 }

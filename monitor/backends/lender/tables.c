@@ -33,7 +33,6 @@ bool host_make_tables(struct host *host, unsigned guests)
     host->most = guests;
     return (tables_make(tables, sizeof tables / sizeof tables[0]) &&
             journal_make(&host->journal, 2 * guests) && policy_make(guests) &&
-            relief_make(places_of(guests)) &&
             loop_reserve(&host->loop, 2 * guests * FILES_OF_SEAT + FILES_OF_REST)) ||
            refuse("there is no memory for %u guests", guests);
 }

@@ -7,7 +7,7 @@
 
 use crate::raw::*;
 
-pub use crate::raw::{Aim, Message, Pace, Reading, Report, Seat, Exchange};
+pub use crate::raw::{Aim, Exchange, Look, Message, Pace, Reading, Report, Seat, Stand};
 
 /// In which line a deflate waits, as `line` of a [`Report`] has it. Those of an earlier line come
 /// before all of a later one.
@@ -20,7 +20,7 @@ pub enum Line {
     Arrivals = LINE_ARRIVALS as isize,
 }
 
-/// What a guest's process asks for, as `waits` of a [`Message`] and `ask` of a [`Exchange`] have it.
+/// What a guest's process asks for, as `waits` of a [`Message`] and `ask` of an [`Exchange`] have it.
 #[derive(Clone, Copy, Debug, PartialEq, Eq)]
 pub enum Ask {
     Nothing = ASK_NOTHING as isize,
@@ -220,5 +220,25 @@ impl Lender {
         // SAFETY: the pointer is of a slice with its length.
         let place = unsafe { vb_host_first(self.seats.as_ptr(), self.seats.len()) };
         (place < self.seats.len()).then_some(place)
+    }
+
+    /// How the host stands now, by how it stood at the look before, and the time in milliseconds.
+    pub fn stand(&self, stand: &Stand, now: u64) -> Stand {
+        // SAFETY: the pointers are of a slice with its length, and of a `&`.
+        unsafe { vb_host_stand(self.seats.as_ptr(), self.seats.len(), stand, now) }
+    }
+
+    /// The event by which a host is helped that stands so: to be followed by [`Lender::step`], and
+    /// by another look at once. None where none is due.
+    pub fn relief(&self, stand: &Stand, look: &Look) -> Option<Event> {
+        // SAFETY: the pointers are of `&`, and of a slice with its length.
+        let relief = unsafe { vb_host_relief(&self.host, self.seats.as_ptr(), self.seats.len(), stand, look) };
+        let guest = relief.guest;
+        match relief.kind {
+            OVERDRAWS => Some(Event::Overdraws { guest }),
+            PREFERS => Some(Event::Prefers { guest }),
+            DEFERS => Some(Event::Defers { guest }),
+            _ => None,
+        }
     }
 }

@@ -1,6 +1,8 @@
 //! A host of 100 frames and two guests, by pencil: vb_host.h over a list of seats.
 
-use vb_balloon::lender::{Aim, Ask, Event, Hold, Lender, Line, Message, Pace, Reading, Report, Seat, Exchange};
+use vb_balloon::lender::{
+    Aim, Ask, Event, Exchange, Hold, Lender, Line, Look, Message, Pace, Reading, Report, Seat, Stand,
+};
 
 /// What the process of a guest of these pages reports before it is let in.
 fn coming(pages: u32, ballooned: u32) -> Report {
@@ -179,6 +181,22 @@ fn one_that_is_preferred_comes_first_in_its_line() {
     lender.step(Event::Prefers { guest: 2 });
     assert_eq!((lender.first(), lender.owed()), (Some(1), 70));
     assert_eq!(lender.seats()[2].preferred, 1);
+}
+
+#[test]
+fn a_host_that_stands_still_is_helped() {
+    let mut lender = short();
+    let stand = lender.stand(&Stand::default(), 1000);
+    assert_eq!(stand, Stand { first: 2, lent: 40, since: 1000, head: 2, turn: 1, head_since: 1000 });
+    assert_eq!(lender.stand(&stand, 1500), stand);
+    let look = Look { time: 2000, missing: 10, patience: 3, awaits: 0 };
+    assert_eq!(lender.relief(&stand, &Look { time: 1999, ..look }), None);
+    assert_eq!(lender.relief(&stand, &look), Some(Event::Prefers { guest: 1 }));
+    assert_eq!(lender.relief(&stand, &Look { missing: 0, ..look }), None, "the overdraft has nothing");
+    assert_eq!(lender.relief(&stand, &Look { time: 4000, ..look }), Some(Event::Defers { guest: 1 }));
+    lender.host.overdraft = 10;
+    assert_eq!(lender.relief(&stand, &Look { missing: 0, ..look }), Some(Event::Overdraws { guest: 1 }));
+    assert_eq!(lender.stand(&stand, 1500).since, 1000);
 }
 
 #[test]

@@ -186,6 +186,8 @@ static void check_readers(const struct day *day)
         vb_host_first(seats, day->count) != reference_host_first(seats, day->count) ||
         vb_host_least_budget(seats, day->count) != reference_host_least_budget(seats, day->count))
         fail(day, "the plain implementation reads something else of all");
+    if (!is_relieved_alike(&day->host, seats, day->count))
+        fail(day, "the plain implementation is helped otherwise");
     for (const VbSeat *it = seats; it < seats + day->count; it++)
         if (vb_seat_lent(it) != reference_seat_lent(it) ||
             vb_seat_asked(it) != reference_seat_asked(it) ||
