@@ -306,6 +306,9 @@ VB_ASSERT(offsetof(VbReading, resets) == 76);
  * event has no effect; VB_BAD_ARGUMENT where its kind is none of the above, and then nothing
  * changes. */
 uint32_t vb_host_step(VbHost *host, VbSeat *seats, size_t count, const VbHostEvent *event);
+/* An event alone, with no grant and no target after it: where many events happen at once, all but
+ * the last one. Answers as vb_host_step does. */
+uint32_t vb_host_happen(VbHost *host, VbSeat *seats, size_t count, const VbHostEvent *event);
 
 /* How many frames are lent to a guest: its limit. Less than 2^33; 32 bits are enough where `pages`
  * and `outside` are less than 2^32 together, as they are unless VB_TAKES_OVER brings more. */

@@ -38,6 +38,7 @@ REFERENCE(stop_queue);
 REFERENCE(forget_held);
 REFERENCE(set_status);
 REFERENCE(host_step);
+REFERENCE(host_happen);
 REFERENCE(host_owed);
 REFERENCE(host_least_budget);
 REFERENCE(host_room);

@@ -324,7 +324,7 @@ static VbSeat seat_then(const VbHost *host, const VbSeat *seats, size_t count,
     }
 }
 
-uint32_t vb_host_step(VbHost *host, VbSeat *seats, size_t count, const VbHostEvent *event)
+uint32_t vb_host_happen(VbHost *host, VbSeat *seats, size_t count, const VbHostEvent *event)
 {
     if (event->kind < VB_HEARS || event->kind > VB_DEFERS)
         return VB_BAD_ARGUMENT;
@@ -336,6 +336,14 @@ uint32_t vb_host_step(VbHost *host, VbSeat *seats, size_t count, const VbHostEve
         join(seats, count, event->guest, event->added);
     else if (event->guest < count)
         seats[event->guest] = seat_then(host, seats, count, event);
+    return VB_OK;
+}
+
+uint32_t vb_host_step(VbHost *host, VbSeat *seats, size_t count, const VbHostEvent *event)
+{
+    uint32_t code = vb_host_happen(host, seats, count, event);
+    if (code != VB_OK)
+        return code;
     while (grant_next(host, seats, count))
         ;
     target_all(host, seats, count);

@@ -10,7 +10,8 @@ use Rattle.vb_host.specs.Seats.{covers, newcomer}
 use Rattle.vb_host.proofs.Outcome.{step_one}
 use Rattle.vb_c.specs.declared.seats.VbHost.{VbHost}
 use Rattle.vb_c.specs.declared.seats.VbHostEvent.{VbHostEvent}
-use Rattle.vb_c.specs.Seats.{event_of, lending_of, FirstFor, StepsFor}
+use Rattle.vb_c.specs.declared.seats.VbRelief.{VbRelief}
+use Rattle.vb_c.specs.Seats.{event_of, lending_of, relief_of, FirstFor, HappensFor, StepsFor}
 use Rattle.vb_c.proofs.Samples.{Same}
 
 abbrev report : Report
@@ -122,6 +123,25 @@ refused_so new seats n h = h.refused refl
 refused_at_zero : (new : VbHost) (seats : List Seat) (n : ℕ) → StepsFor host new before seats (record told { kind = 0 }) n
     → (n ≡ 7) × (new ≡ host) × (seats ≡ before)
 refused_at_zero new seats n h = h.refused refl
+
+-- ---- an event alone: no target follows
+
+happens_so : (new : VbHost) (seats : List Seat) (n : ℕ) → HappensFor host new before seats told n
+    → (n ≡ 0) × (lending_of new seats ≡ lending_of host (seat 30 30 10 3 ∷ []))
+happens_so new seats n h = h.happened (Wants 0 10) refl
+
+happens_not : (new : VbHost) (seats : List Seat) (n : ℕ) → HappensFor host new before seats (record told { kind = 13 }) n
+    → (n ≡ 7) × (new ≡ host) × (seats ≡ before)
+happens_not new seats n h = h.refused refl
+
+-- ---- who is helped
+
+abbrev relief : ℕ → ℕ → VbRelief
+relief kind guest = record { kind = kind; guest = guest }
+
+helps : map relief_of (some (Prefers 4) ∷ some (Overdraws 5) ∷ some (Defers 6) ∷ some (Grants 7) ∷ none ∷ [])
+    ≡ relief 11 4 ∷ relief 3 5 ∷ relief 12 6 ∷ relief 0 0 ∷ relief 0 0 ∷ []
+helps = refl
 
 -- ---- who waits first
 

@@ -7,7 +7,7 @@ use Rattle.vb_host.specs.declared.event.Event.TheVariants.{Hears, Grants, Overdr
 use Rattle.vb_host.specs.declared.event.Event.TheVariants.{Arrives, Joins, TakesOver, Uncounts}
 use Rattle.vb_host.specs.declared.event.Event.TheVariants.{Budget, Prefers, Defers}
 use Rattle.vb_host.specs.declared.seat.Seat.{Seat}
-use Rattle.vb_host.specs.Lending.{Lending, held_at}
+use Rattle.vb_host.specs.Lending.{Lending, happens, held_at}
 use Rattle.vb_host.specs.Line.{IsFirst, IsStep}
 use Rattle.vb_c.specs.declared.seats.VbHost.{VbHost}
 use Rattle.vb_c.specs.declared.seats.VbHostEvent.{VbHostEvent}
@@ -42,6 +42,14 @@ pub record StepsFor (host_old host_new : VbHost) (old new : List Seat) (event : 
       → (result ≡ code_of BadArgument) × (host_new ≡ host_old) × (new ≡ old)
   pub stepped : (e : Event) → event_of event ≡ Some e
       → (result ≡ 0) × IsStep (lending_of host_old old) e (lending_of host_new new)
+
+-- The event alone.
+pub record HappensFor (host_old host_new : VbHost) (old new : List Seat) (event : VbHostEvent)
+    (result : ℕ) : Type 0 where
+  pub refused : event_of event ≡ None
+      → (result ≡ code_of BadArgument) × (host_new ≡ host_old) × (new ≡ old)
+  pub happened : (e : Event) → event_of event ≡ Some e
+      → (result ≡ 0) × (lending_of host_new new ≡ happens (lending_of host_old old) e)
 
 -- The place of the guest that waits first; 2^64 - 1 where no guest waits.
 abbrev pub FirstFor : List Seat → ℕ → Type 0

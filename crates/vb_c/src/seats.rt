@@ -8,11 +8,11 @@ ghost use Rattle.vb_host.specs.Messages.{followed, noted, reading};
 ghost use Rattle.vb_host.specs.Paces.{pace_of};
 ghost use Rattle.vb_host.specs.Relief.{due_relief, stood};
 ghost use Rattle.vb_host.specs.Seats.{asked, due_grant, due_target, lent, waits};
-ghost use Rattle.vb_c.specs.Seats.{event_of, lending_of, relief_of, FirstFor, StepsFor};
+ghost use Rattle.vb_c.specs.Seats.{event_of, lending_of, relief_of, FirstFor, HappensFor, StepsFor};
 
 use vb_host::{
     Aim, Event, Exchange, Look, Message, Pace, Reading, Report, Seat, Stand, due_relief,
-    first_in_line, least_budget, owed, room, step,
+    first_in_line, happen, least_budget, owed, room, step,
 };
 use vb_monitor::{BAD_ARGUMENT, OK};
 
@@ -138,6 +138,20 @@ pub extern "C" fn vb_host_step(host: &mut VbHost, seats: &mut [Seat], event: &Vb
     match event.event() {
         Some(event) => {
             step(&mut host.frames, host.overdraft, seats, &event);
+            OK
+        }
+        None => BAD_ARGUMENT,
+    }
+}
+
+/// What happens, before the next step: nobody is granted by it, and no target follows.
+#[unsafe(no_mangle)]
+pub extern "C" fn vb_host_happen(host: &mut VbHost, seats: &mut [Seat], event: &VbHostEvent) -> u32
+    ensures { HappensFor host.old host.new seats.old seats.new event.now result }
+{
+    match event.event() {
+        Some(event) => {
+            happen(&mut host.frames, host.overdraft, seats, &event);
             OK
         }
         None => BAD_ARGUMENT,

@@ -178,7 +178,8 @@ struct host {
     int channels;                 /* the folder where a later lender finds guests' processes */
     uint64_t features;
     VbHost lends; /* what it may lend: nothing before a guest of an earlier lender has reported */
-    VbStand stand; /* at the last look */
+    VbStand stand;  /* at the last look */
+    bool unsettled; /* something has happened that no step has followed */
     struct shortage shortage;
     uint32_t patience;    /* seconds for which a shortage lasts until the operator is told, and for
                              which the first that waits to come keeps others waiting */
@@ -357,10 +358,11 @@ void seat_ended(struct seat *seat);
 void seat_look(struct seat *seat, bool asks);
 void seat_remind(struct seat *seat);
 
-/* Decides how many pages the host wants in its balloon, and wants as many as a step allows. */
+/* Decides how many pages the host wants in its balloon, and wants as many as a step allows, which
+ * places_settle() follows. */
 void seat_set_target(struct seat *seat, uint32_t pages);
 
-/* Lets what is wanted grow by what `milliseconds` allow; whether that is less than what was
+/* Lets what is wanted grow by what `milliseconds` allow, which places_settle() follows; whether that is less than what was
  * decided, or a target isn't received. */
 void seat_step(struct seat *seat, int64_t milliseconds);
 bool seat_is_behind(const struct seat *seat);

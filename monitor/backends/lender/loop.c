@@ -250,6 +250,7 @@ static void step(struct host *host, int64_t now)
     for (unsigned i = 0; i < host->count; i++)
         if (seat_is_taken(host->seats[i]))
             seat_step(host->seats[i], passed);
+    places_settle(host);
 }
 
 static int take_signal(void *context, int file)

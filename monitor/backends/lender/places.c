@@ -72,20 +72,39 @@ static void follow_step(struct seat *seat)
 
 static void join(struct seat *seat);
 
+static void expect_done(uint32_t code, const VbHostEvent *event)
+{
+    if (code == VB_OK)
+        return;
+    complain("the lender's step refuses event %u: %u", event->kind, code);
+    abort();
+}
+
+/* What happens is followed by the next step. */
+static void happen(struct host *host, VbHostEvent event)
+{
+    expect_done(vb_host_happen(&host->lends, host->places, host->place_count, &event), &event);
+    host->unsettled = true;
+}
+
 void places_step(struct host *host, VbHostEvent event)
 {
     struct seat *seat;
-    uint32_t code = vb_host_step(&host->lends, host->places, host->place_count, &event);
-    if (code != VB_OK) {
-        complain("the lender's step refuses event %u: %u", event.kind, code);
-        abort();
-    }
+    bool all = host->unsettled;
+    host->unsettled = false;
+    expect_done(vb_host_step(&host->lends, host->places, host->place_count, &event), &event);
     for (unsigned i = 0; (seat = seat_at(host, i)); i++)
-        if (may_have_changed(seat, event.guest))
+        if (all || may_have_changed(seat, event.guest))
             follow_step(seat);
     for (unsigned i = 0; (seat = seat_at(host, i)); i++)
         if (seat->added != NO_PLACE)
             join(seat);
+}
+
+void places_settle(struct host *host)
+{
+    if (host->unsettled)
+        places_step(host, (VbHostEvent){.kind = VB_WANTS, .guest = host->place_count});
 }
 
 /* Nobody has any memory there any longer. */
@@ -188,11 +207,15 @@ static bool may_add(const struct seat *seat)
     return seat->added != NO_PLACE || seat_has_paid(seat) <= loop_now();
 }
 
+static VbHostEvent taking_over(const struct seat *seat, uint32_t pages, VbReport report)
+{
+    return (VbHostEvent){
+        .kind = VB_TAKES_OVER, .guest = seat->place, .pages = pages, .report = report};
+}
+
 static void take_over(struct seat *seat, uint32_t pages, VbReport report)
 {
-    places_step(seat->host,
-                (VbHostEvent){
-                    .kind = VB_TAKES_OVER, .guest = seat->place, .pages = pages, .report = report});
+    places_step(seat->host, taking_over(seat, pages, report));
 }
 
 /* A guest whose process holds nothing back: it has what its report says, and any target at once. */
@@ -200,9 +223,10 @@ static void follow(struct seat *seat, uint32_t pages, uint32_t target)
 {
     VbMessage message = ask_message(seat, &seat->report);
     bool is_uncounted = place_of(seat)->uncounted;
-    take_over(seat, pages, vb_seat_follow(place_of(seat), &message, pages, target));
+    VbReport report = vb_seat_follow(place_of(seat), &message, pages, target);
+    happen(seat->host, taking_over(seat, pages, report));
     if (is_uncounted)
-        places_step(seat->host, (VbHostEvent){.kind = VB_UNCOUNTS, .guest = seat->place});
+        happen(seat->host, (VbHostEvent){.kind = VB_UNCOUNTS, .guest = seat->place});
 }
 
 void place_hears(struct seat *seat)
@@ -212,6 +236,7 @@ void place_hears(struct seat *seat)
     VbReading reading = ask_read(seat, &seat->report);
     if (!seat->holds) {
         follow(seat, waits ? its->pages + reading.joins : seat->report.pages, its->wanted);
+        places_settle(seat->host);
     } else if (its->granted == 0) {
         hear_newcomer(seat);
     } else {
@@ -224,6 +249,7 @@ void place_hears(struct seat *seat)
 void place_admits(struct seat *seat)
 {
     follow(seat, seat->report.wanted, place_of(seat)->wanted);
+    places_settle(seat->host);
 }
 
 void place_reserves(struct seat *seat, uint32_t pages)
@@ -303,6 +329,5 @@ void place_wants(struct seat *seat, uint32_t pages)
     if (!seat->holds)
         follow(seat, its->pages, pages);
     else
-        places_step(seat->host,
-                    (VbHostEvent){.kind = VB_WANTS, .guest = seat->place, .pages = pages});
+        happen(seat->host, (VbHostEvent){.kind = VB_WANTS, .guest = seat->place, .pages = pages});
 }

@@ -51,11 +51,13 @@ void place_uncounts(struct seat *seat);
 void place_stays(struct seat *seat);
 void place_leaves(struct seat *seat);
 
-/* `pages` of it are wanted in its balloon. */
+/* `pages` of it are wanted in its balloon, which the next step follows. */
 void place_wants(struct seat *seat, uint32_t pages);
 
-/* Something happens: the step, and what is sent by what comes of it. */
+/* Something happens: the step, and what is sent by what comes of it; also of what has happened
+ * before without a step, to which nothing is added. */
 void places_step(struct host *host, VbHostEvent event);
+void places_settle(struct host *host);
 
 /* What may be lent is the budget, once all guests of an earlier lender have reported. */
 void places_follow_budget(struct host *host);

@@ -269,20 +269,18 @@ static void note(struct host *host, const struct guests *guests, VbDecision is)
     journal_add(host, &decision);
 }
 
-/* Tells the guests their targets; those that are to give more come first. Returns how many have
- * changed. */
-static unsigned tell(const struct guests *guests)
+/* Tells the guests their targets. Returns how many have changed. */
+static unsigned tell(struct host *host, const struct guests *guests)
 {
     unsigned changed = 0;
-    for (int lower = 0; lower < 2; lower++)
-        for (unsigned i = 0; i < guests->count; i++) {
-            struct seat *seat = guests->seats[i];
-            uint32_t old = seat->target, target = guests->targets[i];
-            if (target == old || (target < old) != lower)
-                continue;
-            seat_set_target(seat, target);
-            changed++;
-        }
+    for (unsigned i = 0; i < guests->count; i++) {
+        struct seat *seat = guests->seats[i];
+        if (guests->targets[i] == seat->target)
+            continue;
+        seat_set_target(seat, guests->targets[i]);
+        changed++;
+    }
+    places_settle(host);
     return changed;
 }
 
@@ -317,7 +315,7 @@ static void decide(struct host *host)
     host->missing = is.missing;
     host->tier = is.tier;
     host->anew = false;
-    host->counters.changed += tell(&decided);
+    host->counters.changed += tell(host, &decided);
 }
 
 void policy_decide(struct host *host)

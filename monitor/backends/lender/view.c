@@ -341,5 +341,6 @@ const char *host_set_target(struct host *host, const char *name, uint32_t pages)
         return "nobody is there";
     seat->by_hand = pages;
     seat_set_target(seat, pages);
+    places_settle(host);
     return NULL;
 }

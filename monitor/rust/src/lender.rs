@@ -185,6 +185,14 @@ impl Lender {
         unsafe { vb_host_step(&mut self.host, self.seats.as_mut_ptr(), self.seats.len(), &plain) };
     }
 
+    /// An event alone, with no grant and no target after it: where many events happen at once, all
+    /// but the last one.
+    pub fn happen(&mut self, event: Event) {
+        let plain = event.plain();
+        // SAFETY: the pointers are of `&mut` and `&`, and of a slice with its length.
+        unsafe { vb_host_happen(&mut self.host, self.seats.as_mut_ptr(), self.seats.len(), &plain) };
+    }
+
     /// What is known of each guest.
     pub fn seats(&self) -> &[Seat] {
         &self.seats

@@ -184,6 +184,18 @@ fn one_that_is_preferred_comes_first_in_its_line() {
 }
 
 #[test]
+fn events_alone_are_followed_by_one_step() {
+    let mut lender = host();
+    lender.happen(Event::Budget { frames: 136 });
+    assert_eq!((lender.frames(), lender.first(), lender.owed()), (136, Some(1), 50));
+    lender.happen(Event::Wants { guest: 0, pages: 20 });
+    assert_eq!(lender.seats()[0].target, 10);
+    lender.step(Event::Wants { guest: 1, pages: 3 });
+    assert_eq!((lender.first(), lender.owed()), (None, 136));
+    assert_eq!((lender.seats()[0].target, lender.seats()[1].target), (20, 3));
+}
+
+#[test]
 fn a_host_that_stands_still_is_helped() {
     let mut lender = short();
     let stand = lender.stand(&Stand::default(), 1000);
@@ -194,9 +206,6 @@ fn a_host_that_stands_still_is_helped() {
     assert_eq!(lender.relief(&stand, &look), Some(Event::Prefers { guest: 1 }));
     assert_eq!(lender.relief(&stand, &Look { missing: 0, ..look }), None, "the overdraft has nothing");
     assert_eq!(lender.relief(&stand, &Look { time: 4000, ..look }), Some(Event::Defers { guest: 1 }));
-    lender.host.overdraft = 10;
-    assert_eq!(lender.relief(&stand, &Look { missing: 0, ..look }), Some(Event::Overdraws { guest: 1 }));
-    assert_eq!(lender.stand(&stand, 1500).since, 1000);
 }
 
 #[test]

@@ -173,6 +173,7 @@ static void check_refusals(void)
         VbHost host = {.frames = 60, .overdraft = 7};
         const VbHostEvent event = {.kind = kinds[i], .pages = 3, .frames = 9};
         expect(vb_host_step(&host, seats, 2, &event) == VB_BAD_ARGUMENT, "a kind that is none");
+        expect(vb_host_happen(&host, seats, 2, &event) == VB_BAD_ARGUMENT, "nor alone");
         expect(same_seat(&seats[0], &before[0]) && same_seat(&seats[1], &before[1]),
                "a refusal leaves all seats");
         expect(host.frames == 60 && host.overdraft == 7, "a refusal leaves the budget");

@@ -176,6 +176,25 @@ static void check_settled(const struct day *day)
     check_same(day, &host, seats, "a step leaves something to do");
 }
 
+/* The event alone is the same to both, and what a step leaves that follows it is what the event's
+ * own step does. */
+static void check_happens(const struct day *day, VbHost host, const VbSeat *before)
+{
+    VbHostEvent nothing = {.kind = VB_WANTS, .guest = day->count};
+    VbHost twin = host;
+    VbSeat seats[PLACES], twins[PLACES];
+    memcpy(seats, before, sizeof seats);
+    memcpy(twins, before, sizeof twins);
+    if (vb_host_happen(&host, seats, day->count, &day->event) != VB_OK ||
+        reference_host_happen(&twin, twins, day->count, &day->event) != VB_OK)
+        fail(day, "an event alone is refused");
+    for (size_t i = 0; i < day->count; i++)
+        if (!same_seat(&seats[i], &twins[i]))
+            fail(day, "an event alone leaves something else");
+    vb_host_step(&host, seats, day->count, &nothing);
+    check_same(day, &host, seats, "a step after an event alone leaves something else");
+}
+
 static void check_readers(const struct day *day)
 {
     const VbSeat *seats = day->seats;
@@ -254,6 +273,7 @@ static void play(struct day *day)
         reference_host_step(&day->twin, day->twins, day->count, &day->event) != VB_OK)
         fail(day, "an event is refused");
     check_same(day, &day->twin, day->twins, "the plain implementation leaves something else");
+    check_happens(day, host, before);
     check_readers(day);
     note_effect(day, before, host);
     if (day->odd)
