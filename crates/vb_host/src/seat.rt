@@ -188,7 +188,11 @@ impl Seat {
     pub(crate) fn held_from(&self, line: u32) -> u32
         ensures { result ≡ (lined line self.now).held }
     {
-        if line <= self.line_rank() { self.held } else { 0 }
+        if line <= self.line_rank() {
+            self.held
+        } else {
+            0
+        }
     }
 
     /// Its rank among those that wait.

@@ -197,7 +197,7 @@ fn events_alone_are_followed_by_one_step() {
 
 #[test]
 fn a_host_that_stands_still_is_helped() {
-    let mut lender = short();
+    let lender = short();
     let stand = lender.stand(&Stand::default(), 1000);
     assert_eq!(stand, Stand { first: 2, lent: 40, since: 1000, head: 2, turn: 1, head_since: 1000 });
     assert_eq!(lender.stand(&stand, 1500), stand);
