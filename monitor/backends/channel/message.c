@@ -9,6 +9,13 @@ bool lending_send(int channel, struct lending_message *message)
                                (ssize_t)sizeof *message;
 }
 
+/* Whether a read has answered that the other end was closed with messages unread: that is answered
+ * once, before what it had sent is. */
+static bool is_reset(ssize_t got)
+{
+    return got < 0 && errno == ECONNRESET;
+}
+
 /* What has come, by what the read of a message has answered. */
 static int take(ssize_t got, struct lending_message *message)
 {
@@ -30,7 +37,8 @@ static int read_all(int channel, struct lending_message messages[],
         parts[i] = (struct iovec){&messages[i], sizeof messages[i]};
         headers[i].msg_hdr = (struct msghdr){.msg_iov = &parts[i], .msg_iovlen = 1};
     }
-    return recvmmsg(channel, headers, most, MSG_DONTWAIT | MSG_TRUNC, NULL);
+    int came = recvmmsg(channel, headers, most, MSG_DONTWAIT | MSG_TRUNC, NULL);
+    return is_reset(came) ? recvmmsg(channel, headers, most, MSG_DONTWAIT | MSG_TRUNC, NULL) : came;
 }
 
 unsigned lending_read(int channel, struct lending_message messages[], unsigned most, bool *ended)
@@ -62,7 +70,10 @@ int lending_read_from(int channel, struct lending_message *message, pid_t *sende
                             .msg_iovlen = 1,
                             .msg_control = &control,
                             .msg_controllen = sizeof control};
-    int got = take(recvmsg(channel, &header, MSG_DONTWAIT | MSG_TRUNC), message);
+    ssize_t came = recvmsg(channel, &header, MSG_DONTWAIT | MSG_TRUNC);
+    if (is_reset(came))
+        came = recvmsg(channel, &header, MSG_DONTWAIT | MSG_TRUNC);
+    int got = take(came, message);
     const struct cmsghdr *its = got > 0 ? CMSG_FIRSTHDR(&header) : NULL;
     struct ucred credentials = {0};
     if (its && its->cmsg_type == SCM_CREDENTIALS)

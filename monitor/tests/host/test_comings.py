@@ -2,16 +2,18 @@
 others may have to give; what a seat owes is bounded."""
 
 import contextlib
+import select
 import time
 
 import pytest
-from played import WAIT_ROOM, Listens, Played
-from tenants import AVAILABLE, FREE, eventually
+from played import TELL_REFUSED, TELL_REMARK, VERSION, WAIT_ROOM, Listens, Message, Played
+from tenants import AVAILABLE, FREE, eventually, go_on, status_of, stop
 from test_later_lender import QUICK
 from test_pressed import KILLS
 from test_strict import GIVEN, STRICT, Later
 from test_turns import connect
 from vhost_client import ADD_MEM_REG, BY_MESSAGES, OFFERED, REM_MEM_REG, Client
+from waiting import PATIENCE
 
 # Seconds: what a client costs, what memory of the budget's size does, and what a seat may owe.
 OF_CLIENT, OF_BUDGET, MOST_OWED = 2, 30, 60
@@ -139,6 +141,24 @@ def test_messages_that_are_not_read_count_for_their_client_alone(lend):
     channel.close(), listens.end()
     lender.become("a", here=0)
     assert lost() == 0
+
+
+def test_the_last_words_of_a_process_that_reads_no_longer_are_heard(lend):
+    """It has closed its channel with orders unread, before the lender reads what it said."""
+    lender = lend(1, *STRICT)
+    listens = Listens(lender.folder, "a")
+    lender.demand("add a strict=1")
+    channel = listens.accept()
+    select.select([channel], [], [], PATIENCE)
+    stop(lender.process.pid)
+    eventually(lambda: status_of(lender.process.pid)["State"].startswith("T"))
+    for kind, words in ((TELL_REMARK, b"a remark"), (TELL_REFUSED, b"a fault")):
+        channel.send(bytes(Message(version=VERSION, kind=kind, words=words)))
+    channel.close(), listens.end()
+    go_on(lender.process.pid)
+    lender.become("a", here=0)
+    said = lender.said()
+    assert "a: a remark" in said and "refused a: a fault" in said, said
 
 
 # Pages of a slot, and seconds in which slots come and go.

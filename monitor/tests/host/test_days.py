@@ -162,9 +162,9 @@ def test_an_overdraft_has_guests_go_on_that_wait_for_each_other(host, tmp_path_f
     """What they want is a little more than what fits. With 4 MiB more each proceeds in turn, and at
     no step have they more than that."""
     day = Day(3, 480, beyond=60)
-    status, said = live(host, str(tmp_path_factory.mktemp("d")), 2, day)
+    status, said = live(host, str(tmp_path_factory.mktemp("d")), 4, day)
     assert status == 1 and WAITS in said, said
-    status, said = live(host, str(tmp_path_factory.mktemp("d")), 2, day._replace(overdraft=4))
+    status, said = live(host, str(tmp_path_factory.mktemp("d")), 4, day._replace(overdraft=4))
     assert status == 0 and numbers_of(said)["works"] >= 500, said
 
 
