@@ -341,9 +341,8 @@ uint32_t vb_host_happen(VbHost *host, VbSeat *seats, size_t count, const VbHostE
 
 uint32_t vb_host_step(VbHost *host, VbSeat *seats, size_t count, const VbHostEvent *event)
 {
-    uint32_t code = vb_host_happen(host, seats, count, event);
-    if (code != VB_OK)
-        return code;
+    if (vb_host_happen(host, seats, count, event) != VB_OK)
+        return VB_BAD_ARGUMENT;
     while (grant_next(host, seats, count))
         ;
     target_all(host, seats, count);

@@ -1,5 +1,5 @@
-"""The way out where guests wait for each other, by vb_host_relief of the library: here is when it is
-asked, and what is counted of its answers."""
+"""The way out where guests wait for each other, by vb_host_relief of the library: here is when it
+is asked, and what is counted of its answers."""
 
 from bigvasta.plan.library import DEFERS, PREFERS, STANDS, Look, Stand
 
@@ -21,7 +21,7 @@ class Relief:
         self.proceeded = self.passed = 0
 
     def look(self, now):
-        """Notes how a host stands that has come to rest."""
+        """Notes since when a host stands still."""
         self.stand = self.seats.stand(self.stand, milliseconds(now))
 
     def event_at(self, now, missing):

@@ -75,11 +75,11 @@ class Seats:
         return place if place < self.count else None
 
     def stand(self, stand, now):
-        """Returns how the host stands now, by how it stood before."""
+        """Returns since when the host stands still, by what was so before."""
         return self.library.vb_host_stand(self.seats, self.count, stand, now)
 
     def relief(self, stand, look):
-        """Returns the event by which a host is helped that stands so."""
+        """Returns the event by which a host is helped then."""
         return self.library.vb_host_relief(self.host, self.seats, self.count, stand, look)
 
     # ---- what the host wants

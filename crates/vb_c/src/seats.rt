@@ -278,7 +278,7 @@ pub extern "C" fn vb_host_first(seats: &[Seat]) -> usize
     }
 }
 
-/// How a host stands now.
+/// Since when a host stands still.
 #[unsafe(no_mangle)]
 pub extern "C" fn vb_host_stand(seats: &[Seat], stand: &Stand, now: u64) -> Stand
     ensures { result ≡ stood now stand.now seats.now }

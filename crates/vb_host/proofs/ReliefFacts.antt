@@ -47,7 +47,7 @@ others = (refl, refl)
 turns : map (λ n. turn_of n seats) (0 ∷ 1 ∷ 2 ∷ 4 ∷ 5 ∷ []) ≡ 0 ∷ 3 ∷ 5 ∷ 0 ∷ 0 ∷ []
 turns = refl
 
--- ---- how it stands
+-- ---- since when it stands still
 
 abbrev stand : Stand
 stand = record { first = 3; lent = 180; since = 1000; head = 1; turn = 3; head_since = 500 }

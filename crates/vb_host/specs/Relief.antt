@@ -30,7 +30,7 @@ first_from line seats = found (is_first (map (lined line) seats)) (length seats)
 abbrev pub turn_of : ℕ → List Seat → ℕ
 turn_of number seats = if nat_lt 0 number then turn_at seats (number - 1) else 0
 
--- ---- how a host stands
+-- ---- since when a host stands still
 
 abbrev pub shown_owed : List Seat → ℕ
 shown_owed seats = min (owed seats) 18446744073709551615
@@ -79,7 +79,7 @@ is_just_preferred number seats =
 abbrev pub place_of : ℕ → List Seat → ℕ
 place_of number seats = if nat_lt 0 number then number - 1 else length seats
 
--- The head has waited for as long as the host is patient, and another waits behind it.
+-- The head has waited for as long as the host is patient, and another waits after it.
 abbrev pub is_due_to_defer : Look → Stand → List Seat → Bool
 is_due_to_defer k x seats =
     (k.awaits == 0) && nat_lt 0 x.head && nat_le (x.head_since + 1000 * k.patience) k.time
@@ -139,7 +139,7 @@ OverdrawsIfPossible =
     → (x.first ≡ n + 1) × (may_overdraw l n ≡ true)
 
 -- Who lets others pass is the first of those that restart or come, no other does while it is
--- preferred, and another waits behind it.
+-- preferred, and another waits after it.
 abbrev pub DefersForAnother : Type 0
 DefersForAnother =
     (k : Look) (x : Stand) (l : Lending) (n : ℕ) → due_relief k x l ≡ Some (Defers n)

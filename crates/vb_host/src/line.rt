@@ -1,7 +1,7 @@
 //! What is lent to all guests, and who is granted next.
 
-ghost use Rattle.std.specs.Prelude.{◌≡◌, ℕ, ◌+◌, ◌-◌, ◌*◌, ◌<◌, ◌≤◌, length, map, nat_le, Some, None};
-ghost use Rattle.std.specs.Prelude.{MatchOption, true, false};
+ghost use Rattle.std.specs.Prelude.{◌≡◌, ℕ, ◌+◌, ◌-◌, ◌*◌, ◌<◌, ◌≤◌, length, map, nat_le};
+ghost use Rattle.std.specs.Prelude.{MatchOption, Some, None, true, false};
 ghost use Rattle.vb_host.specs.Lending.{owed, waited, last_turn, next_turn, held_at};
 ghost use Rattle.vb_host.specs.Lending.{is_first};
 ghost use Rattle.vb_host.specs.Lending.{value_at, test_at};

@@ -17,7 +17,7 @@ use crate::{Event, Seat, owed};
 /// How many milliseconds nothing moves on a host that stands still.
 const STANDS: u64 = 1000;
 
-/// How a host has stood, from one look to the next; zeros before the first.
+/// Since when a host stands still, from one look to the next; zeros before the first.
 #[repr(C)]
 #[derive(Clone, Copy, Debug, Default, PartialEq, Eq)]
 pub struct Stand {
@@ -142,7 +142,7 @@ fn place_of(seats: &[Seat], number: u64) -> usize
 }
 
 impl Stand {
-    /// How the host stands now.
+    /// Since when the host stands still.
     pub fn noted(&self, seats: &[Seat], now: u64) -> Stand
         ensures { result ≡ stood now self.now seats.now }
     {
@@ -179,7 +179,7 @@ impl Look {
     }
 
     /// Whether the guest that waits first of those that restart or come has waited for long enough,
-    /// and another waits behind it.
+    /// and another waits after it.
     fn is_due_to_defer(&self, stand: &Stand, seats: &[Seat]) -> bool
         ensures { result ≡ is_due_to_defer self.now stand.now seats.now }
     {
@@ -206,7 +206,8 @@ fn deferral(stand: &Stand, seats: &[Seat]) -> Event
 
 /// What lends the first that waits from the overdraft, where that is possible.
 fn overdrawn(frames: u32, overdraft: u32, seats: &[Seat], first: u64) -> Option<Event>
-    ensures { result ≡ overdraft_relief first (record { frames = frames; overdraft = overdraft; seats = seats.now }) }
+    ensures { result ≡ overdraft_relief first
+        (record { frames = frames; overdraft = overdraft; seats = seats.now }) }
 {
     let guest = first.saturating_sub(1) as usize;
     if first > 0 && may_overdraw(frames, overdraft, seats, guest) {

@@ -177,7 +177,7 @@ struct host {
     const char *itself;           /* the lender's own program */
     int channels;                 /* the folder where a later lender finds guests' processes */
     uint64_t features;
-    VbHost lends; /* what it may lend: nothing before a guest of an earlier lender has reported */
+    VbHost lends;   /* what it may lend: nothing before a guest of an earlier lender has reported */
     VbStand stand;  /* at the last look */
     bool unsettled; /* something has happened that no step has followed */
     struct shortage shortage;
@@ -362,8 +362,8 @@ void seat_remind(struct seat *seat);
  * places_settle() follows. */
 void seat_set_target(struct seat *seat, uint32_t pages);
 
-/* Lets what is wanted grow by what `milliseconds` allow, which places_settle() follows; whether that is less than what was
- * decided, or a target isn't received. */
+/* Lets what is wanted grow by what `milliseconds` allow, which places_settle() follows; whether
+ * that is less than what was decided, or a target isn't received. */
 void seat_step(struct seat *seat, int64_t milliseconds);
 bool seat_is_behind(const struct seat *seat);
 

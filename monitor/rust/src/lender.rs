@@ -230,13 +230,14 @@ impl Lender {
         (place < self.seats.len()).then_some(place)
     }
 
-    /// How the host stands now, by how it stood at the look before, and the time in milliseconds.
+    /// Since when the host stands still, by what was noted at the look before, and the time in
+    /// milliseconds.
     pub fn stand(&self, stand: &Stand, now: u64) -> Stand {
         // SAFETY: the pointers are of a slice with its length, and of a `&`.
         unsafe { vb_host_stand(self.seats.as_ptr(), self.seats.len(), stand, now) }
     }
 
-    /// The event by which a host is helped that stands so: to be followed by [`Lender::step`], and
+    /// The event by which the host is helped then: to be followed by [`Lender::step`], and
     /// by another look at once. None where none is due.
     pub fn relief(&self, stand: &Stand, look: &Look) -> Option<Event> {
         // SAFETY: the pointers are of `&`, and of a slice with its length.
