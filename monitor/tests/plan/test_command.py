@@ -145,6 +145,13 @@ def test_a_table(shared, day):
     )
 
 
+def test_an_overdraft_is_no_more_than_the_least_budget(shared, day):
+    words = "--budgets", "600K..800K", "--steps", "1", "--overdraft"
+    assert [it["budget"] for it in plan(shared, day, *words, "600K")["replays"]] == [614400, 819200]
+    said = run(day, "--library", shared, *words, "604K", status=2)
+    assert said == "bigvasta: --overdraft: 604K is more than the budget\n"
+
+
 def test_a_day_that_is_made_is_the_same_for_a_seed(tmp_path, shared):
     made = run("--make", "5", "--seed", "3", "--hours", "2")
     assert made.splitlines() == [*making.make(5, 3, 2)]
