@@ -120,7 +120,8 @@ def test_of_a_client_that_has_gone_nothing_is_known(lend, come, options, act):
     a.figures |= {KILLS: 8}
     lender.become("a", pressed=1)
     act(lender, a)
-    a.leave(), lender.become("a", here=0)
+    a.leave()
+    eventually(lambda: lender.status()["guests"][0]["state"] == "absent")
     its, others = lender.status()["guests"]
     assert (its["counters"].pop("clients"), others["counters"].pop("clients")) == (1, 0)
     assert {it for it in others if its[it] != others[it]} == {"name", "socket"}, (its, others)
