@@ -11,21 +11,22 @@ use Rattle.vb_chain.specs.declared.fault.ChainFault.TheVariants.{TooLong, BadNex
 use Rattle.vb_monitor.specs.Within.{ChainWithin, GoesPast, FaultWithin}
 use Rattle.vb_monitor.proofs.WithinLemmas.{chain_or_fault_within, fault_is_within}
 
--- n descriptors one after the other, from the table's first one on, which the device may write
+-- n descriptors one after the other, from the table's second one on, which the device may write, in
+-- memory of a page
 abbrev with_next : Bool → ℕ → Descriptor
 with_next goes_on next = record { addr = 0; len = 0; flags = if goes_on then 3 else 2; next = next }
 
 abbrev line : ℕ → ℕ → Descriptor
-line n i = with_next (nat_lt (i + 1) n) (i + 1)
+line n i = with_next (nat_lt i n) (i + 1)
 
 abbrev path : ℕ → List ℕ
-path n = range_with_len 0 n
+path n = range_with_len 1 n
 
-at : (n k : ℕ) → k < n → slice_index (path n) k ≡ k
-at n k lt = let same : 0 + k ≡ k = omega arith in get_or-range_with_len 0 n k 0 lt ∙ same
+at : (n k : ℕ) → k < n → slice_index (path n) k ≡ k + 1
+at n k lt = let same : 1 + k ≡ k + 1 = omega arith in get_or-range_with_len 1 n k 0 lt ∙ same
 
 long : (n : ℕ) → length (path n) ≡ n
-long n = length-range_with_len 0 n
+long n = length-range_with_len 1 n
 
 goes : (goes_on : Bool) (next : ℕ) → has_next (with_next goes_on next) ≡ goes_on
 goes true next = refl
@@ -37,10 +38,10 @@ less a b lt = grind (arith, nat_tests)
 not_less : (a b : ℕ) → b ≤ a → nat_lt a b ≡ false
 not_less a b le = grind (arith, nat_tests)
 
-goes_on : (n k : ℕ) → k + 1 < n → has_next (line n k) ≡ true
-goes_on n k lt = goes (nat_lt (k + 1) n) (k + 1) ∙ less (k + 1) n lt
+goes_on : (n k : ℕ) → k + 1 < n → has_next (line n (k + 1)) ≡ true
+goes_on n k lt = goes (nat_lt (k + 1) n) (k + 1 + 1) ∙ less (k + 1) n lt
 
-is_path : (n m : ℕ) → 0 < m → m ≤ n → IsPath (line n) 0 (path m)
+is_path : (n m : ℕ) → 0 < m → m ≤ n → IsPath (line n) 1 (path m)
 is_path n m some le = record {
   some = omega (arith, long m, some);
   begins = at m 0 some;
@@ -52,25 +53,25 @@ is_path n m some le = record {
       let there = at m (k + 1) below in omega (arith, here, there);
 }
 
-unbroken : (goes_on writing : Bool) (k : ℕ) → k + 1 < 1024 →
-    first_fault 1024 0 writing k (with_next goes_on (k + 1)) ≡ None
+unbroken : (goes_on writing : Bool) (k : ℕ) → k + 1 + 1 < 1024 →
+    first_fault 1024 4096 writing k (with_next goes_on (k + 1 + 1)) ≡ None
 unbroken true true k lt = grind (arith, nat_tests)
 unbroken true false k lt = grind (arith, nat_tests)
 unbroken false true k lt = refl
 unbroken false false k lt = refl
 
-sound : (n m : ℕ) → m ≤ 256 → (k : ℕ) → k < m → fault_at (line n) 1024 0 (path m) k ≡ None
+sound : (n m : ℕ) → m ≤ 256 → (k : ℕ) → k < m → fault_at (line n) 1024 4096 (path m) k ≡ None
 sound n m few k lt =
     let writing : Bool = list_any (λ i. is_writable (line n i)) (take k (path m)) in
-    ap (λ (i : ℕ). first_fault 1024 0 writing k (line n i)) (at m k lt)
+    ap (λ (i : ℕ). first_fault 1024 4096 writing k (line n i)) (at m k lt)
     ∙ unbroken (nat_lt (k + 1) n) writing k (omega (arith, few, lt))
 
 ends : (k : ℕ) → k + 1 ≡ 256 → has_next (line 256 (slice_index (path 256) k)) ≡ false
 ends k last = ap (λ (i : ℕ). has_next (line 256 i)) (at 256 k (omega (arith, last)))
-    ∙ (goes (nat_lt (k + 1) 256) (k + 1) ∙ not_less (k + 1) 256 (omega (arith, last)))
+    ∙ (goes (nat_lt (k + 1) 256) (k + 1 + 1) ∙ not_less (k + 1) 256 (omega (arith, last)))
 
 -- 256 are a chain
-as_many_as_may : ChainWithin (line 256) 1024 0 0 (map (λ i. piece_of (line 256 i)) (path 256))
+as_many_as_may : ChainWithin (line 256) 1024 4096 1 (map (λ i. piece_of (line 256 i)) (path 256))
 as_many_as_may = record {
   gives = record {
     path = path 256;
@@ -88,7 +89,7 @@ as_many_as_may = record {
 }
 
 -- one more, and the rule is broken that a chain is too long
-one_more : GoesPast (line 257) 1024 0 0 TooLong
+one_more : GoesPast (line 257) 1024 4096 1 TooLong
 one_more = record {
   path = path 256;
   inside = omega arith;
@@ -101,15 +102,15 @@ one_more = record {
 }
 
 -- the first is broken by no rule, and the second is no chain, nor does it break another rule
-not_too_long : FaultWithin (line 256) 1024 0 0 TooLong → ⊥
-not_too_long h = chain_or_fault_within (line 256) 1024 0 0 _ TooLong as_many_as_may h
+not_too_long : FaultWithin (line 256) 1024 4096 1 TooLong → ⊥
+not_too_long h = chain_or_fault_within (line 256) 1024 4096 1 _ TooLong as_many_as_may h
 
-no_chain : (pieces : List Piece) → ChainWithin (line 257) 1024 0 0 pieces → ⊥
-no_chain pieces h = chain_or_fault_within (line 257) 1024 0 0 pieces TooLong h (inr (inr one_more))
+no_chain : (pieces : List Piece) → ChainWithin (line 257) 1024 4096 1 pieces → ⊥
+no_chain pieces h = chain_or_fault_within (line 257) 1024 4096 1 pieces TooLong h (inr (inr one_more))
 
-no_other_rule : FaultWithin (line 257) 1024 0 0 BadNext → ⊥
+no_other_rule : FaultWithin (line 257) 1024 4096 1 BadNext → ⊥
 no_other_rule h =
-    let e = fault_is_within (line 257) 1024 0 0 BadNext TooLong h (inr (inr one_more)) in absurd cc
+    let e = fault_is_within (line 257) 1024 4096 1 BadNext TooLong h (inr (inr one_more)) in absurd cc
 
 -- no more pieces, whatever memory has
 never_more : (d : ℕ → Descriptor) (end head : ℕ) (pieces : List Piece) → length pieces ≡ 257 →
