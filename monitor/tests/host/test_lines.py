@@ -19,6 +19,7 @@ def given(lend, come):
     a, b = (come(lender, name, {FREE: pages}) for name, pages in zip("ab", (50, 60)))
     lender.demand("terms b priority=1")
     lender.set_budget(146)
+    lender.become("a", target=50), lender.become("b", target=60)
     a.give(GIVEN[:50]), b.give(GIVEN[:60])
     lender.become("a", ballooned=50, lent=78), lender.become("b", ballooned=60, lent=68)
     a.figures[FREE] = b.figures[FREE] = 100

@@ -72,6 +72,7 @@ def test_a_new_life_lets_others_pass(patient, come, bring):
     while another one has its 30, and a client that came later waits until there is room for it."""
     a, b = come(patient, "a", {FREE: 50}), come(patient, "b", {FREE: 30})
     patient.set_budget(FRAMES - 80)
+    patient.become("a", target=50), patient.become("b", target=30)
     a.give(GIVEN[:50]), b.give(GIVEN[:30])
     patient.become("a", ballooned=50, lent=78), patient.become("b", ballooned=30, lent=98)
     first, begun = begin_anew(a), time.monotonic()
