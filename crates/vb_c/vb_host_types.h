@@ -1,14 +1,7 @@
 /* The structs of a host's lender, and where their fields are. A part of vb_host.h. */
 #ifndef VB_HOST_TYPES_H
 #define VB_HOST_TYPES_H
-#include <stddef.h>
-#include <stdint.h>
-
-#ifdef __cplusplus
-#define VB_ASSERT(what) static_assert(what, #what)
-#else
-#define VB_ASSERT(what) _Static_assert(what, #what)
-#endif
+#include "vb_types.h"
 
 /* In which line a deflate waits. Those of an earlier line come before all of a later one, and those
  * of one line in the order of their turns. Any other number is VB_LINE_ARRIVALS. */
@@ -228,51 +221,41 @@ typedef struct {
     VbReport report;
 } VbHostEvent;
 
-VB_ASSERT(sizeof(VbReport) == 48 && offsetof(VbReport, target) == 4);
-VB_ASSERT(offsetof(VbReport, read_target) == 8 && offsetof(VbReport, held) == 12);
-VB_ASSERT(offsetof(VbReport, line) == 16 && offsetof(VbReport, outside) == 20);
-VB_ASSERT(offsetof(VbReport, target_number) == 24);
-VB_ASSERT(offsetof(VbReport, deflates) == 32 && offsetof(VbReport, removed) == 40);
-VB_ASSERT(sizeof(VbSeat) == 88 && offsetof(VbSeat, ballooned) == 4);
-VB_ASSERT(offsetof(VbSeat, least_target) == 8 && offsetof(VbSeat, target) == 12);
-VB_ASSERT(offsetof(VbSeat, wanted) == 16 && offsetof(VbSeat, held) == 20);
-VB_ASSERT(offsetof(VbSeat, line) == 24 && offsetof(VbSeat, outside) == 28);
-VB_ASSERT(offsetof(VbSeat, target_number) == 32);
-VB_ASSERT(offsetof(VbSeat, deflates) == 40 && offsetof(VbSeat, granted) == 48);
-VB_ASSERT(offsetof(VbSeat, removed) == 56 && offsetof(VbSeat, turn) == 64);
-VB_ASSERT(offsetof(VbSeat, uncounted) == 72 && offsetof(VbSeat, preferred) == 76);
-VB_ASSERT(offsetof(VbSeat, deferred) == 80);
-VB_ASSERT(sizeof(VbHost) == 8 && offsetof(VbHost, overdraft) == 4 && sizeof(VbHostEvent) == 88);
-VB_ASSERT(offsetof(VbHostEvent, guest) == 8 && offsetof(VbHostEvent, added) == 16);
-VB_ASSERT(offsetof(VbHostEvent, pages) == 24 && offsetof(VbHostEvent, ballooned) == 28);
-VB_ASSERT(offsetof(VbHostEvent, frames) == 32 && offsetof(VbHostEvent, report) == 40);
-VB_ASSERT(sizeof(VbMessage) == 60 && offsetof(VbMessage, wanted) == 4);
-VB_ASSERT(offsetof(VbMessage, ballooned) == 8 && offsetof(VbMessage, target) == 12);
-VB_ASSERT(offsetof(VbMessage, read) == 16 && offsetof(VbMessage, held) == 20);
-VB_ASSERT(offsetof(VbMessage, deflate) == 24 && offsetof(VbMessage, waits) == 28);
-VB_ASSERT(offsetof(VbMessage, wait) == 32 && offsetof(VbMessage, holds) == 36);
-VB_ASSERT(offsetof(VbMessage, outside) == 40 && offsetof(VbMessage, files) == 44);
-VB_ASSERT(offsetof(VbMessage, start) == 48 && offsetof(VbMessage, most) == 52);
-VB_ASSERT(offsetof(VbMessage, limited) == 56 && sizeof(VbExchange) == 48);
-VB_ASSERT(offsetof(VbExchange, asked) == 4 && offsetof(VbExchange, asks) == 8);
-VB_ASSERT(offsetof(VbExchange, sent) == 16 && offsetof(VbExchange, sent_by) == 24);
-VB_ASSERT(offsetof(VbExchange, obeyed) == 32 && offsetof(VbExchange, received) == 40);
-VB_ASSERT(sizeof(VbAim) == 40 && offsetof(VbAim, strict) == 4 && offsetof(VbAim, ready) == 8);
-VB_ASSERT(offsetof(VbAim, seconds) == 12 && offsetof(VbAim, needed) == 16);
-VB_ASSERT(offsetof(VbAim, frames) == 20 && offsetof(VbAim, held_kib) == 24);
-VB_ASSERT(offsetof(VbAim, passed) == 32 && sizeof(VbPace) == 16 && offsetof(VbPace, now) == 4);
-VB_ASSERT(offsetof(VbPace, rises) == 8 && offsetof(VbPace, gains) == 12);
-VB_ASSERT(sizeof(VbStand) == 48 && offsetof(VbStand, lent) == 8);
-VB_ASSERT(offsetof(VbStand, since) == 16 && offsetof(VbStand, head) == 24);
-VB_ASSERT(offsetof(VbStand, turn) == 32 && offsetof(VbStand, head_since) == 40);
-VB_ASSERT(sizeof(VbLook) == 24 && offsetof(VbLook, missing) == 8);
-VB_ASSERT(offsetof(VbLook, patience) == 16 && offsetof(VbLook, awaits) == 20);
-VB_ASSERT(sizeof(VbRelief) == 16 && offsetof(VbRelief, guest) == 8);
-VB_ASSERT(sizeof(VbReading) == 80 && offsetof(VbReading, taken) == 48);
-VB_ASSERT(offsetof(VbReading, joins) == 52 && offsetof(VbReading, ungranted) == 56);
-VB_ASSERT(offsetof(VbReading, brings) == 60 && offsetof(VbReading, wants) == 64);
-VB_ASSERT(offsetof(VbReading, without) == 68 && offsetof(VbReading, small) == 72);
-VB_ASSERT(offsetof(VbReading, resets) == 76);
+VB_ASSERT(VB_HAS(Report, 48) && VB_AT(Report, target, 4) && VB_AT(Report, read_target, 8) &&
+          VB_AT(Report, held, 12) && VB_AT(Report, line, 16) && VB_AT(Report, outside, 20) &&
+          VB_AT(Report, target_number, 24) && VB_AT(Report, deflates, 32) &&
+          VB_AT(Report, removed, 40));
+VB_ASSERT(VB_HAS(Seat, 88) && VB_AT(Seat, ballooned, 4) && VB_AT(Seat, least_target, 8) &&
+          VB_AT(Seat, target, 12) && VB_AT(Seat, wanted, 16) && VB_AT(Seat, held, 20) &&
+          VB_AT(Seat, line, 24) && VB_AT(Seat, outside, 28) && VB_AT(Seat, target_number, 32) &&
+          VB_AT(Seat, deflates, 40) && VB_AT(Seat, granted, 48) && VB_AT(Seat, removed, 56) &&
+          VB_AT(Seat, turn, 64) && VB_AT(Seat, uncounted, 72) && VB_AT(Seat, preferred, 76) &&
+          VB_AT(Seat, deferred, 80));
+VB_ASSERT(VB_HAS(Host, 8) && VB_AT(Host, overdraft, 4));
+VB_ASSERT(VB_HAS(HostEvent, 88) && VB_AT(HostEvent, guest, 8) && VB_AT(HostEvent, added, 16) &&
+          VB_AT(HostEvent, pages, 24) && VB_AT(HostEvent, ballooned, 28) &&
+          VB_AT(HostEvent, frames, 32) && VB_AT(HostEvent, report, 40));
+VB_ASSERT(VB_HAS(Message, 60) && VB_AT(Message, wanted, 4) && VB_AT(Message, ballooned, 8) &&
+          VB_AT(Message, target, 12) && VB_AT(Message, read, 16) && VB_AT(Message, held, 20) &&
+          VB_AT(Message, deflate, 24) && VB_AT(Message, waits, 28) && VB_AT(Message, wait, 32) &&
+          VB_AT(Message, holds, 36) && VB_AT(Message, outside, 40) && VB_AT(Message, files, 44) &&
+          VB_AT(Message, start, 48) && VB_AT(Message, most, 52) && VB_AT(Message, limited, 56));
+VB_ASSERT(VB_HAS(Exchange, 48) && VB_AT(Exchange, asked, 4) && VB_AT(Exchange, asks, 8) &&
+          VB_AT(Exchange, sent, 16) && VB_AT(Exchange, sent_by, 24) &&
+          VB_AT(Exchange, obeyed, 32) && VB_AT(Exchange, received, 40));
+VB_ASSERT(VB_HAS(Aim, 40) && VB_AT(Aim, strict, 4) && VB_AT(Aim, ready, 8) &&
+          VB_AT(Aim, seconds, 12) && VB_AT(Aim, needed, 16) && VB_AT(Aim, frames, 20) &&
+          VB_AT(Aim, held_kib, 24) && VB_AT(Aim, passed, 32));
+VB_ASSERT(VB_HAS(Pace, 16) && VB_AT(Pace, now, 4) && VB_AT(Pace, rises, 8) &&
+          VB_AT(Pace, gains, 12));
+VB_ASSERT(VB_HAS(Stand, 48) && VB_AT(Stand, lent, 8) && VB_AT(Stand, since, 16) &&
+          VB_AT(Stand, head, 24) && VB_AT(Stand, turn, 32) && VB_AT(Stand, head_since, 40));
+VB_ASSERT(VB_HAS(Look, 24) && VB_AT(Look, missing, 8) && VB_AT(Look, patience, 16) &&
+          VB_AT(Look, awaits, 20));
+VB_ASSERT(VB_HAS(Relief, 16) && VB_AT(Relief, guest, 8));
+VB_ASSERT(VB_HAS(Reading, 80) && VB_AT(Reading, taken, 48) && VB_AT(Reading, joins, 52) &&
+          VB_AT(Reading, ungranted, 56) && VB_AT(Reading, brings, 60) &&
+          VB_AT(Reading, wants, 64) && VB_AT(Reading, without, 68) && VB_AT(Reading, small, 72) &&
+          VB_AT(Reading, resets, 76));
 
-#undef VB_ASSERT
 #endif

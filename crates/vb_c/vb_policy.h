@@ -9,9 +9,6 @@
 
 #ifdef __cplusplus
 extern "C" {
-#define VB_ASSERT(what) static_assert(what, #what)
-#else
-#define VB_ASSERT(what) _Static_assert(what, #what)
 #endif
 
 /* Whether a guest's word on its memory is at hand. Any other number is VB_CONTACT_STARTS. */
@@ -127,33 +124,30 @@ typedef struct {
     uint32_t pressed;     /* unless 0: the machine's own work waits for memory */
 } VbMachine;
 
-VB_ASSERT(sizeof(VbFigures) == 64 && offsetof(VbFigures, held) == 4);
-VB_ASSERT(offsetof(VbFigures, ballooned) == 8 && offsetof(VbFigures, ballooned_then) == 12);
-VB_ASSERT(offsetof(VbFigures, available) == 16 && offsetof(VbFigures, free) == 20);
-VB_ASSERT(offsetof(VbFigures, lent) == 24 && offsetof(VbFigures, asked) == 28);
-VB_ASSERT(offsetof(VbFigures, least) == 32 && offsetof(VbFigures, most) == 36);
-VB_ASSERT(offsetof(VbFigures, weight) == 40 && offsetof(VbFigures, priority) == 44);
-VB_ASSERT(offsetof(VbFigures, target) == 48 && offsetof(VbFigures, contact) == 52);
-VB_ASSERT(offsetof(VbFigures, strict) == 54 && offsetof(VbFigures, uncounted) == 56);
-VB_ASSERT(offsetof(VbFigures, paused) == 58 && offsetof(VbFigures, pressed) == 60);
-VB_ASSERT(offsetof(VbFigures, first) == 62 && sizeof(VbPolicyBudget) == 20);
-VB_ASSERT(offsetof(VbPolicyBudget, floor) == 4 && offsetof(VbPolicyBudget, slack) == 8);
-VB_ASSERT(offsetof(VbPolicyBudget, reserve) == 12 && offsetof(VbPolicyBudget, band) == 16);
-VB_ASSERT(sizeof(VbTiers) == 20 && offsetof(VbTiers, unused) == 4);
-VB_ASSERT(offsetof(VbTiers, cached) == 8 && offsetof(VbTiers, spare) == 12);
-VB_ASSERT(offsetof(VbTiers, most) == 16 && sizeof(VbPolicyRoom) == 32);
-VB_ASSERT(sizeof(VbDecision) == 16 && offsetof(VbDecision, tier) == 4);
-VB_ASSERT(offsetof(VbDecision, missing) == 8);
-VB_ASSERT(sizeof(VbCounter) == 16 && offsetof(VbCounter, present) == 8);
-VB_ASSERT(sizeof(VbSample) == 104 && offsetof(VbSample, swap_out) == 16);
-VB_ASSERT(offsetof(VbSample, oom_kills) == 32 && offsetof(VbSample, stalls) == 48);
-VB_ASSERT(offsetof(VbSample, direct_scan) == 64 && offsetof(VbSample, direct_reclaim) == 80);
-VB_ASSERT(offsetof(VbSample, ballooned) == 96 && offsetof(VbSample, target) == 100);
-VB_ASSERT(sizeof(VbPressure) == 112 && offsetof(VbPressure, until) == 104);
-VB_ASSERT(sizeof(VbMachine) == 32 && offsetof(VbMachine, most) == 4);
-VB_ASSERT(offsetof(VbMachine, least) == 8 && offsetof(VbMachine, keep) == 12);
-VB_ASSERT(offsetof(VbMachine, held) == 16 && offsetof(VbMachine, available) == 20);
-VB_ASSERT(offsetof(VbMachine, step) == 24 && offsetof(VbMachine, pressed) == 28);
+VB_ASSERT(VB_HAS(Figures, 64) && VB_AT(Figures, held, 4) && VB_AT(Figures, ballooned, 8) &&
+          VB_AT(Figures, ballooned_then, 12) && VB_AT(Figures, available, 16) &&
+          VB_AT(Figures, free, 20) && VB_AT(Figures, lent, 24) && VB_AT(Figures, asked, 28) &&
+          VB_AT(Figures, least, 32) && VB_AT(Figures, most, 36) && VB_AT(Figures, weight, 40) &&
+          VB_AT(Figures, priority, 44) && VB_AT(Figures, target, 48) &&
+          VB_AT(Figures, contact, 52) && VB_AT(Figures, strict, 54) &&
+          VB_AT(Figures, uncounted, 56) && VB_AT(Figures, paused, 58) &&
+          VB_AT(Figures, pressed, 60) && VB_AT(Figures, first, 62));
+VB_ASSERT(VB_HAS(PolicyBudget, 20) && VB_AT(PolicyBudget, floor, 4) &&
+          VB_AT(PolicyBudget, slack, 8) && VB_AT(PolicyBudget, reserve, 12) &&
+          VB_AT(PolicyBudget, band, 16));
+VB_ASSERT(VB_HAS(Tiers, 20) && VB_AT(Tiers, unused, 4) && VB_AT(Tiers, cached, 8) &&
+          VB_AT(Tiers, spare, 12) && VB_AT(Tiers, most, 16));
+VB_ASSERT(VB_HAS(PolicyRoom, 32));
+VB_ASSERT(VB_HAS(Decision, 16) && VB_AT(Decision, tier, 4) && VB_AT(Decision, missing, 8));
+VB_ASSERT(VB_HAS(Counter, 16) && VB_AT(Counter, present, 8));
+VB_ASSERT(VB_HAS(Sample, 104) && VB_AT(Sample, swap_out, 16) && VB_AT(Sample, oom_kills, 32) &&
+          VB_AT(Sample, stalls, 48) && VB_AT(Sample, direct_scan, 64) &&
+          VB_AT(Sample, direct_reclaim, 80) && VB_AT(Sample, ballooned, 96) &&
+          VB_AT(Sample, target, 100));
+VB_ASSERT(VB_HAS(Pressure, 112) && VB_AT(Pressure, until, 104));
+VB_ASSERT(VB_HAS(Machine, 32) && VB_AT(Machine, most, 4) && VB_AT(Machine, least, 8) &&
+          VB_AT(Machine, keep, 12) && VB_AT(Machine, held, 16) && VB_AT(Machine, available, 20) &&
+          VB_AT(Machine, step, 24) && VB_AT(Machine, pressed, 28));
 
 /* What a guest counts for, and what it can give. A guest whose statistics are recent gives what it
  * doesn't use, what was in its balloon then included, but for what stays: of its available memory
@@ -198,7 +192,6 @@ uint32_t vb_policy_pressed(const VbPressure *pressure, uint64_t now);
  * all of it, or to the most. It is never above the most, nor below the least, whatever is left. */
 uint32_t vb_policy_budget(const VbMachine *machine);
 
-#undef VB_ASSERT
 #ifdef __cplusplus
 }
 #endif

@@ -212,7 +212,4 @@ VB_ASSERT(VB_HAS(Region, 24) && VB_AT(Region, length, 8) && VB_AT(Region, in_fil
           VB_AT(Notice, written, 248) && VB_AT(Notice, ring, 328) && VB_AT(Notice, shown, 360) &&
           VB_AT(Notice, status, 364));
 
-#undef VB_ASSERT
-#undef VB_HAS
-#undef VB_AT
 #endif
