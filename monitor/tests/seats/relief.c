@@ -35,6 +35,7 @@ static const struct {
      {2000, 0, 2, 0},
      {11, 4}},
     {"but is lent from the overdraft", 4, 4, {3, 180, 1000, 1, 3, 500}, {2000, 0, 2, 0}, {3, 2}},
+    {"the host is patient", 2, 3, {3, 180, 1000, 1, 3, 500}, {2499, 7, 2, 0}, {0, 0}},
     {"the host isn't patient any longer",
      4,
      4,
@@ -72,6 +73,17 @@ static void check_due(void)
     }
 }
 
+/* Who waits to come alone keeps nobody waiting, also after a guest that waits in a deflate. */
+static void check_nobody_after(void)
+{
+    const VbSeat seats[] = {seats_of_four[0], seats_of_four[2]};
+    const VbHost host = {180, 0};
+    const VbStand stand = {2, 80, 2000, 1, 3, 500};
+    const VbLook look = {.time = 2999, .missing = 7, .patience = 2};
+    VbRelief due = vb_host_relief(&host, seats, 2, &stand, &look);
+    expect(due.kind == 0, "there is nobody to let pass");
+}
+
 static void check_stands(void)
 {
     VbSeat seats[GUESTS];
@@ -85,6 +97,9 @@ static void check_stands(void)
     seats[3].ballooned = 29;
     VbStand moved = vb_host_stand(seats, GUESTS, &stand, 9000);
     expect(moved.since == 9000 && moved.head_since == 500, "a page was lent");
+    seats[0].turn = 4;
+    VbStand again = vb_host_stand(seats, GUESTS, &stand, 9000);
+    expect(again.head == 1 && again.turn == 4 && again.head_since == 9000, "it waits once more");
     seats[0].deferred = 1, seats[0].turn = 9;
     VbStand passed = vb_host_stand(seats, GUESTS, &stand, 9000);
     expect(passed.head == 2 && passed.turn == 5 && passed.head_since == 9000, "another is there");
@@ -96,7 +111,17 @@ static void check_stands(void)
 void check_relief(void)
 {
     check_due();
+    check_nobody_after();
     check_stands();
+}
+
+/* How often each event was due, and nothing. */
+static unsigned long long due_events[VB_DEFERS + 1];
+
+bool are_reliefs_rare(unsigned long long least)
+{
+    return due_events[0] < least || due_events[VB_OVERDRAWS] < least ||
+           due_events[VB_PREFERS] < least || due_events[VB_DEFERS] < least;
 }
 
 bool is_relieved_alike(const VbHost *host, const VbSeat *seats, size_t count)
@@ -116,6 +141,7 @@ bool is_relieved_alike(const VbHost *host, const VbSeat *seats, size_t count)
     if (chance(16) == 0)
         stand.first = chance(9), stand.head = chance(9);
     VbLook look = {now, chance(2), chance(4), chance(8) == 0};
-    return is_same && same_relief(vb_host_relief(host, seats, count, &stand, &look),
-                                  reference_host_relief(host, seats, count, &stand, &look));
+    VbRelief relief = reference_host_relief(host, seats, count, &stand, &look);
+    due_events[relief.kind]++;
+    return is_same && same_relief(vb_host_relief(host, seats, count, &stand, &look), relief);
 }

@@ -26,8 +26,10 @@ void check_refused(void);
 void check_largest(void);
 
 /* steps.c: random events, beside the plain implementation. said.c: whether a random message to a
- * seat is the same to both. relief.c: whether a host is helped alike, whatever is so. */
+ * seat is the same to both. relief.c: whether a host is helped alike, whatever is so;
+ * and whether an event that helps was due less often than this, or nothing was. */
 void check_steps(unsigned long long steps);
 bool is_read_alike(const VbSeat *seat);
 bool is_relieved_alike(const VbHost *host, const VbSeat *seats, size_t count);
+bool are_reliefs_rare(unsigned long long least);
 #endif

@@ -303,4 +303,6 @@ void check_steps(unsigned long long steps)
     for (uint32_t kind = VB_HEARS; kind <= VB_DEFERS; kind++)
         if (kind != VB_GRANTS && kind != VB_TARGETS && effects[kind] < steps / RARE)
             fail(&day, "an event is too rare");
+    if (are_reliefs_rare(steps / RARE))
+        fail(&day, "a relief is too rare");
 }
