@@ -3,7 +3,7 @@
 ghost use Rattle.std.specs.Prelude.{◌≡◌, ◌-◌, ◌^◌, min};
 ghost use Rattle.vb_virtio.specs.Tests.{one_if};
 ghost use Rattle.vb_host.specs.Least.{least_budget};
-ghost use Rattle.vb_host.specs.Lending.{owed, room};
+ghost use Rattle.vb_host.specs.Lending.{room, shown_owed};
 ghost use Rattle.vb_host.specs.Messages.{followed, noted, reading};
 ghost use Rattle.vb_host.specs.Paces.{pace_of};
 ghost use Rattle.vb_host.specs.Relief.{due_relief, stood};
@@ -12,7 +12,7 @@ ghost use Rattle.vb_c.specs.Seats.{event_of, lending_of, relief_of, FirstFor, Ha
 
 use vb_host::{
     Aim, Event, Exchange, Look, Message, Pace, Reading, Report, Seat, Stand, due_relief,
-    first_in_line, happen, least_budget, owed, room, step,
+    first_in_line, happen, least_budget, room, shown_owed, step,
 };
 use vb_monitor::{BAD_ARGUMENT, OK};
 
@@ -243,10 +243,9 @@ pub extern "C" fn vb_seat_pace(seat: &Seat, aim: &Aim) -> Pace
 /// What is lent to all guests together.
 #[unsafe(no_mangle)]
 pub extern "C" fn vb_host_owed(seats: &[Seat]) -> u64
-    ensures { result ≡ min (owed seats.now) (2 ^ 64 - 1) }
+    ensures { result ≡ shown_owed seats.now }
 {
-    let most = u128::from(u64::MAX);
-    owed(seats).min(most) as u64
+    shown_owed(seats)
 }
 
 /// The least budget with which all that wait proceed, once those that don't have done what is

@@ -4,9 +4,9 @@ use Rattle.vb_host.specs.declared.event.Event.TheVariants.{Overdraws, Prefers, D
 use Rattle.vb_host.specs.declared.relief.Look.{Look}
 use Rattle.vb_host.specs.declared.relief.Stand.{Stand}
 use Rattle.vb_host.specs.declared.seat.Seat.{Seat}
-use Rattle.vb_host.specs.Lending.{Lending}
+use Rattle.vb_host.specs.Lending.{Lending, shown_owed}
 use Rattle.vb_host.specs.Line.{lined}
-use Rattle.vb_host.specs.Relief.{alone, count, deferral, due_relief, first_from, found, has_headed, has_stood, is_due_to_defer, is_just_preferred, overdraft_relief, place_of, shown_owed, stands_still, stood, turn_of}
+use Rattle.vb_host.specs.Relief.{alone, count, deferral, due_relief, first_from, found, has_headed, has_stood, is_due_to_defer, is_just_preferred, overdraft_relief, place_of, stands_still, stood, turn_of}
 use Rattle.vb_host.specs.Seats.{is_preferred, may_defer, newcomer}
 
 -- 40 pages are lent to each of the first three, which wait for 20, 40 and 4 more; and 60 to the last one, which has given what its target says

@@ -5,10 +5,10 @@ use Rattle.vb_host.specs.declared.event.Event.TheVariants.{Overdraws, Prefers, D
 use Rattle.vb_host.specs.declared.relief.Look.{Look}
 use Rattle.vb_host.specs.declared.relief.Stand.{Stand}
 use Rattle.vb_host.specs.declared.seat.Seat.{Seat}
-use Rattle.vb_host.specs.Lending.{Lending, may_overdraw, test_at}
+use Rattle.vb_host.specs.Lending.{Lending, may_overdraw, shown_owed, test_at}
 use Rattle.vb_host.specs.Line.{IsFirst}
-use Rattle.vb_host.specs.Relief.{DefersForAnother, FirstIsNoted, MovesAreNoted, NobodyIsHurried, OverdrawsIfPossible, PrefersTheFirst}
-use Rattle.vb_host.specs.Relief.{alone, count, deferral, due_relief, first_from, shown_owed, is_due_to_defer, is_just_preferred, overdraft_relief, place_of, stands_still}
+use Rattle.vb_host.specs.Relief.{DefersForAnother, FirstIsNoted, HeadIsNoted, MovesAreNoted, NobodyIsHurried, OverdrawsIfPossible, PrefersTheFirst}
+use Rattle.vb_host.specs.Relief.{alone, count, deferral, due_relief, first_from, is_due_to_defer, is_just_preferred, overdraft_relief, place_of, stands_still, turn_of}
 use Rattle.vb_host.specs.Seats.{is_preferred, may_defer}
 use Rattle.vb_host.proofs.Lined.{first_found, lined_all}
 use Rattle.vb_host.proofs.Sound.{and_left, and_right, eq_true, le_true, lt_true}
@@ -123,6 +123,9 @@ defers_for_another k x l n h = elim (which k x l (Defers n) h) [
 pub first_is_noted : FirstIsNoted
 first_is_noted now x seats n l h = sym (first_found 0 n seats l (subst (λ (xs : List Seat). IsFirst xs n) (sym (lined_all seats)) h))
 
+pub head_is_noted : HeadIsNoted
+head_is_noted now x seats n l h = sym (first_found 1 n seats l h)
+
 moves_by : (b c : Bool) (a f l first lent now : ℕ) → (a == first) ≡ b → (f == lent) ≡ c
     → ((if b && c then l else now) ≡ now) ⊎ (((if b && c then l else now) ≡ l) × (first ≡ a) × (lent ≡ f))
 moves_by true true a f l first lent now e g = inr (refl, sym (eq_true a first e), sym (eq_true f lent g))
@@ -130,4 +133,7 @@ moves_by true false a f l first lent now e g = inl refl
 moves_by false c a f l first lent now e g = inl refl
 
 pub moves_are_noted : MovesAreNoted
-moves_are_noted now x seats = moves_by _ _ x.first x.lent x.since (first_from 0 seats) (shown_owed seats) now refl refl
+moves_are_noted now x seats = (
+  moves_by _ _ x.first x.lent x.since (first_from 0 seats) (shown_owed seats) now refl refl,
+  moves_by _ _ x.head x.turn x.head_since (first_from 1 seats) (turn_of (first_from 1 seats) seats) now refl refl,
+)

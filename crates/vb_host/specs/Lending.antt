@@ -23,6 +23,10 @@ pub record Lending : Type 0 where
 abbrev pub owed : List Seat → ℕ
 owed seats = sum_by lent seats
 
+-- of the former as far as 64 bits show it
+abbrev pub shown_owed : List Seat → ℕ
+shown_owed seats = min (owed seats) 18446744073709551615
+
 abbrev pub waited : List Seat → ℕ
 waited seats = sum_by asked seats
 

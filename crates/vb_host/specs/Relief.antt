@@ -1,7 +1,7 @@
 -- How a host whose guests wait for each other is helped: who proceeds alone, who is lent from the
 -- overdraft, and who lets others pass. Times are in milliseconds.
 use Rattle.std.specs.Prelude.{◌≡◌, ◌⊎◌, ℕ, zero, suc, ◌+◌, ◌-◌, ◌*◌, ◌≤◌, ◌<◌, Bool, true, false}
-use Rattle.std.specs.Prelude.{not, ◌&&◌, ◌==◌, nat_lt, nat_le, if◌then◌else◌, min, List, length}
+use Rattle.std.specs.Prelude.{not, ◌&&◌, ◌==◌, nat_lt, nat_le, if◌then◌else◌, List, length}
 use Rattle.std.specs.Prelude.{map, sum_by, Option, Some, None}
 use Rattle.vb_host.specs.declared.event.Event.{Event}
 use Rattle.vb_host.specs.declared.event.Event.TheVariants.{Overdraws, Prefers, Defers}
@@ -9,7 +9,7 @@ use Rattle.vb_host.specs.declared.relief.Look.{Look}
 use Rattle.vb_host.specs.declared.relief.Stand.{Stand}
 use Rattle.vb_host.specs.declared.relief.TheConstants.{STANDS}
 use Rattle.vb_host.specs.declared.seat.Seat.{Seat}
-use Rattle.vb_host.specs.Lending.{Lending, is_first, may_overdraw, owed, test_at, turn_at}
+use Rattle.vb_host.specs.Lending.{Lending, is_first, may_overdraw, shown_owed, test_at, turn_at}
 use Rattle.vb_host.specs.Line.{IsFirst, lined}
 use Rattle.vb_host.specs.Seats.{is_preferred, may_defer}
 use Rattle.vb_virtio.specs.Tests.{one_if}
@@ -31,9 +31,6 @@ abbrev pub turn_of : ℕ → List Seat → ℕ
 turn_of number seats = if nat_lt 0 number then turn_at seats (number - 1) else 0
 
 -- ---- since when a host stands still
-
-abbrev pub shown_owed : List Seat → ℕ
-shown_owed seats = min (owed seats) 18446744073709551615
 
 -- Nothing has moved: the same guest waits first, and as much is lent.
 abbrev pub has_stood : Stand → List Seat → Bool
@@ -113,18 +110,27 @@ NobodyIsHurried =
     → (k.awaits ≡ 0)
     × ((x.since + STANDS ≤ k.time) ⊎ (x.head_since + 1000 * k.patience ≤ k.time))
 
--- The number that is noted is of the guest that waits first.
+-- The number that is noted is of the guest that waits first; and that of the head of the guest
+-- that does so of those that restart or come.
 abbrev pub FirstIsNoted : Type 0
 FirstIsNoted =
     (now : ℕ) (x : Stand) (seats : List Seat) (n : ℕ) → n < length seats → IsFirst seats n
     → (stood now x seats).first ≡ n + 1
 
--- Its time is that of this look, unless the same guest waited first before, with as much lent.
+abbrev pub HeadIsNoted : Type 0
+HeadIsNoted =
+    (now : ℕ) (x : Stand) (seats : List Seat) (n : ℕ) → n < length seats
+    → IsFirst (map (lined 1) seats) n → (stood now x seats).head ≡ n + 1
+
+-- A time is that of this look, unless the same guest waited first before, with as much lent; and
+-- of the head with the same turn.
 abbrev pub MovesAreNoted : Type 0
 MovesAreNoted =
-    (now : ℕ) (x : Stand) (seats : List Seat) → ((stood now x seats).since ≡ now)
-    ⊎ (((stood now x seats).since ≡ x.since) × ((stood now x seats).first ≡ x.first)
-    × ((stood now x seats).lent ≡ x.lent))
+    (now : ℕ) (x : Stand) (seats : List Seat)
+    → (((stood now x seats).since ≡ now) ⊎ (((stood now x seats).since ≡ x.since)
+    × ((stood now x seats).first ≡ x.first) × ((stood now x seats).lent ≡ x.lent)))
+    × (((stood now x seats).head_since ≡ now) ⊎ (((stood now x seats).head_since ≡ x.head_since)
+    × ((stood now x seats).head ≡ x.head) × ((stood now x seats).turn ≡ x.turn)))
 
 -- On a short host the first that waits is preferred, else nobody.
 abbrev pub PrefersTheFirst : Type 0

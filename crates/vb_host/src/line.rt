@@ -2,7 +2,7 @@
 
 ghost use Rattle.std.specs.Prelude.{◌≡◌, ℕ, ◌+◌, ◌-◌, ◌*◌, ◌<◌, ◌≤◌, length, map, nat_le};
 ghost use Rattle.std.specs.Prelude.{MatchOption, Some, None, true, false};
-ghost use Rattle.vb_host.specs.Lending.{owed, waited, last_turn, next_turn, held_at};
+ghost use Rattle.vb_host.specs.Lending.{owed, shown_owed, waited, last_turn, next_turn, held_at};
 ghost use Rattle.vb_host.specs.Lending.{is_first};
 ghost use Rattle.vb_host.specs.Lending.{value_at, test_at};
 ghost use Rattle.std.specs.List.{list_all};
@@ -21,6 +21,13 @@ pub fn owed(seats: &[Seat]) -> u128
         pages += u128::from(seat.lent());
     }
     pages
+}
+
+/// How many frames those are, as far as 64 bits show it.
+pub fn shown_owed(seats: &[Seat]) -> u64
+    ensures { result ≡ shown_owed seats.now }
+{
+    owed(seats).min(u128::from(u64::MAX)) as u64
 }
 
 /// How many frames all that wait would be lent beyond those.

@@ -4,15 +4,14 @@ ghost use Rattle.std.specs.Prelude.{◌≡◌, ◌≤◌, ◌-◌, ◌*◌, leng
 ghost use Rattle.vb_host.specs.Lending.{Lending, turn_at, test_at};
 ghost use Rattle.vb_host.specs.Relief.{alone, count, deferral, first_from, overdraft_relief};
 ghost use Rattle.vb_host.specs.Relief.{is_due_to_defer, is_just_preferred, place_of, due_relief};
-ghost use Rattle.vb_host.specs.Relief.{shown_owed, stands_still, stood, turn_of};
-ghost use Rattle.vb_host.specs.Relief.{DefersForAnother, FirstIsNoted, MovesAreNoted};
+ghost use Rattle.vb_host.specs.Relief.{stands_still, stood, turn_of};
+ghost use Rattle.vb_host.specs.Relief.{DefersForAnother, FirstIsNoted, HeadIsNoted, MovesAreNoted};
 ghost use Rattle.vb_host.specs.Relief.{NobodyIsHurried, OverdrawsIfPossible, PrefersTheFirst};
 ghost use Rattle.vb_host.specs.Seats.{is_preferred, may_defer};
-ghost use Rattle.vb_virtio.specs.Tests.{one_if};
 
 use crate::lending::may_overdraw;
-use crate::line::first_from;
-use crate::{Event, Seat, owed};
+use crate::line::{first_from, shown_owed};
+use crate::{Event, Seat};
 
 /// How many milliseconds nothing moves on a host that stands still.
 const STANDS: u64 = 1000;
@@ -72,28 +71,14 @@ fn turn_of(seats: &[Seat], number: u64) -> u64
     seats[(number - 1) as usize].turn
 }
 
-/// How many frames are lent to all guests together, as far as 64 bits show it.
-fn shown_owed(seats: &[Seat]) -> u64
-    ensures { result ≡ shown_owed seats.now }
-{
-    owed(seats).min(u128::from(u64::MAX)) as u64
-}
-
-/// 1 of what is so, else 0.
-fn one_if(test: bool) -> u32
-    ensures { result ≡ one_if test }
-{
-    u32::from(test)
-}
-
 /// How many guests are preferred.
 fn preferred_count(seats: &[Seat]) -> u128
     ensures value { result ≡ count is_preferred seats.now }
-    ensures small { result ≤ 4294967295 * length seats.now }
+    ensures small { result ≤ length seats.now }
 {
     let mut count: u128 = 0;
     for seat in seats {
-        count += u128::from(one_if(seat.is_preferred()));
+        count += u128::from(seat.is_preferred());
     }
     count
 }
@@ -101,11 +86,11 @@ fn preferred_count(seats: &[Seat]) -> u128
 /// How many guests wait in a reset or to come.
 fn lined_count(seats: &[Seat]) -> u128
     ensures value { result ≡ count may_defer seats.now }
-    ensures small { result ≤ 4294967295 * length seats.now }
+    ensures small { result ≤ length seats.now }
 {
     let mut count: u128 = 0;
     for seat in seats {
-        count += u128::from(one_if(seat.may_defer()));
+        count += u128::from(seat.may_defer());
     }
     count
 }
@@ -248,6 +233,7 @@ pub fn due_relief(
 pub fn only_a_standstill_is_relieved()
     ensures hurry { NobodyIsHurried }
     ensures first { FirstIsNoted }
+    ensures head { HeadIsNoted }
     ensures moves { MovesAreNoted }
     ensures alone { PrefersTheFirst }
     ensures overdraft { OverdrawsIfPossible }

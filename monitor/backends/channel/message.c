@@ -9,8 +9,8 @@ bool lending_send(int channel, struct lending_message *message)
                                (ssize_t)sizeof *message;
 }
 
-/* Whether a read has answered that the other end was closed with messages unread: that is answered
- * once, before what it had sent is. */
+/* Whether a read says that the other end was closed with messages unread: the kernel says so once,
+ * before what that end had sent. */
 static bool is_reset(ssize_t got)
 {
     return got < 0 && errno == ECONNRESET;

@@ -54,8 +54,8 @@ void place_leaves(struct seat *seat);
 /* `pages` of it are wanted in its balloon, which the next step follows. */
 void place_wants(struct seat *seat, uint32_t pages);
 
-/* Something happens: the step, and what is sent by what comes of it; also of what has happened
- * before without a step, to which nothing is added. */
+/* Something happens: the step, and what is sent by what comes of it, and of all that has happened
+ * since the last one. places_settle() is such a step of which nothing else happens. */
 void places_step(struct host *host, VbHostEvent event);
 void places_settle(struct host *host);
 

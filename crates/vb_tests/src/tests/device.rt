@@ -281,7 +281,7 @@ fn element_at(ring: Virtqueue, head: u32) -> Result<u64, Denial> {
     }
 }
 
-/// The number of the first use that is answered otherwise.
+/// The number of the first use with another reply.
 fn first_other_use() -> Option<usize> {
     for (k, (ring, head, answer)) in USES.iter().enumerate() {
         if element_at(*ring, *head) != *answer {
