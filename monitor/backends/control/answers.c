@@ -74,34 +74,23 @@ static json_t *answer_statistics(const struct guest_view *guest)
     return answer;
 }
 
-json_t *answer_guest(const struct host *host, unsigned number)
+json_t *answer_guest(const struct guest_view *guest)
 {
-    struct guest_view guest;
-    host_see_guest(host, number, &guest);
-    json_t *refused = guest.refused_for ? json_pack("{s:s, s:o}", "for", guest.refused_for, "bytes",
-                                                    part_bytes(guest.refused_by))
-                                        : json_null();
+    json_t *refused = guest->refused_for ? json_pack("{s:s, s:o}", "for", guest->refused_for,
+                                                     "bytes", part_bytes(guest->refused_by))
+                                         : json_null();
     json_t *answer = json_pack(
         "{s:o, s:s, s:s, s:i, s:s, s:s, s:s, s:f, s:s, s:f, "
         "s:b, s:b, s:b, s:b, s:f, s:f, s:o, s:o, s:o}",
-        "refused", refused, "name", guest.name, "socket", guest.path, "process", (int)guest.process,
-        "version", guest.version, "state", guest_state_word(guest.state), "waits_for",
-        guest_wait_word(guest.waits_for), "waits", guest.waits, "migration", guest.migration,
-        "migrating", guest.migrating, "answers", guest.answers, "reports", guest.reports,
-        "cooperates", guest.cooperates, "pressed", guest.pressed, "silent", guest.silent,
-        "process_silent", guest.process_silent, "terms", answer_terms(&guest.terms), "statistics",
-        answer_statistics(&guest), "counters", answer_guest_counters(&guest));
-    return part_update(answer, answer_guest_memory(&guest));
-}
-
-json_t *answer_guests(const struct host *host)
-{
-    struct host_view view;
-    host_see(host, &view);
-    json_t *guests = json_array();
-    for (unsigned i = 0; i < view.guests; i++)
-        guests = part_append(guests, answer_guest(host, i));
-    return guests;
+        "refused", refused, "name", guest->name, "socket", guest->path, "process",
+        (int)guest->process, "version", guest->version, "state", guest_state_word(guest->state),
+        "waits_for", guest_wait_word(guest->waits_for), "waits", guest->waits, "migration",
+        guest->migration, "migrating", guest->migrating, "answers", guest->answers, "reports",
+        guest->reports, "cooperates", guest->cooperates, "pressed", guest->pressed, "silent",
+        guest->silent, "process_silent", guest->process_silent, "terms",
+        answer_terms(&guest->terms), "statistics", answer_statistics(guest), "counters",
+        answer_guest_counters(guest));
+    return part_update(answer, answer_guest_memory(guest));
 }
 
 static json_t *answer_host_counters(const struct host_view *view)

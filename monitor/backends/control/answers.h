@@ -9,11 +9,8 @@
 /* All of the host together, and what its control sockets count. */
 json_t *answer_host(const struct control *control, const struct host *host);
 
-/* The guest of this number. */
-json_t *answer_guest(const struct host *host, unsigned number);
-
-/* All guests, in their order. */
-json_t *answer_guests(const struct host *host);
+/* A guest. */
+json_t *answer_guest(const struct guest_view *guest);
 
 /* Decisions from this number on, at most `limit`: `decisions`; `next`, where to go on; `lost`, how
  * many of them aren't kept any longer. */

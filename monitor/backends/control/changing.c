@@ -18,9 +18,19 @@ static json_t *outcome(const char *fault)
     return fault ? request_refusal("refused", NULL, "%s", fault) : json_pack("{s:b}", "ok", 1);
 }
 
-static json_t *no_guest(const char *name)
+/* Sees the guest that a request names; its number, or -1: none is named so. */
+static int see_named(const struct asked *asked, struct guest_view *view)
 {
-    return request_refusal("no-guest", "name", "no guest is named %s", name);
+    int number = host_find(asked->host, field_name(asked->fields, "name"));
+    if (number >= 0)
+        host_see_guest(asked->host, (unsigned)number, view);
+    return number;
+}
+
+static json_t *no_guest(const struct asked *asked)
+{
+    return request_refusal("no-guest", "name", "no guest is named %s",
+                           field_name(asked->fields, "name"));
 }
 
 /* The terms that a request asks for, where the others stay as they are. */
@@ -137,17 +147,17 @@ static const char *change(const struct asked *asked, const struct guest_view *gu
 /* The guest of this number, after what was done to it. */
 static json_t *guest_answer(const struct asked *asked, int number)
 {
-    return json_pack("{s:b, s:o}", "ok", 1, "guest", answer_guest(asked->host, (unsigned)number));
+    struct guest_view guest;
+    host_see_guest(asked->host, (unsigned)number, &guest);
+    return json_pack("{s:b, s:o}", "ok", 1, "guest", answer_guest(&guest));
 }
 
 json_t *answer_to_guest(const struct asked *asked)
 {
-    const char *name = field_name(asked->fields, "name");
-    int number = host_find(asked->host, name);
-    if (number < 0)
-        return no_guest(name);
     struct guest_view view;
-    host_see_guest(asked->host, (unsigned)number, &view);
+    int number = see_named(asked, &view);
+    if (number < 0)
+        return no_guest(asked);
     const char *fault = change(asked, &view);
     json_t *answer = fault ? outcome(fault) : guest_answer(asked, number);
     return fault || !asked_terms(asked->fields) ? answer : lasting_answer(asked, answer);
@@ -169,23 +179,21 @@ json_t *answer_to_add(const struct asked *asked)
 
 json_t *answer_to_remove(const struct asked *asked)
 {
-    const char *name = field_name(asked->fields, "name");
-    int number = host_find(asked->host, name);
-    if (number < 0)
-        return no_guest(name);
     struct guest_view view;
-    host_see_guest(asked->host, (unsigned)number, &view);
+    int number = see_named(asked, &view);
+    if (number < 0)
+        return no_guest(asked);
     bool at_work = view.state != GUEST_ABSENT && view.state != GUEST_LEAVING;
     if (at_work &&
         !(field_is_there(asked->fields, "force") && field_number(asked->fields, "force")))
         return request_refusal("at-work", "name",
                                "%s is at work: --force ends its service, and its memory lives on "
                                "until its VMM closes it",
-                               name);
+                               view.name);
     const char *fault =
-        changes_keep_removal(changes_of(asked), file_of(asked), how_long(asked), name);
+        changes_keep_removal(changes_of(asked), file_of(asked), how_long(asked), view.name);
     if (!fault)
-        fault = unless_done(asked, host_remove(asked->host, name));
+        fault = unless_done(asked, host_remove(asked->host, view.name));
     json_t *answer = fault ? outcome(fault) : lasting_answer(asked, outcome(NULL));
     return fault ? answer : part_set(answer, "lives_on", json_boolean(at_work));
 }
@@ -206,16 +214,14 @@ json_t *answer_to_reload(const struct asked *asked)
 
 json_t *answer_to_renew(const struct asked *asked)
 {
-    const char *name = field_name(asked->fields, "name");
-    int number = host_find(asked->host, name);
-    if (number < 0)
-        return no_guest(name);
     struct guest_view view;
-    host_see_guest(asked->host, (unsigned)number, &view);
-    const char *fault = host_renew(asked->host, name);
+    int number = see_named(asked, &view);
+    if (number < 0)
+        return no_guest(asked);
+    const char *fault = host_renew(asked->host, view.name);
     if (!fault)
-        audit_note(&asked->control->settings->audit, &asked->author, name, "process", view.version,
-                   "renewed");
+        audit_note(&asked->control->settings->audit, &asked->author, view.name, "process",
+                   view.version, "renewed");
     return fault ? outcome(fault) : guest_answer(asked, number);
 }
 

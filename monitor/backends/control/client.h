@@ -17,6 +17,7 @@ struct control_client {
     uint32_t waits_for; /* the events of its socket that are waited for */
     const char *rest;   /* fields of its answer after those of an object, as text without the first
                            brace; NULL: none */
+    bool asks_again;    /* its request stays, as what answers it isn't whole yet */
     uint64_t follows;   /* the number of the first event that it is sent; UINT64_MAX: it has asked
                            for none */
     bool ends;          /* nothing more is read of it; what came is answered yet */

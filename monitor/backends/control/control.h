@@ -7,8 +7,10 @@
 #include <stdbool.h>
 #include <stddef.h>
 #include <stdint.h>
+#include <stdio.h>
 #include <sys/types.h>
 
+struct guest_view;
 struct host;
 struct settings;
 
@@ -55,11 +57,22 @@ struct control_socket {
     bool rests; /* no file was left for a client that came: none is taken until the next look */
 };
 
+/* The fields of a status that is being made, of guests as all of them were when it was begun. */
+struct status_parts {
+    FILE *out;  /* to the text; NULL: none is being made */
+    char *text; /* after the last write to it was flushed */
+    size_t length;
+    struct guest_view *guests;
+    unsigned count, next; /* how many there are; which of them is put next */
+    bool fails;           /* there was no memory for a part */
+};
+
 /* The fields of a status, as they were made last. */
 struct made_status {
     char *text;        /* NULL: they weren't made yet */
     double paid_until; /* when making them will have taken no more than its part of the time */
-    bool is_old;       /* a client has asked for a change since */
+    bool is_old;       /* a client has asked for a change since they were begun */
+    struct status_parts parts;
 };
 
 /* The events of a look, on their way to those who follow the host. */
@@ -100,6 +113,10 @@ void control_serve(struct control *control, struct host *host);
 
 /* Once in each turn of the host's loop: tells followers what has happened since the last call. */
 void control_look(struct control *control, struct host *host);
+
+/* Once in each turn of the host's loop: makes a part of a status that was asked for. Who waits for
+ * it has the next turn begin at once. */
+void control_go_on(struct control *control);
 
 /* Whether anybody is there for whom to look, or couldn't be taken. */
 bool control_has_clients(const struct control *control);

@@ -14,7 +14,7 @@
 #include <string.h>
 
 /* Decisions of one answer, and bytes of what is said of a refusal. */
-enum { MOST_DECISIONS_OF_ANSWER = 16, MOST_WORDS = 256 };
+enum { MOST_DECISIONS_OF_ANSWER = 16, MOST_REFUSAL = 256 };
 
 struct kind {
     const char *name;
@@ -25,7 +25,7 @@ struct kind {
 
 json_t *request_refusal(const char *code, const char *field, const char *format, ...)
 {
-    char words[MOST_WORDS];
+    char words[MOST_REFUSAL];
     va_list parts;
     va_start(parts, format);
     vsnprintf(words, sizeof words, format, parts);
@@ -40,8 +40,10 @@ json_t *request_refusal(const char *code, const char *field, const char *format,
 
 static json_t *status(const struct asked *asked)
 {
-    asked->client->rest = status_text(asked->control, asked->host);
-    return asked->client->rest ? json_pack("{s:b}", "ok", 1) : NULL;
+    struct control_client *client = asked->client;
+    client->asks_again = !status_is_made(asked->control, asked->host, client->asks_again);
+    client->rest = client->asks_again ? NULL : asked->control->status.text;
+    return client->rest ? json_pack("{s:b}", "ok", 1) : NULL;
 }
 
 static json_t *decisions(const struct asked *asked)
@@ -190,5 +192,8 @@ json_t *request_answer(struct control *control, struct control_client *client, s
         reply = answer(&asked);
     reply = request_headed(fields, reply);
     json_decref(fields);
-    return reply;
+    if (!client->asks_again)
+        return reply;
+    json_decref(reply);
+    return NULL;
 }

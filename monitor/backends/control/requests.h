@@ -3,8 +3,8 @@
 #define CONTROL_REQUESTS_H
 #include "client.h"
 
-/* The answer to a line: an object with `ok`. NULL where there is no memory for it, nor to say
-  * so. */
+/* The answer to a line: an object with `ok`. NULL where there is no memory for it, nor to say so;
+ * and where the client asks again, for an answer that isn't whole yet. */
 json_t *request_answer(struct control *control, struct control_client *client, struct host *host,
                        const char *line, size_t length);
 

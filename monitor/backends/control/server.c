@@ -3,6 +3,7 @@
 #include "followers.h"
 #include "requests.h"
 #include "socket.h"
+#include "status.h"
 
 #include "../base/loop.h"
 #include "../base/process.h"
@@ -83,8 +84,7 @@ void control_close(struct control *control)
         file_close(control->waits);
     events_free(control->events);
     followers_forget(&control->followers);
-    free(control->status.text);
-    control->status = (struct made_status){0};
+    status_forget(&control->status);
     control->waits = -1;
     control->events = NULL;
 }
@@ -188,8 +188,8 @@ static void answer_line(struct control *control, struct control_socket *its,
 {
     size_t length;
     const char *line = client_is_served(client) ? client_line(client, &length) : NULL;
-    if (line) {
-        json_t *answer = request_answer(control, client, host, line, length);
+    json_t *answer = line ? request_answer(control, client, host, line, length) : NULL;
+    if (line && !client->asks_again) {
         its->counters.requests++;
         its->counters.refused += !json_is_true(json_object_get(answer, "ok"));
         client_next_line(client);
@@ -238,6 +238,11 @@ static void look(struct control_socket *its)
     for (unsigned i = 0; i < MOST_CONTROL_CLIENTS; i++)
         if (its->clients[i])
             settle(its, i);
+}
+
+void control_go_on(struct control *control)
+{
+    status_go_on(&control->status);
 }
 
 bool control_has_clients(const struct control *control)

@@ -20,28 +20,119 @@ static bool is_due(const struct made_status *status)
     return !status->text || status->is_old || status->paid_until <= loop_seconds() + PAID_AHEAD;
 }
 
-static void make(struct control *control, const struct host *host)
+static void drop(struct status_parts *parts)
 {
-    struct made_status *status = &control->status;
-    double begin = loop_processor_seconds(), now = loop_seconds();
-    size_t length;
-    const struct settings *settings = control->settings;
-    json_t *its = part_set(answer_host(control, host), "differs", answer_differs(settings));
-    its = part_set(its, "state", json_pack("s?", settings->changes.path));
-    json_t *object = json_pack("{s:o, s:o}", "host", its, "guests", answer_guests(host));
-    free(status->text);
-    status->text = client_text(object, NULL, &length);
-    json_decref(object);
-    if (status->text)
-        status->text[length - 1] = 0; /* in place of the end of the line */
-    status->is_old = false;
-    status->paid_until = (status->paid_until > now ? status->paid_until : now) +
-                         (loop_processor_seconds() - begin) * STATUS_PARTS;
+    if (parts->out)
+        fclose(parts->out);
+    free(parts->text);
+    free(parts->guests);
+    *parts = (struct status_parts){0};
 }
 
-const char *status_text(struct control *control, const struct host *host)
+void status_forget(struct made_status *status)
 {
-    if (is_due(&control->status))
-        make(control, host);
-    return control->status.text ? control->status.text + 1 : NULL;
+    drop(&status->parts);
+    free(status->text);
+    *status = (struct made_status){0};
+}
+
+static void put_words(struct status_parts *parts, const char *words)
+{
+    parts->fails |= fputs(words, parts->out) < 0;
+}
+
+/* Puts an object after the text so far. */
+static void put(struct status_parts *parts, json_t *object)
+{
+    size_t length;
+    char *line = client_text(object, NULL, &length);
+    parts->fails |= !line || fwrite(line, 1, length - 1, parts->out) < length - 1;
+    json_decref(object);
+    free(line);
+}
+
+static json_t *fields_of_host(const struct control *control, const struct host *host)
+{
+    const struct settings *settings = control->settings;
+    json_t *its = part_set(answer_host(control, host), "differs", answer_differs(settings));
+    return part_set(its, "state", json_pack("s?", settings->changes.path));
+}
+
+/* Sees all guests, and puts what there is of the host. */
+static void begin(struct control *control, const struct host *host)
+{
+    struct status_parts *parts = &control->status.parts;
+    struct host_view view;
+    host_see(host, &view);
+    drop(parts);
+    control->status.is_old = false;
+    parts->guests = calloc(view.guests + 1, sizeof parts->guests[0]);
+    parts->out = parts->guests ? open_memstream(&parts->text, &parts->length) : NULL;
+    if (!parts->out)
+        return;
+    for (; parts->count < view.guests; parts->count++)
+        host_see_guest(host, parts->count, &parts->guests[parts->count]);
+    put_words(parts, "\"host\":");
+    put(parts, fields_of_host(control, host));
+    put_words(parts, ",\"guests\":[");
+}
+
+/* Puts one guest after the other, until a call's time is spent. */
+static void put_guests(struct status_parts *parts)
+{
+    double until = loop_processor_seconds() + CONTROL_SECONDS;
+    bool has_time = true;
+    while (!parts->fails && parts->next < parts->count && has_time) {
+        if (parts->next > 0)
+            put_words(parts, ",");
+        put(parts, answer_guest(&parts->guests[parts->next++]));
+        has_time = loop_processor_seconds() < until;
+    }
+}
+
+/* The text of a status that is whole; NULL where there was no memory. */
+static char *take_text(struct status_parts *parts)
+{
+    char *text = NULL;
+    put_words(parts, "]}");
+    parts->fails |= fclose(parts->out) != 0;
+    if (!parts->fails)
+        text = parts->text, parts->text = NULL;
+    parts->out = NULL;
+    drop(parts);
+    return text;
+}
+
+/* Counts the time of a processor since then. */
+static void pay(struct made_status *status, double begun)
+{
+    double now = loop_seconds(), paid = status->paid_until > now ? status->paid_until : now;
+    status->paid_until = paid + (loop_processor_seconds() - begun) * STATUS_PARTS;
+}
+
+void status_go_on(struct made_status *status)
+{
+    struct status_parts *parts = &status->parts;
+    double begun = loop_processor_seconds();
+    if (!parts->out)
+        return;
+    put_guests(parts);
+    pay(status, begun);
+    if (!parts->fails && parts->next < parts->count)
+        return;
+    free(status->text);
+    status->text = take_text(parts);
+}
+
+bool status_is_made(struct control *control, const struct host *host, bool waited)
+{
+    struct made_status *status = &control->status;
+    double begun = loop_processor_seconds();
+    bool serves = status->parts.out || (waited && status->text) || !is_due(status);
+    if (serves && !status->is_old)
+        return !status->parts.out;
+    begin(control, host);
+    pay(status, begun);
+    status_go_on(status);
+    return !status->parts.out;
 }

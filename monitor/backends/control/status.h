@@ -3,9 +3,16 @@
 #define CONTROL_STATUS_H
 #include "control.h"
 
-/* The fields of a status after the first brace. They are made again after a change that a client
- * asked for, and else as long as that takes a small part of the time; they stay until the next
- * call. NULL: there is no memory. */
-const char *status_text(struct control *control, const struct host *host);
+/* Whether the fields of a status are whole, all of one moment; where they are to be made, the first
+ * part is made here. They are made again after a change that a client asked for; and else as long
+ * as that takes a small part of the time, but not for who has waited for them. Their text stays
+ * until the next call; NULL: there is no memory. */
+bool status_is_made(struct control *control, const struct host *host, bool waited);
+
+/* Makes the next part of a status that isn't whole: for CONTROL_SECONDS, and of one guest at
+ * least. */
+void status_go_on(struct made_status *status);
+
+void status_forget(struct made_status *status);
 
 #endif

@@ -21,7 +21,6 @@ enum {
      * pages that return to a guest. */
     PLACES_OF_GUEST = 4,
     MOST_PLACES = PLACES_OF_GUEST * MOST_GUESTS + 1,
-    MOST_PATH = 108, /* of a socket's */
     /* questions without statistics, and a guest counts as one that doesn't answer */
     SILENT_AFTER = 3,
     PAGES_PER_MIB = 256,

@@ -140,10 +140,7 @@ void host_see_guest(const struct host *host, unsigned number, struct guest_view 
 {
     const struct seat *seat = host->seats[number];
     const struct lending_message *report = &seat->report;
-    *view = (struct guest_view){.name = seat->name,
-                                .path = seat->path,
-                                .process = seat->serving,
-                                .version = report->program,
+    *view = (struct guest_view){.process = seat->serving,
                                 .state = state_of(seat),
                                 .terms = seat->terms,
                                 .pages = seat_pages(seat),
@@ -164,7 +161,6 @@ void host_see_guest(const struct host *host, unsigned number, struct guest_view 
                                 .reports = seat_reports(seat),
                                 .cooperates = cooperates(seat),
                                 .pressed = seat_is_pressed(seat),
-                                .figures = report->figures,
                                 .figure_count = report->figure_count,
                                 .waits_for = seat_waits_for(seat),
                                 .migration = migration_word(report),
@@ -182,6 +178,10 @@ void host_see_guest(const struct host *host, unsigned number, struct guest_view 
         view->silent = seconds_since(seat->heard_at);
         view->process_silent = seconds_since(seat->asked_at);
     }
+    strcpy(view->name, seat->name);
+    strcpy(view->path, seat->path);
+    strcpy(view->version, report->program);
+    memcpy(view->figures, report->figures, sizeof view->figures);
     see_counters(&report->counters, view);
 }
 

@@ -3,9 +3,12 @@
  * guest's process: numbers are those of its last report. */
 #ifndef VIEW_H
 #define VIEW_H
+#include "journal.h"
 #include "limit.h"
 #include "owner.h"
 #include "vb_types.h"
+
+#include "../channel/message.h"
 
 #include <stdbool.h>
 #include <stddef.h>
@@ -61,17 +64,17 @@ struct guest_terms {
                        it may have */
 };
 
-/* The overhead of a guest of whom nothing was said. */
-enum { USUAL_OVERHEAD = 64 * 256 };
+/* The overhead of a guest of whom nothing was said; and bytes of a socket's path, with its end. */
+enum { USUAL_OVERHEAD = 64 * 256, MOST_PATH = 108 };
 
 /* One guest. Pages are of 4096 bytes; seconds have fractions, and are 0 where there is nothing to
  * count. */
 struct guest_view {
-    const char *name;    /* until the next call that adds or removes a guest */
-    const char *path;    /* of the socket where its client comes */
-    pid_t process;       /* that serves it; 0: none, or none that has reported */
-    const char *version; /* of its process, as that one says: letters, digits, dots and signs; empty
-                            where it says none */
+    char name[MOST_NAME];
+    char path[MOST_PATH];       /* of the socket where its client comes */
+    pid_t process;              /* that serves it; 0: none, or none that has reported */
+    char version[MOST_VERSION]; /* of its process, as that one says: letters, digits, dots and
+                                   signs; empty where it says none */
     enum guest_state state;
     struct guest_terms terms;
     uint32_t pages;    /* of its memory */
@@ -102,8 +105,8 @@ struct guest_view {
     double silent;           /* seconds since its last statistics */
     double process_silent;   /* seconds since its process answered last */
     uint64_t inflated, deflated, reported, taken, statistics, told, discarded, skipped, chains,
-        kicks;                  /* see counters.h */
-    const VbStatistic *figures; /* its last statistics */
+        kicks;                      /* see counters.h */
+    VbStatistic figures[MOST_TAGS]; /* its last statistics */
     unsigned figure_count;
     uint64_t clients; /* how many have come to its socket */
     uint64_t lost;    /* messages that its process or the lender didn't read in time */

@@ -121,6 +121,7 @@ static int turn(void *context)
 {
     struct service *service = context;
     look(service);
+    control_go_on(&service->control);
     if (service->every > 0 && loop_now() >= service->word)
         tell_manager(service, service->settings.host);
     return LOOP_GOES_ON;

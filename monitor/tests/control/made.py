@@ -71,7 +71,7 @@ class Made:
     def value(self, kind, name):
         """Returns a value of a type."""
         self.count += 1
-        if kind == "const char":
+        if kind in ("const char", "char"):
             return f"{name}-{self.count}"
         return FIRST[kind] + self.count * (0.5 if kind == "double" else PRIME)
 
@@ -181,8 +181,14 @@ class Array:
         return iter(self.values)
 
 
+class Figures(dict):
+    """Statistics by their tags."""
+
+
 def written(value):
     """Returns a value as C has it."""
+    if isinstance(value, Figures):
+        return "{" + ", ".join(f"{{{tag}, {figure}u}}" for tag, figure in value.items()) + "}"
     if isinstance(value, Array):
         return f"(const struct {value.of}[]){written(value.values)}"
     if isinstance(value, dict):
@@ -214,22 +220,12 @@ class MadeHost:
         self.measures = made.measures()
         self.counters = [made.struct("control/control.h", "control_counters") for _ in range(2)]
 
-    def figures(self):
-        """Returns the statistics of all guests as C, and the guests with their names in place of
-        them."""
-        arrays, guests = "", []
-        for phase, its in enumerate(self.guests):
-            names = [f"MADE_{phase}_{number}" for number in range(GUESTS)]
-            for name, guest in zip(names, its):
-                pairs = ", ".join(f"{{{tag}, {value}u}}" for tag, value in guest["figures"].items())
-                arrays += f"static const VbStatistic {name}[] = {{{pairs}}};\n"
-            guests.append([guest | {"figures": name} for name, guest in zip(names, its)])
-        return arrays, guests
-
     def header(self):
         """Returns them as C."""
-        arrays, guests = self.figures()
-        return arrays + "".join(
+        guests = [
+            [guest | {"figures": Figures(guest["figures"])} for guest in its] for its in self.guests
+        ]
+        return "".join(
             f"static const struct {kind} {name} = {written(values)};\n"
             for kind, name, values in (
                 ("host_view", f"made_hosts[{PHASES}]", self.hosts),
