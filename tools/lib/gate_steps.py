@@ -62,7 +62,10 @@ CHECKS = (
     Step("headline", ("tools/headline", "--check")),
     Step("draw-crates", ("tools/draw-crates", "--check")),
 )
-OVER_REFERENCE = ("headers", "c-test", "checked-test", "rust-test", "rust-c-test", "LIB=reference")
+OVER_REFERENCE = (
+    *("headers", "fuzz-sources", "c-test", "checked-test", "rust-test", "rust-c-test"),
+    "LIB=reference",
+)
 QUICK = (
     *CHECKS,
     monitor("monitor over reference", *OVER_REFERENCE, *FEWER),

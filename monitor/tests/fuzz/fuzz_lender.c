@@ -123,7 +123,7 @@ static void look(unsigned number)
            seat->target <= place_of(seat)->wanted);
     seat_step(seat, STEP_MS);
     loans_audit(&host);
-    places_relieve(&host), places_defer(&host);
+    places_relieve(&host);
     if (!seat_rests(seat))
         seat_remind(seat);
 }
@@ -272,7 +272,8 @@ static void begin(void)
     host.floor = kind / 16;
     host.period = PERIOD;
     host.patience = PATIENCE;
-    host.head = (struct head){0};
+    host.stand = (VbStand){0};
+    host.unsettled = false;
     host.step = kind & 8 ? 8 : 0;
     host.question.line[0] = 0;
     host.news = host.anew = false;
