@@ -178,14 +178,14 @@ service : (reply : Reply) (old new : Past) → NotesService 8 reply old new
     × (new ≡ noted (Worker old.guest) call claims reply old)
 service reply old new is = is
 
--- what is kept of a guest that was just started, whose script has no call
-just_started_is_kept : (Is : Guest → Type 0) (sizes : Sizes) (claims : List Claim) (reply : Reply)
-    → is_config sizes.pages sizes.queue_size sizes.processors ≡ true
+-- what is kept of a guest that was just started, whose script has no call, whatever frames are out
+just_started_is_kept : (Is : Guest → Type 0) (own : List ℕ) (sizes : Sizes) (claims : List Claim)
+    (reply : Reply) → is_config sizes.pages sizes.queue_size sizes.processors ≡ true
     → StepsTo Is claims (fresh (config_of sizes true) 0) (Init OFFERED_FEATURES) reply
-    → ((g : Guest) → Is g → AreBehind [] g)
-    → IsKept Is [] (just_started 3 sizes true (script [] 0 ∷ []) claims reply)
-just_started_is_kept Is sizes claims reply fits s behind =
-    kept_start Is [] 3 sizes true (script [] 0 ∷ []) claims reply fits nothing_made s behind where
+    → ((g : Guest) → Is g → AreBehind own g)
+    → IsKept Is own (just_started 3 sizes true (script [] 0 ∷ []) claims reply)
+just_started_is_kept Is own sizes claims reply fits s behind =
+    kept_start Is own 3 sizes true (script [] 0 ∷ []) claims reply fits nothing_made s behind where
       nothing_made : AreBegun (script [] 0 ∷ [])
       nothing_made cpu s is = grind (arith, is)
 
@@ -207,3 +207,23 @@ kept Is own p is = (
   is.hushed,
   is.scripted,
 )
+
+-- and no more than that is kept
+no_more_is_kept : (Is : Guest → Type 0) (own : List ℕ) (p : Past) (now : Guest) → Is now
+    → IsHistory (config_of p.sizes p.paced) 0 p.history now → IsTended now → AreBehind own now
+    → AreMade p.guest (length p.scripts) p.history → Follows p
+    → ((n : ℕ) (call : Call) → slice_index_or p.quiet n false ≡ true → slice_get services n ≡ Some call
+    → IsQuiet now call)
+    → ((cpu : ℕ) (s : Progress) → slice_get p.scripts cpu ≡ Some s → IsScript cpu s.calls)
+    → IsKept Is own p
+no_more_is_kept Is own p now stands run tended behind made follows hushed scripted = record {
+  now = now;
+  stands = stands;
+  run = run;
+  tended = tended;
+  behind = behind;
+  made = made;
+  follows = follows;
+  hushed = hushed;
+  scripted = scripted;
+}
