@@ -15,8 +15,9 @@
 #include <string.h>
 #include <time.h>
 
-/* Decisions that are told at a look. */
-enum { MOST_DECISIONS_OF_LOOK = 16 };
+/* Decisions that are told at a look; and guests that a look knows of: those of the last one, and
+ * those that came since. */
+enum { MOST_DECISIONS_OF_LOOK = 16, MOST_SEEN = 2 * MOST_GUESTS };
 
 /* What a guest was at the last look. */
 struct seen {
@@ -36,8 +37,8 @@ struct events {
     bool is_short;
     uint32_t budget;
     unsigned next_guest; /* at which the next look begins */
-    unsigned count, room;
-    struct seen *seen;
+    unsigned count;
+    struct seen seen[MOST_SEEN];
 };
 
 /* A look: its first event, and until when it tells more. */
@@ -54,8 +55,6 @@ struct events *events_new(void)
 
 void events_free(struct events *events)
 {
-    if (events)
-        free(events->seen);
     free(events);
 }
 
@@ -97,36 +96,20 @@ static struct seen *seen_of(struct events *events, const char *name, unsigned pl
     return NULL;
 }
 
-/* Makes room for one more guest; false where there is no memory. */
-static bool make_room(struct events *events)
-{
-    enum { LEAST_ROOM = 16 };
-    unsigned room = events->room > 0 ? 2 * events->room : LEAST_ROOM;
-    if (events->count < events->room)
-        return true;
-    struct seen *seen = realloc(events->seen, room * sizeof seen[0]);
-    if (!seen)
-        return false;
-    events->seen = seen;
-    events->room = room;
-    return true;
-}
-
-/* What was seen of a guest, which may be new. */
-static struct seen *seen_or_new(struct control *control, const struct guest_view *guest,
-                                unsigned place)
+/* What was seen of a guest, which may be new; NULL where there is no room. */
+static struct seen *seen_or_new(struct control *control, const char *name, unsigned place)
 {
     struct events *events = control->events;
-    struct seen *seen = seen_of(events, guest->name, place);
-    if (seen || !make_room(events))
+    struct seen *seen = seen_of(events, name, place);
+    if (seen || events->count == MOST_SEEN)
         return seen;
     seen = &events->seen[events->count++];
     *seen = (struct seen){.state = GUEST_ABSENT,
                           .waits_for = WAITS_FOR_NOTHING,
                           .migration = "none",
                           .cooperates = true};
-    snprintf(seen->name, sizeof seen->name, "%s", guest->name);
-    tell(control, "added", guest->name);
+    snprintf(seen->name, sizeof seen->name, "%s", name);
+    tell(control, "added", name);
     return seen;
 }
 
@@ -192,7 +175,7 @@ static void tell_migration(struct control *control, const struct seen *seen,
 
 static void look_at_guest(struct control *control, const struct guest_view *guest, unsigned place)
 {
-    struct seen *seen = seen_or_new(control, guest, place);
+    struct seen *seen = seen_or_new(control, guest->name, place);
     if (!seen)
         return;
     if (guest->refusals > seen->refusals)
