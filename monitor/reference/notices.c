@@ -70,8 +70,8 @@ uint32_t next_chain(const Call *call)
     }
     notice->chains_left--;
     const VbQueue *queue = call->queue;
-    uint64_t entry =
-        queue->avail + RING_HEADER_SIZE + AVAIL_ENTRY_SIZE * (queue->next_avail % queue->size);
+    uint64_t entry = queue->avail + RING_HEADER_SIZE +
+                     (uint64_t)AVAIL_ENTRY_SIZE * (queue->next_avail % queue->size);
     if (!find_spot(call, entry, AVAIL_ENTRY_SIZE, &notice->at))
         return fail(call, OUT_OF_RAM);
     return wait_for(call, AT_ENTRY, VB_ACQUIRE);

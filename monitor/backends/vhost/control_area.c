@@ -51,7 +51,7 @@ static void put_figures(const struct backend *backend, uint8_t area[AREA_END])
 {
     put_u32(area, FIGURE_COUNT_AT, backend->figure_count);
     for (uint32_t i = 0; i < backend->figure_count; i++) {
-        uint8_t *to = area + FIGURES_AT + i * FIGURE_BYTES;
+        uint8_t *to = area + FIGURES_AT + (size_t)i * FIGURE_BYTES;
         memcpy(to, &backend->figures[i].tag, sizeof backend->figures[i].tag);
         memcpy(to + sizeof backend->figures[i].tag, &backend->figures[i].value,
                sizeof backend->figures[i].value);
@@ -61,8 +61,9 @@ static void put_figures(const struct backend *backend, uint8_t area[AREA_END])
 /* The area, after the driver's configuration. */
 static void put_area(const struct backend *backend, uint8_t area[AREA_END])
 {
+    static const uint8_t name[] = {'V', 'B', 'C', 'A'};
     const VbDevice *device = &backend->balloon.state.device;
-    memcpy(area + NAME_AT, "VBCA", 4);
+    memcpy(area + NAME_AT, name, sizeof name);
     put_u32(area, VERSION_AT, AREA_VERSION);
     put_u32(area, TARGET_AT, device->target);
     put_u32(area, BALLOONED_AT, backend->told.goes_on ? backend->told.actual : device->actual);
