@@ -25,20 +25,23 @@ def read(path):
         return file.read()
 
 
+def said_by_make(command):
+    """Returns the lines that a command says with the words of monitor's Makefile."""
+    words = ["make", "-s", "-C", MONITOR, "--eval", f"say: ; @{command}", "say"]
+    return subprocess.run(words, capture_output=True, text=True, check=True).stdout.splitlines()
+
+
 @functools.cache
 def parts():
-    """Returns the parts of each daemon, by the words of monitor's Makefile."""
-    words = [
-        "make",
-        "-s",
-        "-C",
-        MONITOR,
-        "--eval",
-        "parts: ; @$(foreach it,$(DAEMONS),echo $(it) $(PARTS_$(it));)",
-        "parts",
-    ]
-    lines = subprocess.run(words, capture_output=True, text=True, check=True).stdout.splitlines()
+    """Returns the parts of each daemon."""
+    lines = said_by_make("$(foreach it,$(DAEMONS),echo $(it) $(PARTS_$(it));)")
     return {name: [f"{BACKENDS}{it}.c" for it in its] for name, *its in map(str.split, lines)}
+
+
+@functools.cache
+def flags():
+    """Returns what a part is compiled with, in monitor's folder."""
+    return said_by_make("echo $(CFLAGS) $(LINUX)")[0].split()
 
 
 def shipped():

@@ -1,12 +1,14 @@
 """What tools/plant-c plants into small files, which tests it runs over each file, and what it says
 of what comes of an edit."""
 
+import os
 import random
 import subprocess
 
 import pytest
+from linux_packages import Fault
 from page_claims import tool
-from seen_by import commands_of, shipped, suites_of
+from seen_by import commands_of, parts, shipped, suites_of
 from waiting import eventually
 from wrong_bodies import drawn, edits_of
 
@@ -175,6 +177,19 @@ def test_what_comes_of_an_edit(tree, tmp_path_factory, old, new, outcome):
     edit = edits_of("monitor/add.c", ADD)[0]._replace(begin=begin, end=begin + len(old), new=new)
     assert PLANT.Tree(str(folder)).judged(edit) == outcome
     assert tree.read_text() == (folder / "monitor/add.c").read_text() == ADD
+
+
+def test_a_file_that_is_wrong_already(tree, monkeypatch):
+    tree.write_text(ADD.replace("int sum", "sum"))
+    monkeypatch.setattr(PLANT, "core_of", lambda: None)
+    with pytest.raises(Fault, match="monitor/add.c isn't compiled as it is"):
+        PLANT.main(["--count", "1", "--jobs", "2"])
+
+
+def test_a_part_of_each_folder_is_compiled(tmp_path):
+    its, copy = sorted({it for each in parts().values() for it in each}), PLANT.Tree(str(tmp_path))
+    for path in {os.path.dirname(it): it for it in its}.values():
+        assert copy.object_of(path) is not None, path
 
 
 def runs(process):
