@@ -14,8 +14,9 @@ PAGES_PER_KIB = 4
 
 # What a lender and a process say to each other (monitor/backends/channel/message.h), which stays
 # from version to version.
-VERSION, ORDER_LOOK, ORDER_TARGET, ORDER_GRANT, ORDER_LEAVE = 1, 1, 3, 7, 8
+VERSION, ORDER_LOOK, ORDER_REMIND, ORDER_TARGET, ORDER_GRANT, ORDER_LEAVE = 1, 1, 2, 3, 7, 8
 TELL_REPORT, TELL_REFUSED, TELL_REMARK, TELL_GONE, WAIT_ROOM, WAIT_RESET = 9, 10, 11, 12, 1, 2
+HAS_STARTED_SMALL = 3
 COUNTERS, FIGURES, WORDS = 19, 16, 256
 MIGRATION_AT = 32  # among the words of a report, after its process's version
 NUMBERS = (
@@ -68,6 +69,11 @@ class Message(ctypes.Structure):
     @outside.setter
     def outside(self, pages):
         self.least = pages
+
+    @property
+    def asks(self):
+        """Whether an order to look is to ask for statistics: in place of a report's `obeyed`."""
+        return self.obeyed
 
     @property
     def migration(self):
@@ -159,21 +165,24 @@ class Played(threading.Thread):
         self.channel.send(bytes(Message(version=VERSION, kind=kind, words=words)))
 
     def run(self):
-        """Notes what it is told, and answers each look by a report."""
+        """Obeys until it ends."""
         try:
             while got := self.channel.recv(ctypes.sizeof(Message)):
-                order = Message.from_buffer_copy(got)
-                if order.kind == ORDER_LOOK:
-                    self.report(order.number)
-                if order.kind == ORDER_TARGET:
-                    self.targets.append(order.target)
-                if order.kind == ORDER_TARGET and self.hears:
-                    self.report(target=order.target)
-                if order.kind == ORDER_GRANT:
-                    self.granted = order.wait
-                self.told_to_leave += order.kind == ORDER_LEAVE
+                self.obey(Message.from_buffer_copy(got))
         except OSError:
             pass
+
+    def obey(self, order):
+        """Notes what it is told, and answers each look by a report."""
+        if order.kind == ORDER_LOOK:
+            self.report(order.number)
+        if order.kind == ORDER_TARGET:
+            self.targets.append(order.target)
+        if order.kind == ORDER_TARGET and self.hears:
+            self.report(target=order.target)
+        if order.kind == ORDER_GRANT:
+            self.granted = order.wait
+        self.told_to_leave += order.kind == ORDER_LEAVE
 
     def deflates(self, pages):
         """Holds a deflate."""

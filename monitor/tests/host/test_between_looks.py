@@ -3,8 +3,18 @@
 import time
 
 import pytest
-from kept import Kept
-from played import ORDER_GRANT, ORDER_LOOK, TELL_REPORT, VERSION, Message, Played
+from kept import Kept, structs
+from played import (
+    HAS_STARTED_SMALL,
+    ORDER_GRANT,
+    ORDER_LOOK,
+    ORDER_REMIND,
+    ORDER_TARGET,
+    TELL_REPORT,
+    VERSION,
+    Message,
+    Played,
+)
 from tenants import FREE, eventually, process_of
 from test_channels import channel
 from test_strict import GIVEN, STRICT, used
@@ -17,6 +27,14 @@ TRIES, HEARD = 3, 0.5
 
 # Seconds between two reports that nobody asked for, and how many pages are given one by one.
 NEWS_EVERY, LAST = 0.01, 100
+
+# A host that looks at its guests twice a second; after how many questions that it leaves unanswered
+# a guest is silent; and the counters of a guest's process.
+TWICE, SILENT_AFTER = (*SELDOM[:-1], "500"), 3
+COUNTED = [it for _, it in structs()["counters"]]
+
+# What guests report that are asked for nothing: the first one that it is on its target.
+OFF = ({}, {"target": 1}, {"actual": 1}, {"ballooned": 1}, {"holds": HAS_STARTED_SMALL})
 
 
 def has_target(lender, name, pages):
@@ -222,3 +240,61 @@ def test_an_overdraft_is_lent_once_nothing_has_moved_for_a_second(lend, come):
     used(guest, DEFLATE, 1)
     assert time.monotonic() - begin >= 1
     assert not [it for it in lender.said() if "has waited" in it]
+
+
+class Unanswering(Played):
+    """A guest that answers the first question for its statistics: how many there were since, and
+    after how many of them it was to be reminded of its target."""
+
+    questions, reminded = -1, ()
+
+    def obey(self, order):
+        if order.kind == ORDER_REMIND and self.questions >= 0:
+            self.reminded += (self.questions,)
+        super().obey(order)
+        if order.kind == ORDER_LOOK and order.asks:
+            self.questions += 1
+            self.report(counters=tuple(it == "statistics" for it in COUNTED))
+
+
+def test_who_is_off_its_target_is_reminded_until_it_is_silent(lend):
+    for _ in range(TRIES):
+        lender = lend(1, *TWICE)
+        guests = [Unanswering(lender, it, pages=10, **its) for it, its in zip("abcde", OFF)]
+        eventually(lambda its=guests: all(it.questions >= SILENT_AFTER + 2 for it in its))
+        for it in guests:
+            it.leave()
+        after = [set(it.reminded) - {0} for it in guests]
+        if after == [set()] + [set(range(1, SILENT_AFTER + 1))] * (len(OFF) - 1):
+            return
+        lender.close()
+    raise AssertionError(f"after how many questions each is reminded: {after}")
+
+
+def test_a_driver_is_told_its_target_again_where_its_balloon_stays(unasked):
+    """It may have missed it: but not while its balloon moves, or where that is at its target."""
+    guest, it = unasked
+    order = lambda kind, **its: it.send(bytes(Message(version=VERSION, kind=kind, **its)))
+
+    def told():
+        order(ORDER_LOOK, number=(number := next(numbers)))
+        its, _ = report_that(it, lambda its: its.number == number)
+        return its.counters[COUNTED.index("told")]
+
+    def reminded():
+        before = told()
+        order(ORDER_REMIND)
+        return told() - before
+
+    numbers = iter(range(1, LAST))
+    guest.give(GIVEN[:5])
+    used(guest, INFLATE, 1)
+    before = told()
+    order(ORDER_TARGET, target=20)
+    assert told() == before + 1
+    assert [reminded() for _ in range(2)] == [1, 1]
+    for count, pages in enumerate((GIVEN[5:10], GIVEN[10:15], GIVEN[15:20])):
+        guest.give(pages)
+        used(guest, INFLATE, count + 2)
+        assert reminded() == 0
+        assert reminded() == (count < 2)
