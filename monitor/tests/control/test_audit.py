@@ -13,7 +13,8 @@ from installed import bigvasta
 from test_config import TAKEN
 from waiting import eventually, patience_from_now
 
-MIB = 1 << 20
+# Changes that a host keeps.
+MIB, MOST_NOTES = 1 << 20, 256
 
 
 def notes(host, since=0):
@@ -168,7 +169,7 @@ def test_the_last_ones_are_kept(host):
     answer = host.ask("changes", since=3)
     first = answer["changes"][0]["change"]
     assert (answer["lost"], len(answer["changes"]), answer["next"]) == (first - 3, 16, first + 16)
-    assert first == 300 + 1 - 256 or first == 300 - 256
+    assert first == 300 + 1 - MOST_NOTES or first == 300 - MOST_NOTES
     assert host.ask("changes", since=10**6)["changes"] == []
 
 
@@ -186,6 +187,35 @@ def test_a_follower_hears_of_a_change_once(host):
         host.ask("add", name="a")
         event = next(one for one in events if one["event"] == "changed")
         assert (event["guest"], event["key"]) == ("a", "added")
+
+
+def test_a_follower_hears_of_the_changes_that_are_kept(program, folder):
+    """A file changes more at once than is kept."""
+    file, names = folder / "host.conf", [f"g{it}" for it in range(MOST_NOTES // 5 + 1)]
+    head = f"[host]\nfolder = {folder}\nbudget = 480M\n"
+    file.write_text(head)
+    host = Host(program, folder, "--config", str(file))
+    host.lines.next(patience_from_now())
+    with Connection(host.control) as it:
+        events = it.follow()
+        guests = "".join(
+            f"[guest {it}]\nleast = 1M\nmost = 2M\nweight = 3\npriority = 4\n" for it in names
+        )
+        file.write_text(head + guests)
+        host.ask("reload")
+        changes = (one for one in events if one["event"] == "changed")
+        heard = [next(changes) for _ in range(MOST_NOTES)]
+    first = 5 * len(names) - MOST_NOTES
+    assert [it["change"] for it in heard] == list(range(first, first + MOST_NOTES))
+    kept, since = [], first
+    while since < first + MOST_NOTES:
+        answer = host.ask("changes", since=since)
+        kept, since = kept + answer["changes"], answer["next"]
+    fields = ("change", "guest", "key", "was", "is")
+    assert [[it[name] for name in fields] for it in heard] == [
+        [it[name] for name in fields] for it in kept
+    ]
+    assert host.end() == 0
 
 
 def log(host, *words):
