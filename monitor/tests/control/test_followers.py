@@ -11,6 +11,9 @@ from hosts import Raw, say
 from test_control import MIB, PAGE
 from waiting import PATIENCE, eventually
 
+# Decisions that a host keeps.
+MOST_DECISIONS = 512
+
 
 def test_decisions_by_their_numbers(host, arrive):
     arrive("a"), arrive("b")
@@ -53,8 +56,23 @@ def test_decisions_that_are_lost_are_counted(host):
         and host.status()["counters"]["decisions"]
     )
     log = host.ask("log", since=3, limit=2)
-    assert log["lost"] == decisions - 512 - 3
-    assert [it["number"] for it in log["decisions"]] == [decisions - 512, decisions - 511]
+    first = decisions - MOST_DECISIONS
+    assert log["lost"] == first - 3
+    assert [it["number"] for it in log["decisions"]] == [first, first + 1]
+
+
+def test_a_follower_hears_of_the_decisions_that_are_kept(host):
+    """More is decided at once than is kept."""
+    with Connection(host.control) as it:
+        events, count = it.follow(), host.status()["counters"]["decisions"] + 4 * MOST_DECISIONS
+        lines = "".join(f"floor {number % 2}\n" for number in range(4 * MOST_DECISIONS))
+        host.process.stdin.write(lines.encode()), host.process.stdin.flush()
+        eventually(lambda: host.status()["counters"]["decisions"] >= count)
+        decided = (one["decision"]["number"] for one in events if one["event"] == "decision")
+        heard = [next(decided)]
+        while heard[-1] < count - 1:
+            heard.append(next(decided))
+    assert heard == sorted(set(heard)) and len(heard) < count
 
 
 class Follower(threading.Thread):
