@@ -130,9 +130,23 @@ def test_what_the_page_of_the_configuration_shows(program, folder):
     assert host.end() == 0
 
 
+def subcommands():
+    """Returns what has the subcommands in the program's parser."""
+    return next(it for it in parser()._actions if it.dest == "==SUPPRESS==" or it.choices)
+
+
 def commands():
     """Returns the subcommands' parsers by their names."""
-    return next(it.choices for it in parser()._actions if it.dest == "==SUPPRESS==" or it.choices)
+    return subcommands().choices
+
+
+def test_each_command_has_some_words_in_the_list_and_sentences_of_its_own():
+    listed = {it.dest: it.help for it in subcommands()._choices_actions}
+    assert listed.keys() == commands().keys()
+    for name, command in commands().items():
+        about, said = listed[name], command.description
+        assert about[0].islower() and not about.endswith("."), about
+        assert said[0].isupper() and said.endswith("."), said
 
 
 def test_the_page_of_the_client_names_each_command_and_option():
