@@ -215,6 +215,18 @@ def test_as_many_are_tried_as_are_asked_for():
     assert [planting.next(), planting.next()] == ["b", None]
 
 
+def test_other_users_may_read_a_copy(tree, monkeypatch):
+    modes = []
+    monkeypatch.setattr(PLANT, "core_of", lambda: None)
+    monkeypatch.setattr(
+        PLANT.Planting,
+        "work",
+        lambda _, folder: modes.append(os.stat(os.path.dirname(folder)).st_mode & 0o777),
+    )
+    PLANT.main([])
+    assert modes == [0o755]
+
+
 # The last lines of a run, and the test that failed.
 SAID = (
     ("FAILED a/b.py::test_c", "a/b.py::test_c"),
