@@ -18,31 +18,46 @@ LEVELS = (
 )
 
 
+def begin(program, folder, text):
+    """Begins a host whose standard error is the journal's, by this configuration."""
+    path = folder / "log"
+    path.write_bytes(b"")
+    (folder / "host.conf").write_text(text)
+    its = os.stat(path)
+    stream = {"JOURNAL_STREAM": f"{its.st_dev}:{its.st_ino}"}
+    host = Host(program, folder, "--config", f"{folder}/host.conf", environment=stream)
+    host.lines.next(patience_from_now())
+    return host
+
+
+def break_a_rule(host):
+    """A client of guest a breaks a rule, and its service ends."""
+    with socket.socket(socket.AF_UNIX) as client:
+        client.connect(f"{host.folder}/a")
+        client.sendall(b"\xff" * 12)
+        assert client.recv(1) == b""
+    eventually(lambda: host.guest("a")["state"] == "absent")
+
+
 @pytest.mark.parametrize("level, begins", LEVELS)
 def test_levels_in_the_journal(program, folder, level, begins):
-    path, file = folder / "log", folder / "host.conf"
-    path.write_bytes(b"")
-    its = os.stat(path)
+    file = folder / "host.conf"
     good = f"[host]\nfolder = {folder}\nbudget = 480M\n[log]\nlevel = {level}\n[guest a]\n"
-    file.write_text(good)
-    host = Host(
-        program,
-        folder,
-        "--config",
-        str(file),
-        environment={"JOURNAL_STREAM": f"{its.st_dev}:{its.st_ino}"},
-    )
-    host.lines.next(patience_from_now())
+    host = begin(program, folder, good)
     file.write_text(good.replace("480M", "480"))
     host.process.send_signal(signal.SIGHUP)
     eventually(lambda: len(host.said()) == 2)
     file.write_text(good.replace("480M", "400M"))
     host.process.send_signal(signal.SIGHUP)
     eventually(lambda: host.status()["budget"] == 400 << 20)
-    with socket.socket(socket.AF_UNIX) as client:
-        client.connect(f"{folder}/a")
-        client.sendall(b"\xff" * 12)
-        assert client.recv(1) == b""
-    eventually(lambda: host.guest("a")["state"] == "absent")
+    break_a_rule(host)
     assert host.end() == 0
     assert [it[:3] for it in host.said()] == begins, host.said()
+
+
+def test_a_line_in_place_of_others_has_the_level_of_the_first(program, folder):
+    text = f"[host]\nfolder = {folder}\nbudget = 480M\n[log]\nlines = 0\n[guest a]\n"
+    host = begin(program, folder, text)
+    break_a_rule(host)
+    assert host.end() == 0
+    assert "<5>a: further lines of this second are left out" in host.said(), host.said()
