@@ -1,9 +1,14 @@
-"""A guest's process that waits for room, with a deflate in its hands that is granted meanwhile."""
+"""A guest's process that waits for room: with a deflate in its hands that is granted meanwhile, as
+it is to end, and as it is admitted."""
 
 import os
 import signal
+import struct
 
-from tenants import FREE, PAGES, PAGES_OF_ALL, eventually, process_of
+import pytest
+from played import ORDER_ADMIT, VERSION, WAIT_ROOM, Message
+from tenants import FREE, PAGES, PAGES_OF_ALL, eventually, process_of, read_target
+from test_channels import channel
 from test_strict import STRICT, Later
 from vhost_client import ADD_MEM_REG, DEFLATE, INFLATE, OFFERED, Client
 from waiting import PATIENCE
@@ -52,3 +57,26 @@ def test_a_process_that_waits_ends_by_a_signal(lend, come):
     lender.become("c", here=0)
     comes.join(PATIENCE)
     client.leave()
+
+
+@pytest.mark.parametrize("without", (1, 100))
+def test_who_is_to_start_without_some_pages_finds_its_target_as_it_begins(lend, come, without):
+    """Its driver may read that before the lender's next order has come."""
+    lender = lend(1, *STRICT)
+    come(lender, "b", {FREE: 0})
+    lender.set_budget(2 * 128 - 1)
+    client = Client(lender.add("a"))
+    client.negotiate()
+    comes = Later(client.hand_over_memory)
+    lender.become("a", waits="room")
+    lender.kill()
+    with channel() as it:
+        it.connect(f"{lender.folder}/.channels/a")
+        while (report := Message.from_buffer_copy(it.recv(1 << 16))).waits != WAIT_ROOM:
+            pass
+        its = {"wait": report.wait, "ballooned": without, "target": without}
+        it.send(bytes(Message(version=VERSION, kind=ORDER_ADMIT, **its)))
+        comes.ends()
+        assert struct.unpack_from("<I", read_target(client), 12) == (without,)
+    client.leave()
+    lend(1, *STRICT, folder=lender.folder).become("a", here=0)
