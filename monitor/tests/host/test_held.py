@@ -10,7 +10,7 @@ import time
 
 import pytest
 from host_places import ramfs
-from tenants import FREE, PAGES, eventually, process_of
+from tenants import FREE, PAGES, PAGES_OF_ALL, eventually, process_of
 from test_strict import GIVEN, STRICT, Later, used
 from vhost_client import DEFLATE, INFLATE, PAGE, PAGES_OF_REGION, REGIONS, SET_MEM_TABLE, Client
 
@@ -254,6 +254,26 @@ def test_a_slot_that_comes_back_with_holes_waits_for_these(full, come):
     lender.set_budget(2 * ALL)
     comes.ends()
     lender.become("a", pages=ALL, lent=ALL, cooperates=1)
+
+
+@pytest.mark.parametrize("given", (5, 15))
+def test_no_more_is_lent_of_a_removed_slot_than_it_has_held(lend, come, given):
+    """The file has other pages in no slot, which the guest may hold beside its memory; and of the
+    slot some were in its balloon, besides five others. A later lender believes no more."""
+    lender, pages = lend(1, *STRICT), ALL - given
+    a = come(lender, "a", {FREE: 100}, f"overhead={4 * OUTSIDE}K", client=OneFile)
+    os.posix_fallocate(a.client.files[0], ALL * PAGE, OUTSIDE * PAGE)
+    lender.set_budget(pages)
+    lender.become("a", asked=given)
+    a.give([*range(PAGES_OF_ALL + 20, PAGES_OF_ALL + 25), *range(PAGES, PAGES + given - 5)])
+    lender.become("a", pages=ALL, lent=pages, held_kib=4 * (pages + OUTSIDE))
+    remove_slot(a)
+    lender.become("a", pages=PAGES_OF_REGION, lent=pages)
+    lender = next_lender(lender, lend)
+    lender.set_budget(pages)
+    lender.become("a", ready=1, pages=PAGES_OF_REGION, held_kib=4 * (pages + OUTSIDE))
+    time.sleep(LOOKED)
+    lender.become("a", lent=pages, cooperates=1)
 
 
 @pytest.mark.parametrize("changes", (next_process, next_lender))
