@@ -41,6 +41,14 @@ def test_what_a_guest_can_spare_goes_by_available_memory(lend, come, figures, sp
     lender.become("a", spare=spare)
 
 
+def test_a_statistic_that_is_told_no_longer_does_not_count(lend, come):
+    lender = lend(1, *QUICK)
+    guest = come(lender, "a", {FREE: 0})
+    for figures, spare in FIGURES:
+        guest.figures = figures
+        lender.become("a", spare=spare)
+
+
 def test_who_is_asked_for_more_than_it_can_spare_is_named(lend, come):
     """Not who is asked for all that it can: both have given that, and `b` takes ten of it back."""
     lender = lend(1, *QUICK)
