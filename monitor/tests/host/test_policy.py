@@ -47,6 +47,10 @@ def test_a_statistic_that_is_told_no_longer_does_not_count(lend, come):
     for figures, spare in FIGURES:
         guest.figures = figures
         lender.become("a", spare=spare)
+    lender.set_budget(78)
+    for figures, tier in (({FREE: 10, AVAILABLE: 100}, "cache"), ({AVAILABLE: 100}, "unused")):
+        guest.figures = figures
+        eventually(lambda wanted=tier: lender.status()["host"]["tier"] == wanted)
 
 
 def test_who_is_asked_for_more_than_it_can_spare_is_named(lend, come):
