@@ -77,7 +77,11 @@ def test_an_option_that_cannot_be_is_named(plain, tmp_path, words, why):
 def test_a_term_that_is_said_twice_is_named(lend, twice):
     lender = lend(1, *STRICT)
     lender.demand("add a")
-    terms = f"{twice}=1 strict=1 {twice}=1"
+    terms = f"{twice}=1 strict=1 {twice}=2"
     assert lender.ask(f"add b {terms}") == f"error: b {terms}: {twice}= is said twice"
     assert lender.ask(f"terms a {terms}") == f"error: {twice}= is said twice"
+    # Nor is another word it, which is none, whatever it has of its letters.
+    for other in (f"{twice[:-1]}_", f"{twice}_", f"_{twice}", twice[:-1]):
+        said = lender.ask(f"terms a {other}=1 {twice}=1")
+        assert said.startswith("error: a name, and of "), (other, said)
     assert set(lender.guests()) == {"a"}
