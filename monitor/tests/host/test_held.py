@@ -124,11 +124,13 @@ class OneFile(Client):
         self.replace(1, os.dup(self.files[0]))
         super().start(*how)
 
-    def hand_over_memory(self, count=2):
-        size, table = PAGES_OF_REGION * PAGE, struct.pack("<II", count, 0)
-        for number, (guest, user) in enumerate(REGIONS[:count]):
-            table += struct.pack("<QQQQ", guest, size, user, number * size)
-        self.accepted(SET_MEM_TABLE, table, self.files[:count])
+    def hand_over_memory(self, *pages):
+        """Hands over slots with these numbers of pages; both whole without them."""
+        pages, size = pages or (PAGES_OF_REGION,) * 2, PAGES_OF_REGION * PAGE
+        table = struct.pack("<II", len(pages), 0)
+        for number, (its, (guest, user)) in enumerate(zip(pages, REGIONS)):
+            table += struct.pack("<QQQQ", guest, its * PAGE, user, number * size)
+        self.accepted(SET_MEM_TABLE, table, self.files[: len(pages)])
 
 
 def named(lender, pages):
@@ -137,10 +139,10 @@ def named(lender, pages):
     eventually(lambda: words in lender.said(), lender.said)
 
 
-def discard_outside(file):
-    """Gives up what a file holds after its first slot."""
-    size = ctypes.c_long(PAGES_OF_REGION * PAGE)
-    assert ctypes.CDLL(None).fallocate(file, PUNCHES_HOLE, size, size) == 0
+def discard_outside(file, pages=PAGES_OF_REGION):
+    """Gives up these pages of what a file holds after its first slot."""
+    place = (ctypes.c_long(it * PAGE) for it in (PAGES_OF_REGION, pages))
+    assert ctypes.CDLL(None).fallocate(file, PUNCHES_HOLE, *place) == 0
 
 
 @pytest.mark.parametrize("overhead", (0, 4, OUTSIDE - 1))
@@ -191,15 +193,15 @@ def test_a_slot_of_a_disk_that_was_removed_holds_no_memory(lend, come, disk):
     lender.become("a", pages=PAGES_OF_REGION, lent=PAGES_OF_REGION, cooperates=1)
 
 
-def hand_over(a, slots):
-    """Has a guest have this many slots of its file."""
+def hand_over(a, *pages):
+    """Has a guest have slots of its file with these numbers of pages."""
     with a.lock:
-        a.client.hand_over_memory(slots)
+        a.client.hand_over_memory(*pages)
 
 
 def remove_slot(a):
     """Takes the second of two slots of one file away from a guest."""
-    hand_over(a, 1)
+    hand_over(a, PAGES_OF_REGION)
 
 
 def test_a_guest_that_holds_pages_in_a_removed_slot_is_lent_them(lend, come):
@@ -235,25 +237,30 @@ def full(lend, come):
 
 def test_a_slot_that_comes_back_is_lent_already(full):
     lender, a = full
-    hand_over(a, 2)
+    hand_over(a)
     lender.become("a", pages=ALL, lent=ALL, cooperates=1, waits="nothing")
     time.sleep(LOOKED)
     lender.become("a", pages=ALL, lent=ALL, cooperates=1)
 
 
-def test_a_slot_that_comes_back_with_holes_waits_for_these(full, come):
+# Pages of a slot that comes back, of which the first ones are holes.
+COMES_BACK = ((PAGES_OF_REGION, 10), (PAGES_OF_REGION, PAGES_OF_REGION), (32, 32), (32, 20))
+
+
+@pytest.mark.parametrize("pages, holes", COMES_BACK)
+def test_a_slot_that_comes_back_with_holes_waits_for_these(full, come, pages, holes):
+    """What is outside of it stays lent."""
     lender, a = full
-    size = ctypes.c_long((PAGES_OF_REGION + 10) * PAGE), ctypes.c_long(10 * PAGE)
-    assert ctypes.CDLL(None).fallocate(a.client.files[0], PUNCHES_HOLE, *size) == 0
-    lender.become("a", lent=ALL - 10)
+    discard_outside(a.client.files[0], holes)
+    lender.become("a", lent=ALL - holes)
     lender.set_budget(2 * ALL - 1)
     come(lender, "b", {FREE: 0})
-    comes = Later(lambda: hand_over(a, 2))
-    lender.become("a", waits="room", pages=ALL - 10, lent=ALL - 10)
+    comes = Later(lambda: hand_over(a, PAGES_OF_REGION, pages))
+    lender.become("a", waits="room", lent=ALL - holes)
     assert comes.waits(LOOKED)
     lender.set_budget(2 * ALL)
     comes.ends()
-    lender.become("a", pages=ALL, lent=ALL, cooperates=1)
+    lender.become("a", pages=PAGES_OF_REGION + pages, lent=ALL, cooperates=1)
 
 
 @pytest.mark.parametrize("given", (5, 15))
