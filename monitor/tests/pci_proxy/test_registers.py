@@ -132,16 +132,32 @@ def test_a_reset_clears(client):
     assert [queue(client, it) for it in range(4)] == [UNPLACED] * 4
 
 
+def fill(client, number, size):
+    """Makes a queue's ring full of requests, and doesn't kick it."""
+    table = b"".join(struct.pack("<QIHH", BUFFERS, 4, 0, 0) for _ in range(size))
+    os.pwrite(client.memory, table, 3 * number * PAGE)
+    os.pwrite(client.memory, struct.pack("<I", 20), BUFFERS)
+    ring = struct.pack(f"<HH{size}H", 1, size, *range(size))
+    os.pwrite(client.memory, ring, (3 * number + 1) * PAGE)
+
+
+@pytest.mark.parametrize("number", (0, 1))
+def test_what_is_posted_before_a_driver_is_ready_is_served_without_a_kick(client, number):
+    size = 256
+    client.negotiate()
+    for it in (0, 1):
+        client.place(it, size)
+    fill(client, number, size)
+    client.write(STATUS, 15, 1)
+    eventually(lambda: client.backend.counters()["chains"] == size, "some aren't served")
+
+
 def test_a_reset_ends_what_is_left(client):
     size = 256
     client.negotiate()
     client.place(0, size)
     client.write(STATUS, 15, 1)
-    os.pwrite(
-        client.memory, b"".join(struct.pack("<QIHH", BUFFERS, 4, 0, 0) for _ in range(size)), 0
-    )
-    os.pwrite(client.memory, struct.pack("<I", 20), BUFFERS)
-    os.pwrite(client.memory, struct.pack(f"<HH{size}H", 1, size, *range(size)), PAGE)
+    fill(client, 0, size)
     process = client.backend.process.pid
     os.kill(process, signal.SIGSTOP)  # so that the reset follows the kick at once
     for at in (NOTIFY, STATUS):
