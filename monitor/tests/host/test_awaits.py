@@ -6,9 +6,11 @@ import signal
 import struct
 
 import pytest
-from played import ORDER_ADMIT, VERSION, WAIT_ROOM, Message
+from played import ORDER_ADMIT, ORDER_TARGET, WAIT_RESET, WAIT_ROOM
 from tenants import FREE, PAGES, PAGES_OF_ALL, eventually, process_of, read_target
+from test_between_looks import report_that
 from test_channels import channel
+from test_reports import order, reported
 from test_strict import STRICT, Later
 from vhost_client import ADD_MEM_REG, DEFLATE, INFLATE, OFFERED, Client
 from waiting import PATIENCE
@@ -59,9 +61,10 @@ def test_a_process_that_waits_ends_by_a_signal(lend, come):
     client.leave()
 
 
-@pytest.mark.parametrize("without", (1, 100))
-def test_who_is_to_start_without_some_pages_finds_its_target_as_it_begins(lend, come, without):
-    """Its driver may read that before the lender's next order has come."""
+@pytest.fixture
+def begins(lend, come):
+    """Returns a client whose process is admitted without some pages, and the channel of the lender
+    that has done so, which says nothing by itself."""
     lender = lend(1, *STRICT)
     come(lender, "b", {FREE: 0})
     lender.set_budget(2 * 128 - 1)
@@ -72,11 +75,39 @@ def test_who_is_to_start_without_some_pages_finds_its_target_as_it_begins(lend, 
     lender.kill()
     with channel() as it:
         it.connect(f"{lender.folder}/.channels/a")
-        while (report := Message.from_buffer_copy(it.recv(1 << 16))).waits != WAIT_ROOM:
-            pass
-        its = {"wait": report.wait, "ballooned": without, "target": without}
-        it.send(bytes(Message(version=VERSION, kind=ORDER_ADMIT, **its)))
-        comes.ends()
-        assert struct.unpack_from("<I", read_target(client), 12) == (without,)
+
+        def admit(without):
+            report, _ = report_that(it, lambda its: its.waits == WAIT_ROOM)
+            order(it, ORDER_ADMIT, wait=report.wait, ballooned=without, target=without)
+            comes.ends()
+            return client, it
+
+        yield admit
     client.leave()
     lend(1, *STRICT, folder=lender.folder).become("a", here=0)
+
+
+@pytest.mark.parametrize("without", (1, 100))
+def test_who_is_to_start_without_some_pages_finds_its_target_as_it_begins(begins, without):
+    """Its driver may read that before the lender's next order has come."""
+    client, _ = begins(without)
+    assert struct.unpack_from("<I", read_target(client), 12) == (without,)
+
+
+def test_who_begins_anew_asks_no_longer_for_what_it_asked_for_before(begins):
+    """It was to have 50 in its balloon of the 100 that it started without."""
+    client, it = begins(100)
+    for number in range(4):
+        client.place(number), client.enable(number)
+    client.post_pages(INFLATE, GIVEN)
+    order(it, ORDER_TARGET, target=50)
+    report_that(it, lambda its: its.held_pages == 50)
+    for number in range(4):
+        client.enable(number, 0)
+    for number in range(4):
+        client.place(number)
+    anew = Later(lambda: [client.enable(number) for number in range(4)])
+    report, _ = report_that(it, lambda its: its.waits == WAIT_RESET)
+    order(it, ORDER_ADMIT, wait=report.wait, ballooned=100, target=100)
+    anew.ends()
+    assert (its := reported(it)).held_pages == 0 and its.ballooned == 100
