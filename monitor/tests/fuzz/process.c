@@ -97,9 +97,13 @@ void process_obeys(struct process *process)
     process->order_count = 0;
 }
 
+/* Its channel can't be read then. */
 void process_goes(struct process *process)
 {
+    struct lending_message none;
+    bool ended = false;
     if (process->channel >= 0)
         close(process->channel);
     process->channel = -1;
+    demand(lending_read(process->channel, &none, 1, &ended) == 0 && ended);
 }
