@@ -68,6 +68,15 @@ def test_statuses_of_many_guests_leave_turns_short(many):
             assert status["host"]["floor"] == floor * PAGE and len(names_in(status)) == GUESTS
 
 
+def test_who_sends_no_more_is_told_the_whole(many):
+    client = Asks(many, ".status")
+    with stands_still(many):
+        client.own.send(asks(b"status") * 2)
+        client.own.shutdown(socket.SHUT_WR)
+    assert [len(names_in(client.read())) for _ in range(2)] == [GUESTS] * 2
+    assert client.lines.read() == b""
+
+
 def test_a_guest_that_goes_meanwhile_is_in_the_whole_status(many):
     client = Asks(many, ".status")
     with stands_still(many):
