@@ -14,6 +14,7 @@
 #include <stddef.h>
 #include <sys/mman.h>
 #include <sys/socket.h>
+#include <sys/stat.h>
 #include <sys/un.h>
 #include <unistd.h>
 
@@ -186,6 +187,13 @@ static void reads(void)
     kept->unnoted = came;
 }
 
+/* Whether a region's file still has this byte: its client may have cut it off. */
+static bool file_has(const struct balloon_region *region, uint64_t at)
+{
+    struct stat its;
+    return fstat(region->fd, &its) == 0 && region->offset + at < (uint64_t)its.st_size;
+}
+
 /* The guest changes a used index, which isn't the driver's. */
 static void changes_used(const struct guest_memory *memory, const struct ring *ring)
 {
@@ -195,7 +203,7 @@ static void changes_used(const struct guest_memory *memory, const struct ring *r
         return;
     for (unsigned i = 0; i < memory->count; i++) {
         uint64_t at = used - memory->regions[i].guest + RING_INDEX_AT + 1;
-        if (at < memory->regions[i].length)
+        if (at < memory->regions[i].length && file_has(&memory->regions[i], at))
             memory->regions[i].host[at] ^= (uint8_t)jump;
     }
 }
