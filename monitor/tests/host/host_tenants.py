@@ -259,27 +259,27 @@ def break_a_rule(town, path):
 
 def lines_of_a_client(town):
     """Who comes again and again, and breaks a rule each time, has five lines a second of the clock,
-    and one that says that there are more."""
+    and its processes five of what they say; and one each that says that there are more."""
     path, before = town.host.add("c"), os.path.getsize(town.host.log)
     time.sleep(1 - time.monotonic() % 1)
     begin = time.monotonic()
-    for _ in range(3):
+    for _ in range(6):
         break_a_rule(town, path)
-    eventually(lambda: len(said_since(town, before)) > 5, "three clients have less than six lines")
+    eventually(lambda: len(said_since(town, before)) > 11, "six clients have less than 12 lines")
     in_one_second = int(time.monotonic()) == int(begin)
-    for _ in range(37):
+    for _ in range(34):
         break_a_rule(town, path)
     seconds, said = int(time.monotonic() - begin) + 2, said_since(town, before)
     first, more = [
         "refused c: message 99 is unknown",
         "gone c",
     ], "c: further lines of this second are left out"
-    # On a busy machine three clients may take longer than a second.
+    # On a busy machine six clients may take longer than a second.
     demand(
-        not in_one_second or said[:6] == [*first, *first, first[0], more],
-        f"three clients in a second: {said[:7]}",
+        not in_one_second or said[:12] == [*first * 5, more, more],
+        f"six clients in a second: {said[:13]}",
     )
-    demand(len(said) <= 6 * seconds, f"{len(said)} lines in {seconds} seconds")
+    demand(len(said) <= 12 * seconds, f"{len(said)} lines in {seconds} seconds")
     time.sleep(1), break_a_rule(town, path)
     eventually(
         lambda: said_since(town, before)[-2:] == first, "the next second's first lines aren't said"
