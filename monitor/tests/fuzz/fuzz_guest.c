@@ -228,6 +228,9 @@ static int another_goes_on(void)
     return process_begins();
 }
 
+/* The words that the set of pages has had at most. */
+static size_t most_words;
+
 static int comes(unsigned kind)
 {
     int ends[2];
@@ -261,7 +264,7 @@ static int comes(unsigned kind)
 static void goes(void)
 {
     files_put_off(false);
-    memset(kept->set, 0, fuzzed.backend.balloon.ballooned_words * sizeof *kept->set);
+    memset(kept->set, 0, most_words * sizeof *kept->set);
     if (fuzzed.backend.balloon.deflating)
         memset(fuzzed.backend.balloon.deflating, 0,
                fuzzed.backend.balloon.ballooned_words * sizeof *kept->set);
@@ -296,6 +299,13 @@ static void listen_once(void)
     demand(loop_add(&turns, (struct loop_part){&fuzzed, waits, turn}));
 }
 
+/* What a region that was removed had in the set is cleared at the end, too. */
+static void see_words(void)
+{
+    size_t words = fuzzed.backend.balloon.ballooned_words;
+    most_words = words > most_words ? words : most_words;
+}
+
 /* The life of a client of a host. */
 static void lives(unsigned kind)
 {
@@ -303,6 +313,7 @@ static void lives(unsigned kind)
     while (served > 0 && script_goes_on()) {
         act();
         served = setjmp(ended) == 0 ? guard(loop_turn, &turns) : 1;
+        see_words();
         if (served >= 0) /* else it is amid a request, and ends */
             check_set(&fuzzed.backend);
         if ((served > 0 && ends) || (served == 0 && fuzzed.ends_anew))
