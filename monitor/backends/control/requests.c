@@ -41,7 +41,7 @@ json_t *request_refusal(const char *code, const char *field, const char *format,
 static json_t *status(const struct asked *asked)
 {
     struct control_client *client = asked->client;
-    client->asks_again = !status_is_made(asked->control, asked->host, client->asks_again);
+    client->asks_again = !status_ask(asked->control, asked->host, client->asks_again);
     client->rest = client->asks_again ? NULL : asked->control->status.text;
     return client->rest ? json_pack("{s:b}", "ok", 1) : NULL;
 }

@@ -124,7 +124,7 @@ void status_go_on(struct made_status *status)
     status->text = take_text(parts);
 }
 
-bool status_is_made(struct control *control, const struct host *host, bool waited)
+bool status_ask(struct control *control, const struct host *host, bool waited)
 {
     struct made_status *status = &control->status;
     double begun = loop_processor_seconds();

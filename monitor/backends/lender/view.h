@@ -64,8 +64,11 @@ struct guest_terms {
                        it may have */
 };
 
-/* The overhead of a guest of whom nothing was said; and bytes of a socket's path, with its end. */
-enum { USUAL_OVERHEAD = 64 * 256, MOST_PATH = 108 };
+/* The overhead of a guest of whom nothing was said. */
+enum { USUAL_OVERHEAD = 64 * 256 };
+
+/* Bytes of a socket's path, with its end. */
+enum { MOST_PATH = 108 };
 
 /* One guest. Pages are of 4096 bytes; seconds have fractions, and are 0 where there is nothing to
  * count. */

@@ -228,13 +228,13 @@ static int another_goes_on(void)
     return process_begins();
 }
 
-/* The words that the set of pages has had at most. */
-static size_t most_words;
+/* The words that the set of pages had after the last turn, and at most. */
+static size_t words_before, most_words;
 
 static int comes(unsigned kind)
 {
     int ends[2];
-    plans_clear();
+    plans_clear(), words_before = most_words = 0;
     is_other = false;
     process_is_shut = true;
     options = (struct options){.client = "fuzzed",
@@ -299,10 +299,13 @@ static void listen_once(void)
     demand(loop_add(&turns, (struct loop_part){&fuzzed, waits, turn}));
 }
 
-/* What a region that was removed had in the set is cleared at the end, too. */
-static void see_words(void)
+/* The words that the set loses are zeros (marks.c), unless it ends amid a request. */
+static void check_words(bool ends_amid)
 {
     size_t words = fuzzed.backend.balloon.ballooned_words;
+    for (size_t word = words; word < words_before && !ends_amid; word++)
+        demand(kept->set[word] == 0);
+    words_before = words;
     most_words = words > most_words ? words : most_words;
 }
 
@@ -313,7 +316,7 @@ static void lives(unsigned kind)
     while (served > 0 && script_goes_on()) {
         act();
         served = setjmp(ended) == 0 ? guard(loop_turn, &turns) : 1;
-        see_words();
+        check_words(served < 0);
         if (served >= 0) /* else it is amid a request, and ends */
             check_set(&fuzzed.backend);
         if ((served > 0 && ends) || (served == 0 && fuzzed.ends_anew))

@@ -47,24 +47,9 @@ def test_a_client_that_cannot_be_told_is_not_served_on_while_it_waits(lend, come
     client.leave()
 
 
-def test_a_process_that_waits_ends_by_a_signal(lend, come):
-    lender = lend(1, *STRICT)
-    come(lender, "b", {FREE: 0})
-    lender.set_budget(2 * 128 - 1)
-    client = Client(lender.add("c"))
-    client.negotiate()
-    comes = Later(client.hand_over_memory)
-    lender.become("c", waits="room")
-    os.kill(process_of(lender, "c"), signal.SIGTERM)
-    lender.become("c", here=0)
-    comes.join(PATIENCE)
-    client.leave()
-
-
 @pytest.fixture
-def begins(lend, come):
-    """Returns a client whose process is admitted without some pages, and the channel of the lender
-    that has done so, which says nothing by itself."""
+def waiting(lend, come):
+    """Returns a lender, a client `a` that waits for room, and its message that does."""
     lender = lend(1, *STRICT)
     come(lender, "b", {FREE: 0})
     lender.set_budget(2 * 128 - 1)
@@ -72,6 +57,22 @@ def begins(lend, come):
     client.negotiate()
     comes = Later(client.hand_over_memory)
     lender.become("a", waits="room")
+    return lender, client, comes
+
+
+def test_a_process_that_waits_ends_by_a_signal(waiting):
+    lender, client, comes = waiting
+    os.kill(process_of(lender, "a"), signal.SIGTERM)
+    lender.become("a", here=0)
+    comes.join(PATIENCE)
+    client.leave()
+
+
+@pytest.fixture
+def begins(lend, waiting):
+    """Returns a client whose process is admitted without some pages, and the channel of the lender
+    that has done so, which says nothing by itself."""
+    lender, client, comes = waiting
     lender.kill()
     with channel() as it:
         it.connect(f"{lender.folder}/.channels/a")
@@ -94,7 +95,7 @@ def test_who_is_to_start_without_some_pages_finds_its_target_as_it_begins(begins
     assert struct.unpack_from("<I", read_target(client), 12) == (without,)
 
 
-def test_who_begins_anew_asks_no_longer_for_what_it_asked_for_before(begins):
+def test_who_restarts_asks_no_longer_for_what_it_asked_for_before(begins):
     """It was to have 50 in its balloon of the 100 that it started without."""
     client, it = begins(100)
     for number in range(4):
@@ -106,8 +107,8 @@ def test_who_begins_anew_asks_no_longer_for_what_it_asked_for_before(begins):
         client.enable(number, 0)
     for number in range(4):
         client.place(number)
-    anew = Later(lambda: [client.enable(number) for number in range(4)])
+    restarts = Later(lambda: [client.enable(number) for number in range(4)])
     report, _ = report_that(it, lambda its: its.waits == WAIT_RESET)
     order(it, ORDER_ADMIT, wait=report.wait, ballooned=100, target=100)
-    anew.ends()
+    restarts.ends()
     assert (its := reported(it)).held_pages == 0 and its.ballooned == 100
