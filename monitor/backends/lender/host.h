@@ -42,7 +42,7 @@ struct limit_writer {
 /* What is looked at of a guest to tell whether it rests, in pages. */
 struct stillness {
     uint32_t pages, ballooned, available;
-    uint64_t held;
+    uint64_t held, reclaimed;
 };
 
 /* The place of added memory of a guest to which none is added. */

@@ -6,9 +6,23 @@
  * is asked in one. What changes by more than this part of its pages counts as a change. */
 enum { RESTS_AFTER = 10, ASKED_ONCE_IN = 5, LITTLE_PART = 256 };
 
+/* The tags of what its kernel has looked at and taken back, in the background and while its work
+ * waits (Linux 6.12). */
+enum { FIRST_OF_RECLAIM = 12, LAST_OF_RECLAIM = 15 };
+
 static bool is_near(uint64_t one, uint64_t other, uint64_t most)
 {
     return (one > other ? one - other : other - one) <= most;
+}
+
+/* What it has looked at and taken back: as long as that grows its work may come to wait. */
+static uint64_t reclaimed_by(const struct lending_message *report)
+{
+    uint64_t sum = 0;
+    for (uint32_t i = 0; i < report->figure_count; i++)
+        if (report->figures[i].tag >= FIRST_OF_RECLAIM && report->figures[i].tag <= LAST_OF_RECLAIM)
+            sum += report->figures[i].value;
+    return sum;
 }
 
 static struct stillness stillness_of(const struct seat *seat)
@@ -16,6 +30,7 @@ static struct stillness stillness_of(const struct seat *seat)
     return (struct stillness){.pages = seat_pages(seat),
                               .ballooned = seat->report.ballooned,
                               .held = pages_held(seat),
+                              .reclaimed = reclaimed_by(&seat->report),
                               .available = seat->tells_available ? seat->available : seat->free};
 }
 
@@ -48,7 +63,7 @@ bool seat_moves(struct seat *seat)
     struct stillness now = stillness_of(seat), then = seat->still;
     uint64_t little = seat_pages(seat) / LITTLE_PART;
     bool stays = now.pages == then.pages && now.ballooned == then.ballooned &&
-                 is_near(now.held, then.held, little) &&
+                 now.reclaimed == then.reclaimed && is_near(now.held, then.held, little) &&
                  is_near(now.available, then.available, little);
     if (stays)
         return false;

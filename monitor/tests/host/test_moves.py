@@ -37,6 +37,10 @@ WRONG = {
 # another one gave page cache.
 ROSE = (20261150, 20261197, 20261263)
 
+# Days on which the kernel of a guest at rest took page cache back in the background, and none of its
+# work had waited yet when it was asked: it was asked the next time a second later.
+RECLAIMED = (("at-once", 40000454), ("weights", 40000138), ("weights", 40000450))
+
 # A day ends by its processor's time.
 pytestmark = pytest.mark.timeout(0)
 
@@ -54,6 +58,13 @@ def test_cached_pages_follow_the_work(kind, tmp_path_factory):
 def test_a_target_that_rises_amid_a_deflate_has_nobody_give_page_cache(number, tmp_path_factory):
     host = linux_kit.built("simulated/vhost_user_host")
     status, said = live(host, str(tmp_path_factory.mktemp("d")), number, KINDS["slow"])
+    assert status == 0 and numbers_of(said)["works"] == SHIFTS, said
+
+
+@pytest.mark.parametrize("kind, number", RECLAIMED)
+def test_a_guest_that_reclaims_is_asked_before_its_work_waits(kind, number, tmp_path_factory):
+    host = linux_kit.built("simulated/vhost_user_host")
+    status, said = live(host, str(tmp_path_factory.mktemp("d")), number, KINDS[kind])
     assert status == 0 and numbers_of(said)["works"] == SHIFTS, said
 
 

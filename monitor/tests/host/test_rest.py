@@ -9,8 +9,9 @@ from tenants import FREE, PAGES, eventually, go_on, process_of, stop
 # periods one that rests is asked once, those for which it is looked at, and how often.
 PERIOD, RESTED, ASKED_ONCE_IN, LOOKS, TRIES = 0.05, 1.5, 5, 80, 5
 
-# The tag of allocations that stalled (Linux 6.12).
-STALLS = 11
+# The tags of allocations that stalled, and of what a kernel looks at and takes back, in the
+# background and while its work waits (Linux 6.12).
+STALLS, RECLAIMS = 11, (12, 13, 14, 15)
 
 
 @pytest.fixture
@@ -50,6 +51,21 @@ def test_a_guest_that_has_changed_is_not_at_rest_for_ten_periods(resting):
     for free in range(30, 30 + TRIES):
         guest.figures[FREE] = free
         lender.become("a", free=free)
+        asked, looks = asked_in(lender, 6)
+        if asked >= looks - 2:
+            return
+        time.sleep(RESTED)
+    raise AssertionError(f"it is asked {asked} times in {looks} looks")
+
+
+@pytest.mark.parametrize("tag", RECLAIMS)
+def test_a_guest_that_reclaims_is_not_at_rest(resting, tag):
+    # Its work may come to wait at any time.
+    lender, guest = resting
+    for count in range(1, 1 + TRIES):
+        before = lender.guests()["a"]["statistics"]
+        guest.figures[tag] = count
+        eventually(lambda: lender.guests()["a"]["statistics"] > before + 1)
         asked, looks = asked_in(lender, 6)
         if asked >= looks - 2:
             return
