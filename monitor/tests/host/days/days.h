@@ -65,6 +65,7 @@ struct guest {
     uint32_t reminded;            /* what was in the balloon at the last target or reminder */
     uint32_t inflates, deflates;  /* pages of the requests that are on its queues */
     uint32_t told, granted; /* the last target, and wait, of the orders that the lender has sent */
+    uint32_t least_told;    /* of its targets, from the last that the lender knows as read */
     int64_t told_at;
     struct wait held, reset;
     /* Its driver: what it has in the balloon, and in the deflate that it waits for. */
@@ -200,6 +201,9 @@ void town_looks(void);
 /* The lender sends an order to a guest. Demands that above the budget nobody gets pages that others
  * still give. */
 void town_hears(struct guest *guest, const struct lending_message *order);
+
+/* The lender reads a report of a guest. */
+void town_is_heard(struct guest *guest, const struct lending_message *report);
 
 /* The day ends, by a fault where words say so. */
 void town_ends(const char *fault, const struct guest *guest);

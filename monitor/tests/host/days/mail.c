@@ -115,6 +115,10 @@ unsigned __wrap_lending_read(int channel, struct lending_message messages[], uns
 
 int __wrap_lending_read_from(int channel, struct lending_message *message, pid_t *sender)
 {
+    struct guest *guest = guest_of(channel);
+    bool came = take(&guest->reports, message);
     *sender = getpid();
-    return take(&guest_of(channel)->reports, message);
+    if (came)
+        town_is_heard(guest, message);
+    return came;
 }

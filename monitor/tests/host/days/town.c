@@ -118,18 +118,24 @@ static bool still_gives(const struct guest *guest)
     return !waits && guest->report.ballooned < guest->told;
 }
 
-/* Whether its deflate goes deeper than each target that its driver may obey: then its grant lends
- * pages. */
+/* Whether its deflate goes deeper than each target that its driver may obey, as far as the lender
+ * knows: then its grant lends pages. */
 static bool goes_deeper(const struct guest *guest)
 {
-    uint32_t least = smaller(guest->told, smaller(guest->target, guest->read_target));
-    return guest->report.ballooned < least + guest->report.held_pages;
+    return guest->report.ballooned < guest->least_told + guest->report.held_pages;
+}
+
+void town_is_heard(struct guest *guest, const struct lending_message *report)
+{
+    if (report->target == guest->told && report->obeyed == guest->told + UINT64_C(1))
+        guest->least_told = guest->told;
 }
 
 void town_hears(struct guest *guest, const struct lending_message *order)
 {
     if (order->kind == ORDER_TARGET && order->target != guest->told)
         guest->told = order->target, guest->told_at = day->now;
+    guest->least_told = smaller(guest->least_told, guest->told);
     if (order->kind != ORDER_GRANT || order->wait == guest->granted)
         return;
     guest->granted = order->wait;
@@ -178,7 +184,7 @@ static void __attribute__((constructor)) begin(int count, char **words)
                                 .pages = MEMORY * MIB,
                                 .used = OWN * MIB,
                                 .reboots = i + day->plan.reboots >= size};
-        guest->balloon = guest->told = guest->pages - day->budget / size;
+        guest->balloon = guest->told = guest->least_told = guest->pages - day->budget / size;
         process_begins(guest, getenv("FOLDER"));
         if (!moves)
             later(guest, work_begins, chance(0, SECOND));
