@@ -1,6 +1,8 @@
 /* Messages of the whole device: features, its status, its configuration. */
 #include "handlers.h"
 
+#include "../balloon/codes.h"
+
 #include <inttypes.h>
 
 enum { IS_FEATURES_OK = 8 };
@@ -39,8 +41,8 @@ enum outcome set_features(struct backend *backend, struct message *message)
     uint32_t answer = rings_negotiate(backend, features);
     if (answer == 0)
         return DONE;
-    remark(backend, "the features 0x%" PRIx64 " are answered %" PRIu32,
-           features_of_device(features), answer);
+    remark(backend, "the features 0x%" PRIx64 " are refused: %s", features_of_device(features),
+           answer_words(answer));
     return FAILED;
 }
 

@@ -113,6 +113,8 @@ def test_features(serve):
     client.start()
     assert client.counter("status") == 15
     assert client.close()[0] == 0
+    refused = [it for it in client.lines if "features 0x" in it]
+    assert len(refused) == 2 and all("are refused: VB_" in it for it in refused), refused
 
 
 @pytest.mark.parametrize(
