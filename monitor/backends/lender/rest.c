@@ -6,22 +6,24 @@
  * is asked in one. What changes by more than this part of its pages counts as a change. */
 enum { RESTS_AFTER = 10, ASKED_ONCE_IN = 5, LITTLE_PART = 256 };
 
-/* The tags of what its kernel has looked at and taken back, in the background and while its work
- * waits (Linux 6.12). */
-enum { FIRST_OF_RECLAIM = 12, LAST_OF_RECLAIM = 15 };
+/* The tags of what its kernel looks at and takes back in the background (Linux 6.12). What it does
+ * while its work waits presses the guest. */
+enum { ASYNC_SCANS = 12, ASYNC_RECLAIMS = 14 };
 
 static bool is_near(uint64_t one, uint64_t other, uint64_t most)
 {
     return (one > other ? one - other : other - one) <= most;
 }
 
-/* What it has looked at and taken back: as long as that grows its work may come to wait. */
+/* What its kernel has done so: as long as that grows its work may come to wait. */
 static uint64_t reclaimed_by(const struct lending_message *report)
 {
     uint64_t sum = 0;
-    for (uint32_t i = 0; i < report->figure_count; i++)
-        if (report->figures[i].tag >= FIRST_OF_RECLAIM && report->figures[i].tag <= LAST_OF_RECLAIM)
+    for (uint32_t i = 0; i < report->figure_count; i++) {
+        uint16_t tag = report->figures[i].tag;
+        if (tag == ASYNC_SCANS || tag == ASYNC_RECLAIMS)
             sum += report->figures[i].value;
+    }
     return sum;
 }
 

@@ -9,9 +9,9 @@ from tenants import FREE, PAGES, eventually, go_on, process_of, stop
 # periods one that rests is asked once, those for which it is looked at, and how often.
 PERIOD, RESTED, ASKED_ONCE_IN, LOOKS, TRIES = 0.05, 1.5, 5, 80, 5
 
-# The tags of allocations that stalled, and of what a kernel looks at and takes back, in the
-# background and while its work waits (Linux 6.12).
-STALLS, RECLAIMS = 11, (12, 13, 14, 15)
+# The tags of allocations that stalled, and of what a kernel looks at and takes back in the
+# background (Linux 6.12).
+STALLS, RECLAIMS = 11, (12, 14)
 
 
 @pytest.fixture
