@@ -144,13 +144,18 @@ def suites_of(path):
 
 def commands_of(path):
     """Returns the commands that try a file, the narrowest first: the tests of its name, and then
-    those that speak most of it."""
+    those that speak most of it. Tests that take so long that they have a limit of their own come
+    last."""
     commands = [C_TESTS] if path.startswith("monitor/include/") else []
     own = f"test_{os.path.splitext(os.path.basename(path))[0]}.py"
     for suite in suites_of(path):
         files = sorted(
             tests_of(suite),
-            key=lambda it: (os.path.basename(it) != own, -mentions(tests_of(suite)[it], path)),
+            key=lambda it: (
+                "pytest.mark.timeout(" in tests_of(suite)[it],
+                os.path.basename(it) != own,
+                -mentions(tests_of(suite)[it], path),
+            ),
         )
         at_once = ("-n", "2") if "-n" in SUITES[suite].words else ()
         commands.append(

@@ -126,6 +126,13 @@ def test_who_sees_a_file(path, suites, first):
     )
 
 
+def test_slow_tests_are_the_last_ones():
+    """Those that play days are in the host's suite, and mention each file of the daemons."""
+    files = [os.path.basename(it) for it in commands_of("monitor/backends/lender/limits.c")[0]]
+    slow = {"test_days.py", "test_every.py", "test_moves.py"}
+    assert slow <= set(files) and not slow & set(files[:-10])
+
+
 def test_each_file_that_is_shipped_is_seen():
     assert not [it for it in shipped() if not commands_of(it)]
     assert commands_of("monitor/include/balloon.h")[0][:4] == ("make", "-C", "monitor", "c-test")
@@ -177,6 +184,25 @@ def test_what_comes_of_an_edit(tree, tmp_path_factory, old, new, outcome):
     edit = edits_of("monitor/add.c", ADD)[0]._replace(begin=begin, end=begin + len(old), new=new)
     assert PLANT.Tree(str(folder)).judged(edit) == outcome
     assert tree.read_text() == (folder / "monitor/add.c").read_text() == ADD
+
+
+# Commands that aren't pytest's: one fails as the file was, too, one fails once, as on a busy
+# machine, and others fail by what the edit does, which a line says before make's.
+CHECK = "grep -q 'a + b' monitor/add.c"
+SAYS = "echo add.c:9: not so: sum == 3; echo ok  others; echo make: Error 1; exit 1"
+MADE = (
+    ("exit 1", "PASSED"),
+    ("test -e once || { touch once; exit 1; }", "PASSED"),
+    (f"{CHECK} || {{ {SAYS}; }}", "refused by add.c:9: not so: sum == 3"),
+    (f"{CHECK} || {{ echo add: 7; echo make: Error 1; exit 1; }}", "refused by add: 7"),
+)
+
+
+@pytest.mark.parametrize("shell, outcome", MADE)
+def test_what_comes_of_tests_in_c(tree, tmp_path, monkeypatch, shell, outcome):
+    monkeypatch.setattr(PLANT, "commands_of", lambda _: [("sh", "-c", shell)])
+    edit = next(it for it in edits_of("monitor/add.c", ADD) if it.kind == "sign")
+    assert PLANT.Tree(str(tmp_path / "copy")).judged(edit) == outcome
 
 
 def test_a_file_that_is_wrong_already(tree, monkeypatch):
