@@ -145,3 +145,24 @@ def test_what_a_driver_takes_by_the_target_that_it_has_read_isnt_taken_by_itself
     read_target(a.client)
     a.take(GIVEN[30:40])
     lender.become("a", ballooned=60, taken=10)
+
+
+def test_a_driver_that_has_not_read_its_target_obeys_that_after_a_while(lend, come):
+    """Then its target rises: what it takes below the one before, it takes by itself, though it has
+    read another one earlier."""
+    lender = lend(1, *STRICT)
+    a = come(lender, "a", {FREE: 100}, reads=False)
+    a.give(GIVEN[:100])
+    lender.become("a", ballooned=100)
+    read_target(a.client)
+    lender.demand("a target 80")
+    lender.become("a", target=80)
+    time.sleep(LATER)
+    begin = time.monotonic()
+    lender.demand("a target 90")
+    lender.become("a", target=90)
+    a.take(GIVEN[:30])
+    lender.become("a", ballooned=70)
+    if time.monotonic() - begin >= LINGERS:
+        pytest.skip("the machine is too busy")
+    lender.become("a", taken=10)
