@@ -114,10 +114,6 @@ uint32_t lent_outside(struct lent *lent)
 
 uint32_t outside_returns(struct lent *lent, uint32_t added)
 {
-    if (lent->outside == 0)
-        return 0;
-    uint32_t stays = smaller(all_outside(&lent->backend.memory), lent->outside);
-    uint32_t returns = smaller(lent->outside - stays, added);
-    lent->outside -= returns;
-    return returns;
+    uint32_t before = lent->outside;
+    return smaller(before - lent_outside(lent), added);
 }
