@@ -307,7 +307,6 @@ void events_look(struct control *control, const struct host *host)
 {
     struct events *events = control->events;
     const struct look look = {events, events->next, loop_seconds() + CONTROL_SECONDS};
-    control->is_behind = true;
     if (!followers_send(control, look.until))
         return;
     bool all = look_at_host(control, host, &look);

@@ -15,6 +15,8 @@ PROGRAMS = (
     "checked/vhost_user_host",
     "older/vhost_user_host",
     "wrong-checked/vhost_user_host",
+    "clocked/vhost_user_host",
+    "plain/vhost_user_balloon",
     "libvb.so",
 )
 __all__ = ("library", "shared")
