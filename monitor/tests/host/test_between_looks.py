@@ -15,7 +15,7 @@ from played import (
     Message,
     Played,
 )
-from tenants import FREE, eventually, process_of
+from tenants import FREE, eventually, process_of, read_target
 from test_channels import channel
 from test_strict import GIVEN, STRICT, used
 from vhost_client import DEFLATE, INFLATE, PAGE
@@ -211,6 +211,17 @@ def test_what_changes_at_once_is_told_together(unasked):
         used(guest, INFLATE, number + 1)
     _, count = report_that(it, lambda its: its.ballooned == LAST)
     assert count <= (time.monotonic() - begin) / NEWS_EVERY + 2
+
+
+def test_a_target_that_is_read_is_told_unasked(unasked):
+    """By a driver that has read another one before."""
+    guest, it = unasked
+    with guest.lock:
+        read_target(guest.client)
+    for target in 20, 30, 10:
+        it.send(bytes(Message(version=VERSION, kind=ORDER_TARGET, target=target)))
+        read, _ = report_that(it, lambda its, pages=target: its.obeyed == pages + 1)
+        assert read.number == 0
 
 
 def test_a_deflate_that_is_held_is_told_at_once(unasked):
