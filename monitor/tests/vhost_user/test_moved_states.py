@@ -109,6 +109,16 @@ def test_states_that_are_none(ready, serve):
     assert other.counter("target") == 1
 
 
+def test_what_is_saved_after_a_state_that_is_none(ready):
+    """It has no byte of that."""
+    client = ready()
+    with_pages(client, [FIRST], 1)
+    stopped(client)
+    data = saved(client)
+    assert not load(client, bytes(~it & 0xFF for it in data))
+    assert saved(client) == data
+
+
 # Where the state of a device has the end of its memory, and its own sum (docs/INTEGRATION.md), and
 # how many pages a word of the set has.
 END_AT, STATE_SUM_AT, WORD = HEAD - STATE_BYTES + 16, HEAD - SUM, 64
