@@ -13,10 +13,11 @@ from vhost_client import PAGE
 
 @pytest.mark.skipif(os.geteuid() != 0, reason="mounts and cgroups are for root")
 def test_a_line_of_the_host_itself_names_no_guest(lend, come, limits, tmp_path):
-    """It has asked a guest's writer for a limit before, who hasn't answered."""
+    """It has asked a guest's writer for a limit at its last look, who hasn't answered; and then it
+    has taken the answer."""
     file, its = tmp_path / "host.conf", limits("a")
     file.write_text("[host]\n")
-    lender = lend(1, *SELDOM, "--strict", "--config", str(file))
+    lender = lend(1, *SELDOM, "--period", "5000", "--strict", "--config", str(file))
     guest = come(lender, "a", {FREE: 100}, f"overhead=0 limit={its.term}")
     lender.set_budget(78)
     has_target(lender, "a", 50)
@@ -25,8 +26,13 @@ def test_a_line_of_the_host_itself_names_no_guest(lend, come, limits, tmp_path):
     guest.give(GIVEN[:50])
     eventually(lambda: lender.status()["guests"][0]["loan"] == 78 * PAGE)
     time.sleep(HEARD)
-    lender.process.send_signal(signal.SIGHUP)
     said = f"{file}: read again"
-    eventually(lambda: any(said in it for it in lender.said()))
-    go_on(writer)
-    assert said in lender.said()
+
+    def read_again(count):
+        lender.process.send_signal(signal.SIGHUP)
+        eventually(lambda: sum(said in it for it in lender.said()) == count)
+
+    read_again(1), go_on(writer)
+    eventually(lambda: lender.status()["guests"][0]["limit"] == 78 * PAGE)
+    read_again(2)
+    assert lender.said().count(said) == 2, lender.said()
