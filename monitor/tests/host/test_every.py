@@ -48,7 +48,7 @@ from vhost_client import (
     SET_VRING_NUM,
     VRING_KICK,
 )
-from waiting import patience_from_now
+from waiting import eventually, patience_from_now
 
 # Messages at random, and the seats whose clients send them.
 MESSAGES, SEATS = int(os.environ.get("MESSAGES", 10**6)), 8
@@ -282,13 +282,18 @@ def test_each_message_in_each_size_with_any_files(seats, number, size, count):
     assert served == (right_size and right_count), seats.host.why_of("seat0")
 
 
+def refused_for(seats, words):
+    """Waits until the host has said why, which comes after the client has gone."""
+    why = lambda: seats.host.why_of("seat0")
+    eventually(lambda: words in why(), why)
+
+
 @pytest.mark.parametrize("number, size", UNKNOWN)
 def test_messages_that_are_unknown(seats, number, size):
     """So are those of a migration here: whatever their size, they are refused by their names."""
     client = seats.come()
     assert not is_served(client, number, bytes(size), [])
-    said = NOT_OFFERED.get(number, f"message {number} is unknown")
-    assert said in seats.host.why_of("seat0")
+    refused_for(seats, NOT_OFFERED.get(number, f"message {number} is unknown"))
     client.leave()
 
 
@@ -299,7 +304,7 @@ def test_messages_that_are_not_negotiated(seats, number):
         SET_PROTOCOL_FEATURES, struct.pack("<Q", OFFERED & ~(1 << NEGOTIATED[number])), flags=1
     )
     assert not is_served(client, number, body, [seats.file(client, it) for it in names])
-    assert "isn't negotiated" in seats.host.why_of("seat0")
+    refused_for(seats, "isn't negotiated")
     client.leave()
 
 
