@@ -7,6 +7,7 @@ import pytest
 from kept import structs
 from linux_host import pairs
 from played import COUNTERS, Listens, Played
+from played import FIGURES as MOST_FIGURES
 from tenants import AVAILABLE, FREE
 from vhost_client import PAGE
 
@@ -88,6 +89,15 @@ def test_the_statistics_of_a_guest(played):
         *(it for _, it in FIGURES)
     )
     assert lender.ask("a statistics") == f"{told} {figures}"
+
+
+def test_of_more_statistics_than_a_message_has_those_are_taken_that_it_has(played):
+    lender, counted, guest = played
+    its = tuple((tag, (tag + 1) * PAGE) for tag in range(MOST_FIGURES))
+    guest.report(figure_count=(1 << 32) - 1, figures=its)
+    words = lender.ask("a statistics").split()
+    assert words[:2] == ["statistics", str(counted["statistics"])]
+    assert words[3::2] == [str(it) for _, it in its]
 
 
 def test_the_counters_of_the_host(played):
