@@ -236,11 +236,19 @@ def full(lend, come):
 
 
 def test_a_slot_that_comes_back_is_lent_already(full):
+    """It asks for nothing, and waits for nobody who does."""
     lender, a = full
+    b = Client(lender.add("b"))
+    b.negotiate()
+    comes = Later(b.hand_over_memory)
+    lender.become("b", waits="room")
+    waits = lambda: lender.status()["host"]["measures"]["waits"]["counts"]
+    before = waits()
     hand_over(a)
     lender.become("a", pages=ALL, lent=ALL, cooperates=1, waits="nothing")
-    time.sleep(LOOKED)
+    assert comes.waits(LOOKED) and waits() == before
     lender.become("a", pages=ALL, lent=ALL, cooperates=1)
+    b.leave()
 
 
 # Pages of a slot that comes back, of which the first ones are holes.
