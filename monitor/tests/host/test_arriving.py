@@ -10,7 +10,17 @@ from bigvasta.connection import Connection
 from moving import ALL, EACH_WAY, WAYS, continues, with_pages
 from tenants import FREE, eventually, read_target
 from test_strict import GIVEN, Later, lent
-from vhost_client import DEFLATE, FEATURES, HAS_PROTOCOL, INFLATE, PAGE, SET_FEATURES
+from vhost_client import (
+    ADD_MEM_REG,
+    DEFLATE,
+    FEATURES,
+    HAS_PROTOCOL,
+    INFLATE,
+    PAGE,
+    PAGES_OF_REGION,
+    REM_MEM_REG,
+    SET_FEATURES,
+)
 from vhost_demands import demand_served, word
 from vhost_logs import log_base, log_file, set_logging
 from vhost_moves import FINE, HEAD, PROTOCOL, WRONG, comes, edited, load, saved, stopped
@@ -102,6 +112,17 @@ def test_who_is_not_strict_comes_with_all_of_its_memory(crowded, lend):
     other.add_memory()
     lender.become("a", lent=ALL, ballooned=0, pages=ALL)
     assert lent(lender) == 2 * ALL
+
+
+def test_who_has_come_with_all_of_its_memory_may_lose_some(crowded):
+    """What it said counts until the memory is there; and no more then."""
+    lender, other = crowded(ALL)
+    assert comes(other, 0, ALL) == FINE
+    for region, file in enumerate(other.files):
+        other.accepted(ADD_MEM_REG, other.region_body(region), [file])
+        lender.become("a", pages=ALL, lent=ALL)
+    other.accepted(REM_MEM_REG, other.region_body(1))
+    lender.become("a", pages=PAGES_OF_REGION, lent=PAGES_OF_REGION)
 
 
 @pytest.mark.parametrize("given, pages", ((ALL + 1, ALL), (0, 0), (2**32 - 1, 2**32 - 2)))
