@@ -5,6 +5,7 @@ import signal
 import time
 
 import pytest
+from played import TELL_REMARK, WORDS, Played
 from tenants import FREE, eventually, go_on, stop, writer_of
 from test_between_looks import HEARD, SELDOM, has_target
 from test_strict import GIVEN
@@ -36,3 +37,12 @@ def test_a_line_of_the_host_itself_names_no_guest(lend, come, limits, tmp_path):
     eventually(lambda: lender.status()["guests"][0]["limit"] == 78 * PAGE)
     read_again(2)
     assert lender.said().count(said) == 2, lender.said()
+
+
+def test_words_of_a_process_end_with_its_message(lend):
+    lender = lend(1, *SELDOM)
+    guest = Played(lender, "a")
+    guest.say(TELL_REMARK, b"x" * WORDS)
+    said = "a: " + "x" * (WORDS - 1)
+    eventually(lambda: lender.hear() or said in lender.said(), lender.said)
+    guest.leave()
