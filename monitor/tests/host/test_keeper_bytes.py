@@ -6,8 +6,9 @@ import socket
 import struct
 import time
 
-from kept import HEAD, Kept
-from tenants import eventually, process_of, status_of
+from kept import HEAD, Kept, layout
+from played import FIGURES
+from tenants import eventually, process_of, status_of, stop
 from vhost_client import GET_CONFIG, Client
 
 WIDE = ("--floor", "0", "--period", "100", "--step", "0")
@@ -46,6 +47,22 @@ def test_a_keeper_takes_any_byte_for_whether(lend, checked):
     assert lender.said()[-2:] == ["a: its process has ended with status 1", "gone a"] and not [
         it for it in lender.said() if "runtime error" in it
     ]
+    client.leave()
+
+
+def test_the_next_process_has_no_more_statistics_than_there_may_be(lend):
+    """Its client, which reads them, and its lender find no bytes after them."""
+    lender = lend(64, *WIDE)
+    client = Client(lender.add("a"), lambda: lender.said()[-4:])
+    client.start()
+    kept = Kept(process_of(lender, "a"))
+    stop(kept.process)
+    _, at, size, each, _ = layout()["figure_count"]
+    with open(f"/proc/{kept.keeper}/fd/{KEPT_FILE}", "r+b", buffering=0) as file:
+        os.pwrite(file.fileno(), b"\xff" * size, at + each * (kept["kept.counts"] & 1))
+    kept.kill(lender)
+    assert kept["figure_count"] == FIGURES
+    kept.leave(lender)
     client.leave()
 
 
