@@ -3,9 +3,13 @@ and which has room for another guest, by values worked out by hand."""
 
 import contextlib
 import json
+import os
 import socket
+import subprocess
+import sys
 import threading
 
+import linux_kit
 import pytest
 from bigvasta.cli import main
 from bigvasta.commands import fleet
@@ -204,6 +208,23 @@ def test_nobody_waits_for_one_that_is_stuck(capsys, monkeypatch, hosts):
     late.set()
     assert (code, " ".join(lines[1])) == (5, "stuck the host doesn't answer in time")
     assert lines[2][:2] == [hosts["b"], "1024"]
+
+
+# A program that asks a host, which nothing ends.
+STUCK = """
+import sys, threading
+from bigvasta.cli import main
+from bigvasta.commands import fleet
+fleet.PATIENCE, fleet.connect = 0.1, lambda *_: threading.Event().wait()
+sys.exit(main(["fleet", "stuck"]))
+"""
+
+
+def test_the_program_ends_while_one_is_stuck():
+    client = os.path.join(linux_kit.ROOT, "client")
+    words, environment = [sys.executable, "-c", STUCK], {**os.environ, "PYTHONPATH": client}
+    ended = subprocess.run(words, env=environment, capture_output=True, timeout=PATIENCE)
+    assert ended.returncode == 3, ended.stderr
 
 
 def test_names_are_escaped(capsys, folder):
