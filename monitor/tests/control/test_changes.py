@@ -107,6 +107,14 @@ def test_what_is_changed_back_is_as_the_file_says_from_then_on(kept):
     assert (its["most"], its["weight"]) == (50 * MIB, 2)
 
 
+def test_who_is_changed_back_goes_with_the_file(kept):
+    """Nothing is kept of it then: not even that it is there."""
+    for most in MIB, 100 * MIB:
+        assert kept.host.ask("guest", name="web-1", most=most)["lasts"]
+    kept.file.write_text(kept.file.read_text().replace("[guest web-1]\nmost = 100M\n", ""))
+    assert set(terms(kept.again())) == {"web-2"}
+
+
 def test_where_file_and_change_differ_is_shown(kept):
     assert kept.host.status()["differs"] == []
     kept.host.ask("budget", bytes=300 * MIB)
