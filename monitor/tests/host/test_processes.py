@@ -122,6 +122,20 @@ def test_of_a_client_that_finds_too_few_files_left_none_stays_open(lend):
     client.leave()
 
 
+def test_of_a_client_whose_place_for_a_later_lender_is_taken_none_stays_open(lend):
+    lender = lend(5)
+    path, place = lender.add("a"), f"{lender.folder}/.channels/a"
+    had = files_of(lender.process.pid)
+    os.remove(place), os.mkdir(place)
+    client = Client(path, lambda: "")
+    eventually(lambda: "a can't come: Address already in use" in "".join(lender.said()))
+    eventually(lambda: files_of(lender.process.pid) == had, "files stay open")
+    os.rmdir(place)
+    client.start()
+    lender.become("a", here=1, ready=1)
+    client.leave()
+
+
 # A guest's process that takes its client late.
 LATE = """#!/bin/sh
 sleep 0.5
