@@ -61,6 +61,22 @@ def test_configuration_space(client):
     )
 
 
+def test_which_bytes_of_it_a_driver_may_write(client):
+    """Those of the command, of the cache line's size, the timer, the base and the line; at most
+    four at once, as may be read."""
+    write = lambda at, value, length: client.ask(
+        CONFIGURATION_WRITE, struct.pack("<III", at, value, length)
+    )
+    before = [client.configuration(at, 1) for at in range(256)]
+    for at, byte in enumerate(before):
+        write(at, byte ^ 0xFF, 1)
+    now = [client.configuration(at, 1) for at in range(256)]
+    changed = [at for at in range(256) if now[at] != before[at]]
+    assert changed == [4, 5, 0x0C, 0x0D, 0x11, 0x12, 0x13, 0x3C]
+    write(4, 0, 5)
+    assert client.configuration(4, 1) == now[4] and client.configuration(0, 5) == 0
+
+
 def test_start(client):
     client.start()
     assert [client.read(it) for it in (OFFERED, QUEUES, STATUS)] == [0x27, 5, 15]
