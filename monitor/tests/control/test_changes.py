@@ -136,6 +136,17 @@ def test_where_file_and_change_differ_is_shown(kept):
     assert len(kept.host.status()["differs"]) == 2
 
 
+# Sizes in KiB, and how they are written.
+SIZES = ((4, "4K"), (1028, "1028K"), (1 << 10, "1M"), (3 << 20, "3G"), (1 << 30, "1T"))
+
+
+@pytest.mark.parametrize("kib, text", SIZES)
+def test_a_size_has_the_largest_unit_of_which_it_is_a_multiple(kept, kib, text):
+    kept.host.ask("guest", name="web-1", most=kib << 10)
+    (its,) = kept.host.status()["differs"]
+    assert its["now"] == text
+
+
 def test_all_of_it_as_a_file(kept, program):
     """A host that starts by what `bigvasta config` prints is the same."""
     changed(kept.host)
