@@ -244,8 +244,8 @@ REFUSED = (
         ": a at 2: waiting: '-1' is no time in seconds from 0 on",
     ),
     (
-        replaced(CELLS["asked"], 409600, 0, 0, 0, 0),
-        ": a at 0: loan and asked are 190 pages, and the guest has 100",
+        replaced(CELLS["asked"], 45056, 0, 0, 0, 0),
+        ": a at 0: loan and asked are 101 pages, and the guest has 100",
     ),
     (
         replaced(CELLS["size"], 409600, 409600, 413696, 413696, 413696),
