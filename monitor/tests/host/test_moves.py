@@ -37,8 +37,8 @@ WRONG = {
 # another one gave page cache.
 ROSE = (20261150, 20261197, 20261263)
 
-# Days on which the kernel of a guest at rest took page cache back in the background, and none of its
-# work had waited yet when it was asked: it was asked the next time a second later.
+# Days on which the kernel of a guest at rest took page cache back in the background, and its work
+# hadn't waited yet when it was asked: it was asked the next time a second later.
 RECLAIMED = (("at-once", 40000454), ("weights", 40000138), ("weights", 40000450))
 
 # A day ends by its processor's time.
