@@ -13,6 +13,9 @@ from vhost_moves import PROTOCOL, load, saved, stopped
 # Lives in which a transfer may have to be restarted: the calls of a turn in which a part goes.
 MOST_RESTARTED = 40
 
+# Lives are cut off in one place of so many.
+EACH = 3
+
 
 def try_twice(act):
     """Has a device be saved, or loaded, once or twice; returns what came of it, and how often that
@@ -56,15 +59,25 @@ def migrate(lender, name):
     return restarted
 
 
-def migrate_everywhere(lender):
-    """Such lives that are cut off in one place each, until one isn't; returns how many there were,
-    and in how many of them a transfer had to be restarted."""
+def migrate_until_whole(lender, places):
+    """Such lives that are cut off in one of these places each, until one isn't; returns the last
+    place, and in how many of them a transfer had to be restarted."""
     restarted = 0
-    for place in range(1, MOST_CUTS, 3):
+    for place in places:
         restarted += len(migrate(lender, f"cut-{place}"))
         if not [it for it in lender.said() if f"cut-{place}: its process has ended by" in it]:
             break
     return place, restarted
+
+
+def migrate_everywhere(lender):
+    """Cuts lives off in each third place; where these miss the few calls of a transfer, in the
+    places between them, too."""
+    for first in range(1, 1 + EACH):
+        last, restarted = migrate_until_whole(lender, range(first, MOST_CUTS, EACH))
+        if restarted > 0:
+            break
+    return last, restarted
 
 
 @pytest.mark.timeout(900)
