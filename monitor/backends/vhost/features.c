@@ -42,7 +42,7 @@ enum outcome set_features(struct backend *backend, struct message *message)
     if (answer == 0)
         return DONE;
     remark(backend, "the features 0x%" PRIx64 " are refused: %s", features_of_device(features),
-           answer_words(answer));
+           status_words(answer));
     return FAILED;
 }
 

@@ -13,7 +13,7 @@ from vhost_moves import PROTOCOL, load, saved, stopped
 # Lives in which a transfer may have to be restarted: the calls of a turn in which a part goes.
 MOST_RESTARTED = 40
 
-# Lives are cut off in one place of so many.
+# Lives are cut off in each third place.
 EACH = 3
 
 

@@ -108,13 +108,14 @@ def test_fault_before_the_driver_is_ready(serve):
 def test_features(serve):
     client = serve()
     client.negotiate()
-    for features in (0x27, FEATURES | 8):
+    why = {0x27: "VERSION_1 is missing", FEATURES | 8: "a feature that isn't offered"}
+    for features in why:
         assert client.send(SET_FEATURES, struct.pack("<Q", features)) != bytes(8)
     client.start()
     assert client.counter("status") == 15
     assert client.close()[0] == 0
-    refused = [it for it in client.lines if "features 0x" in it]
-    assert len(refused) == 2 and all("are refused: VB_" in it for it in refused), refused
+    said = [f"the features 0x{its:x} are refused: {words}" for its, words in why.items()]
+    assert [it for it in client.lines if "features 0x" in it] == said
 
 
 @pytest.mark.parametrize(
