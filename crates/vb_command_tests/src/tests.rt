@@ -3,7 +3,6 @@
 mod command_lines;
 mod faults;
 mod largest_guest;
-mod lives;
 mod long_reports;
 mod longest;
 mod rounds;
