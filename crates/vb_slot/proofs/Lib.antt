@@ -1,6 +1,5 @@
 pub mod FreshStands
 pub mod AloneSteps
-pub mod Numbers
 pub use Rattle.vb_guest.proofs.Standing
 pub use Rattle.vb_guest.proofs.Fresh
 pub mod AloneSizes

@@ -9,8 +9,6 @@ mod lone;
 mod lone_port;
 mod new;
 mod slot;
-#[cfg(test)]
-mod tests;
 
 pub use guest_port::GuestPort;
 pub use guest_slot::GuestSlot;

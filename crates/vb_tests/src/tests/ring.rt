@@ -1,8 +1,6 @@
-//! What no clause says: the layout and the bytes as the standard has them, and rings of any bytes
-//! read a second time.
+//! What no clause says: the layout and the bytes as the standard has them.
 
 mod order;
-mod random_rings;
 
 use std::alloc::Global;
 use std::process::Abort;

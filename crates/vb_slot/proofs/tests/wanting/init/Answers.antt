@@ -1,6 +1,0 @@
-use Rattle.vb_slot.proofs.tests.wanting.init.Goals as goal
-
-pub returns : goal.returns
-returns g c =
-    let (keeps, guest, stands) = c.requires in
-    let s = c.init.ensures.step keeps guest stands in (keeps, s.new, s.stands)
