@@ -1,5 +1,5 @@
 -- Grants, one after another, until nobody is granted.
-use Rattle.std.proofs.Common.{◌≡◌, ℕ, zero, suc, ◌+◌, ◌≤◌, ◌<◌, Bool, true, false, not, ◌&&◌, ◌||◌, ◌==◌, nat_lt, nat_le, ◌*◌, if◌then◌else◌, List, [], ◌∷◌, length, get_or, inl, inr, ◌⊎◌, min, refl, ap, sym, ◌∙◌, arith}
+use Rattle.std.proofs.Common.{◌≡◌, ℕ, zero, suc, ◌+◌, ◌≤◌, ◌<◌, Bool, true, false, not, ◌&&◌, ◌||◌, ◌==◌, nat_lt, nat_le, ◌*◌, if◌then◌else◌, List, [], ◌∷◌, length, get_or, inl, inr, ◌⊎◌, min, refl, ap, sym, subst, ◌∙◌, arith}
 use Rattle.std.proofs.lemmas.Bool.Decides.{nat_tests}
 use Rattle.std.specs.List.{list_all}
 use Rattle.vb_host.specs.declared.event.Event.TheVariants.{Grants, Overdraws}
@@ -86,14 +86,19 @@ pub one_more : (l m : Lending) (n : ℕ) → ByGrants l m → IsNextGrant m n �
 one_more _ _ n (Stays l) e = Granted l (happens l (Grants n)) n e (Stays (happens l (Grants n)))
 one_more _ _ n (Granted l m k f b) e = Granted l (happens m (Grants n)) k f (one_more (happens l (Grants k)) m n b e)
 
-le_false : (a b : ℕ) → nat_le a b ≡ false → b < a
-le_false a b e = grind (arith, nat_tests)
-
 pub none_nobody : (l : Lending) → ((n : ℕ) → test_at covers l.seats n ≡ false) → ((n : ℕ) → held_at l.seats n ≡ 0) → GrantsNone l
 none_nobody l c h = record { none_covered = c; no_room = inl h }
 
-pub none_room : (l : Lending) (n : ℕ) → ((n : ℕ) → test_at covers l.seats n ≡ false) → IsFirst l.seats n → nat_le (owed l.seats + value_at asked l.seats n) l.frames ≡ false → GrantsNone l
-none_room l n c f e = record { none_covered = c; no_room = inr (n, f, le_false _ _ e) }
+pub none_room : (l : Lending) (n : ℕ) → ((n : ℕ) → test_at covers l.seats n ≡ false) → IsFirst l.seats n → l.frames < owed l.seats + value_at asked l.seats n → GrantsNone l
+none_room l n c f h = record { none_covered = c; no_room = inr (n, f, h) }
+
+-- as code does it
+pub grants_one : (l m : Lending) (n : ℕ) (ys : List Seat) → ByGrants l m → IsNextGrant m n → ys ≡ each_at n granting m.seats → ByGrants l (record m { seats = ys })
+grants_one l m n ys b e f = subst (λ (x : Lending). ByGrants l x) (as_set m n ys (next_may m n e) f) (one_more l m n b e)
+
+pub more_grants : (l m n : Lending) → ByGrants l m → ByGrants m n → ByGrants l n
+more_grants _ _ n (Stays l) b = b
+more_grants _ _ n (Granted l m k e a) b = Granted l n k e (more_grants (happens l (Grants k)) m n a b)
 
 -- ---- the tests as code makes them
 

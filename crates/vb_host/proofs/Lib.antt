@@ -10,6 +10,7 @@ pub mod LentBy
 pub mod Guests
 pub mod Lists
 pub mod Grants
+pub mod Granting
 pub mod Budget
 pub mod Toward
 pub mod Moving

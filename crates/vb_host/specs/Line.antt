@@ -31,9 +31,6 @@ IsNextGrant l n =
     ⊎ (((k : ℕ) → test_at covers l.seats k ≡ false) × IsFirst l.seats n
     × (owed l.seats + value_at asked l.seats n ≤ l.frames))
 
-abbrev pub IsNext : Lending → Option ℕ → Type 0
-IsNext l next = MatchOption next (GrantsNone l) (IsNextGrant l)
-
 -- from one state grants alone, each of the next guest, lead to another
 pub data ByGrants : Lending → Lending → Type 0 where
   Stays : (l : Lending) → ByGrants l l

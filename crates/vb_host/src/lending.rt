@@ -3,42 +3,16 @@
 ghost use Rattle.std.specs.Prelude.{◌≡◌, ℕ, ◌<◌, length, false};
 ghost use Rattle.vb_host.specs.Lending.{Lending, each_at, next_turn, may_grant, may_overdraw, room};
 ghost use Rattle.vb_host.specs.Lending.{happens, value_at, all_targeted, test_at};
-ghost use Rattle.vb_host.specs.Line.{IsNext, IsStep, ByGrants, GrantsNone};
+ghost use Rattle.vb_host.specs.Line.{IsStep, ByGrants, GrantsNone};
 ghost use Rattle.vb_host.specs.Seats.{covers, granting, heard, retargeted, room_after, uncounting};
 ghost use Rattle.vb_host.specs.declared.event.Event.TheVariants.{Grants, Overdraws, Targets};
 
 use crate::line::{
-    first_covered, first_in_line, has_room, is_done_all, is_first, next_turn, overdraft_has_room,
-    room,
+    first_in_line, has_room, is_done_all, is_first, next_turn, overdraft_has_room, owed, room,
 };
 use crate::memory::{join, seat_at};
 use crate::turns::{defer, prefer};
 use crate::{Event, Report, Seat};
-
-/// The guest that is granted next.
-fn granted_next(frames: u32, seats: &[Seat]) -> Option<usize>
-    ensures { (overdraft : ℕ) →
-        IsNext (record { frames = frames; overdraft = overdraft; seats = seats.now }) result }
-{
-    match first_covered(seats) {
-        Some(guest) => Some(guest),
-        None => first_with_room(frames, seats),
-    }
-}
-
-/// The guest that is granted next where no deflate takes just what is lent already.
-fn first_with_room(frames: u32, seats: &[Seat]) -> Option<usize>
-    requires { (n : ℕ) → test_at covers seats.now n ≡ false }
-    ensures { (overdraft : ℕ) →
-        IsNext (record { frames = frames; overdraft = overdraft; seats = seats.now }) result }
-{
-    let guest = first_in_line(seats)?;
-    if has_room(frames, seats, guest) {
-        Some(guest)
-    } else {
-        None
-    }
-}
 
 /// Whether a guest's deflate may be granted.
 fn may_grant(frames: u32, seats: &[Seat], guest: usize) -> bool
@@ -201,6 +175,39 @@ pub fn happen(frames: &mut u32, overdraft: u32, seats: &mut [Seat], event: &Even
     }
 }
 
+/// Grants each deflate that takes just what is lent already, from the lowest place.
+fn grant_covered(frames: u32, seats: &mut [Seat])
+    ensures grants { (overdraft : ℕ) →
+        ByGrants (record { frames = frames; overdraft = overdraft; seats = seats.old })
+        (record { frames = frames; overdraft = overdraft; seats = seats.new }) }
+    ensures none { (n : ℕ) → test_at covers seats.new n ≡ false }
+{
+    for guest in 0..seats.len() {
+        if seats[guest].covers() {
+            let_go(seats, guest);
+        }
+    }
+}
+
+/// Grants who waits first, one after another, as long as there is room.
+fn grant_in_turn(frames: u32, seats: &mut [Seat])
+    requires { (n : ℕ) → test_at covers seats.old n ≡ false }
+    ensures grants { (overdraft : ℕ) →
+        ByGrants (record { frames = frames; overdraft = overdraft; seats = seats.old })
+        (record { frames = frames; overdraft = overdraft; seats = seats.new }) }
+    ensures none { (overdraft : ℕ) →
+        GrantsNone (record { frames = frames; overdraft = overdraft; seats = seats.new }) }
+{
+    let mut lent = owed(seats);
+    while let Some(guest) = first_in_line(seats) {
+        lent += u128::from(seats[guest].asked());
+        if lent > u128::from(frames) {
+            return;
+        }
+        let_go(seats, guest);
+    }
+}
+
 /// Grants until no guest can be granted.
 fn grant_all(frames: u32, seats: &mut [Seat])
     ensures grants { (overdraft : ℕ) →
@@ -209,9 +216,8 @@ fn grant_all(frames: u32, seats: &mut [Seat])
     ensures none { (overdraft : ℕ) →
         GrantsNone (record { frames = frames; overdraft = overdraft; seats = seats.new }) }
 {
-    while let Some(guest) = granted_next(frames, seats) {
-        let_go(seats, guest);
-    }
+    grant_covered(frames, seats);
+    grant_in_turn(frames, seats);
 }
 
 /// One step: an event (as `happen`), all grants that are possible then, and the target of each

@@ -1,13 +1,13 @@
 //! What is lent to all guests, and who is granted next.
 
 ghost use Rattle.std.specs.Prelude.{◌≡◌, ℕ, ◌+◌, ◌-◌, ◌*◌, ◌<◌, ◌≤◌, length, map, nat_le};
-ghost use Rattle.std.specs.Prelude.{MatchOption, Some, None, true, false};
+ghost use Rattle.std.specs.Prelude.{MatchOption, Some, None};
 ghost use Rattle.vb_host.specs.Lending.{owed, shown_owed, waited, last_turn, next_turn, held_at};
 ghost use Rattle.vb_host.specs.Lending.{is_first};
-ghost use Rattle.vb_host.specs.Lending.{value_at, test_at};
+ghost use Rattle.vb_host.specs.Lending.{value_at};
 ghost use Rattle.std.specs.List.{list_all};
 ghost use Rattle.vb_host.specs.Line.{IsFirst, FirstBelow, lined};
-ghost use Rattle.vb_host.specs.Seats.{asked, covers, is_done};
+ghost use Rattle.vb_host.specs.Seats.{asked, is_done};
 
 use crate::Seat;
 
@@ -125,20 +125,6 @@ pub(crate) fn is_first(seats: &[Seat], guest: usize) -> bool
         Some(first) => first == guest,
         None => false,
     }
-}
-
-/// The place of the first guest whose deflate takes just what is lent already.
-pub(crate) fn first_covered(seats: &[Seat]) -> Option<usize>
-    ensures { MatchOption result ((n : ℕ) → test_at covers seats.now n ≡ false)
-        (λ n. (n < length seats.now) × (test_at covers seats.now n ≡ true)
-        × ((k : ℕ) → k < n → test_at covers seats.now k ≡ false)) }
-{
-    for place in 0..seats.len() {
-        if seats[place].covers() {
-            return Some(place);
-        }
-    }
-    None
 }
 
 /// What is lent to all guests together, with what a guest asks for.
