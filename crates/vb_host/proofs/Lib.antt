@@ -28,6 +28,7 @@ pub mod Serving
 pub mod Receiving
 pub mod Possible
 pub mod Outcome
+pub mod Staying
 pub mod Events
 pub mod Lower
 pub mod RoomLeft

@@ -218,6 +218,13 @@ TargetsArePossible =
     → AllByRecursion (λ s. s.ballooned ≤ s.pages) m.seats
     → AllByRecursion (IsPossible (room m)) m.seats
 
+-- So after a step another event that changes nothing isn't followed by anything.
+abbrev pub SettledStays : Type 0
+SettledStays =
+    (l m k : Lending) (e f : Event) → IsStep l e m
+    → AllByRecursion (λ s. s.ballooned ≤ s.pages) m.seats
+    → happens m f ≡ m → IsStep m f k → k ≡ m
+
 -- A target lends nothing of what those that wait ask for.
 abbrev pub LeavesRoom : Type 0
 LeavesRoom =

@@ -2,7 +2,7 @@
 
 ghost use Rattle.vb_host.specs.Promises.{BudgetHolds, LimitsHold, TowardNeverWaits, NeverStuck};
 ghost use Rattle.vb_host.specs.Promises.{TowardNeverWaitsLater, NobodyWaits, IsTheLender};
-ghost use Rattle.vb_host.specs.Promises.{StepsSettle};
+ghost use Rattle.vb_host.specs.Promises.{StepsSettle, SettledStays};
 ghost use Rattle.vb_host.specs.Promises.{TargetsArePossible, OneOutcome, StepsAreEvents};
 ghost use Rattle.vb_host.specs.Promises.{LeavesRoom, NeverBelowWanted, NeverMore, IsPaidBack};
 ghost use Rattle.vb_host.specs.Promises.{ReportsTell};
@@ -135,11 +135,12 @@ pub fn one_round_each_serves_all()
 {}
 
 /// A step has one outcome, and leaves nothing to grant, and no target that may be nearer to what is
-/// wanted.
+/// wanted; so that a step by an event that changes nothing changes nothing.
 pub fn steps_settle()
     ensures settle { StepsSettle }
     ensures one { OneOutcome }
     ensures targets { TargetsArePossible }
+    ensures stays { SettledStays }
 {}
 
 /// A target lends nothing of what those that wait ask for, and none is below the one that is
