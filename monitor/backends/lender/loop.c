@@ -180,7 +180,7 @@ static unsigned first_read(struct host *host)
 {
     const struct seat *next = host->reads_next;
     host->reads_next = NULL;
-    for (unsigned i = 0; i < count_seats(host); i++)
+    for (unsigned i = 0; next && i < count_seats(host); i++)
         if (seat_at(host, i) == next)
             return i;
     return 0;

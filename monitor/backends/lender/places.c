@@ -2,6 +2,7 @@
 #include "places.h"
 
 #include <stdlib.h>
+#include <string.h>
 
 /* The seat of this number, of those that are leaving after all others; NULL after these. */
 static struct seat *seat_at(const struct host *host, unsigned number)
@@ -47,13 +48,12 @@ static void note_grant(struct seat *seat)
     host->news = true;
 }
 
-/* Whether a step may have changed a guest: all but the one of its event by a grant, or by another
- * target. */
-static bool may_have_changed(const struct seat *seat, size_t guest)
+/* Whether all was noted and sent that steps have made of it. */
+static bool is_followed(const struct seat *seat)
 {
     const VbSeat *its = place_of(seat);
-    return seat->place == guest || seat->added != NO_PLACE || its->granted != seat->granted_asks ||
-           its->target_number != seat->exchange.sent;
+    bool is_noted = !seat->holds || its->granted == seat->granted_asks;
+    return is_noted && seat->added == NO_PLACE && its->target_number == seat->exchange.sent;
 }
 
 /* Notes and sends what a step has made of a guest. */
@@ -94,7 +94,7 @@ void places_step(struct host *host, VbHostEvent event)
     host->unsettled = false;
     expect_done(vb_host_step(&host->lends, host->places, host->place_count, &event), &event);
     for (unsigned i = 0; (seat = seat_at(host, i)); i++)
-        if (all || may_have_changed(seat, event.guest))
+        if (all || seat->place == event.guest || !is_followed(seat))
             follow_step(seat);
     for (unsigned i = 0; (seat = seat_at(host, i)); i++)
         if (seat->added != NO_PLACE)
@@ -105,6 +105,19 @@ void places_settle(struct host *host)
 {
     if (host->unsettled)
         places_step(host, (VbHostEvent){.kind = VB_WANTS, .guest = host->place_count});
+}
+
+/* Whether a step by what it says would change anything: where none is due, none does that changes
+ * nothing at its place (`SettledStays` of vb_host). Most reports say what is known already. */
+static bool is_news(const struct seat *seat, VbHostEvent event)
+{
+    const struct host *host = seat->host;
+    VbHost lends = host->lends;
+    VbSeat alone = *place_of(seat);
+    event.guest = 0;
+    expect_done(vb_host_happen(&lends, &alone, 1, &event), &event);
+    return host->unsettled || !is_followed(seat) ||
+           memcmp(&alone, place_of(seat), sizeof alone) != 0;
 }
 
 /* Nobody has any memory there any longer. */
@@ -184,8 +197,9 @@ static void take_back(struct seat *seat, uint32_t pages)
 /* It has reported. */
 static void hear(struct seat *seat, VbReport report)
 {
-    places_step(seat->host,
-                (VbHostEvent){.kind = VB_HEARS, .guest = seat->place, .report = report});
+    VbHostEvent event = {.kind = VB_HEARS, .guest = seat->place, .report = report};
+    if (is_news(seat, event))
+        places_step(seat->host, event);
 }
 
 /* A guest that isn't let in yet. */
@@ -223,8 +237,11 @@ static void follow(struct seat *seat, uint32_t pages, uint32_t target)
 {
     VbMessage message = ask_message(seat, &seat->report);
     bool is_uncounted = place_of(seat)->uncounted;
-    VbReport report = vb_seat_follow(place_of(seat), &message, pages, target);
-    happen(seat->host, taking_over(seat, pages, report));
+    VbHostEvent event =
+        taking_over(seat, pages, vb_seat_follow(place_of(seat), &message, pages, target));
+    if (!is_news(seat, event))
+        return;
+    happen(seat->host, event);
     if (is_uncounted)
         happen(seat->host, (VbHostEvent){.kind = VB_UNCOUNTS, .guest = seat->place});
 }
