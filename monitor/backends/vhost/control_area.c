@@ -6,8 +6,8 @@
 
 enum { HEAD_OF_CONFIG = 12 };
 
-/* Whose write of the configuration it is. */
-enum { OF_DRIVER = 0, OF_CLIENT = 1 };
+/* Whose write of the configuration it is; rust-vmm's frontend says 1 of a driver's. */
+enum { OF_CLIENT = 1 };
 
 /* Where things are in the area, whose first byte follows the driver's configuration. */
 enum {
@@ -157,13 +157,19 @@ static enum outcome take_own(struct backend *backend, uint32_t offset, const uin
     return is_comer ? take_comer(backend, words[0], words[1]) : obey(backend, words[0], words[1]);
 }
 
+/* Whether it is a write of the driver's fields alone, of which the client's own has none. */
+static bool is_of_driver(uint32_t offset, uint32_t size)
+{
+    return offset >= ACTUAL_AT && size <= NAME_AT && offset <= NAME_AT - size;
+}
+
 enum outcome set_config(struct backend *backend, struct message *message)
 {
     uint32_t offset = message_u32(message, 0), size = message_u32(message, 4);
     if (!has_bytes(message, size))
         return STOP;
     const uint8_t *bytes = message->body + HEAD_OF_CONFIG;
-    if (message_u32(message, 8) == OF_CLIENT)
+    if (message_u32(message, 8) == OF_CLIENT && !is_of_driver(offset, size))
         return take_own(backend, offset, bytes, size);
     return balloon_write_config(&backend->balloon, offset, bytes, size) == VB_OK ? DONE : FAILED;
 }

@@ -34,18 +34,21 @@ QUEUE = (
 
 
 class Offer(NamedTuple):
-    """What a backend offers: protocol features by their bits, memory slots; and its target at
-    first."""
+    """What a backend offers: features, protocol features by their bits, and memory slots; and its
+    target at first."""
 
+    features: int
     protocol: tuple
     slots: int
     target: int
 
 
 # MQ, REPLY_ACK, CONFIG, RESET_DEVICE and CONFIGURE_MEM_SLOTS; those of `vhost_user_balloon` besides
-# are BACKEND_REQ, INBAND_NOTIFICATIONS and STATUS. The crate has 509 slots.
+# are LOG_SHMFD, BACKEND_REQ, INBAND_NOTIFICATIONS, STATUS and DEVICE_STATE, and bit 26 of the
+# features, the log of writes. The crate has 509 slots.
 SAME = (0, 3, 9, 13, 15)
-OF_BALLOON, OF_EXAMPLE = Offer((*SAME, 5, 14, 16), 32, 0), Offer(SAME, 509, TARGET)
+OF_BALLOON = Offer(FEATURES | 1 << 26, (*SAME, 1, 5, 14, 16, 19), 32, 0)
+OF_EXAMPLE = Offer(FEATURES, SAME, 509, TARGET)
 
 
 def config(target, actual):
@@ -61,7 +64,7 @@ def lines_of(offer):
     )
     change = ("waits", "handle_request 0", "changes 1") if 5 in offer.protocol else ()
     return [
-        f"get_features {FEATURES}",
+        f"get_features {offer.features}",
         "set_owner ()",
         f"get_protocol_features {sum(1 << it for it in offer.protocol)}",
         "set_protocol_features ()",
@@ -167,7 +170,11 @@ def test_each_call_is_answered(frontend, backend, tmp_path):
 
 @pytest.mark.parametrize(
     "name, why",
-    (("log_base", "refused: message 6 is unknown"), ("log_fd", "refused: message 7 is unknown")),
+    (
+        # The crate sends it without the size and the offset of a log in a file.
+        ("log_base", "refused: SET_LOG_BASE has 8 bytes"),
+        ("log_fd", "refused: message 7 is unknown"),
+    ),
 )
 def test_a_call_that_is_none_of_the_backend_s(frontend, backend, tmp_path, name, why):
     lines = talk(frontend, tmp_path / "socket", None, name)

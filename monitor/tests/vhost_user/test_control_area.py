@@ -123,7 +123,8 @@ def test_an_option_to_keep_pages_stays(serve_well):
 WRONG = (
     (0, bytes(3)),
     (0, bytes(8)),
-    (4, bytes(4)),
+    (3, bytes(4)),
+    (13, bytes(4)),
     (COMMAND_AT, bytes(4)),
     (COMMAND_AT, struct.pack("<II", 1, 0)),
     (COMMAND_AT, struct.pack("<II", 1, 4)),
@@ -141,6 +142,20 @@ def test_what_is_no_command(serve, at, data):
     assert write(client, at, data) == FAILED
     assert "control area" in client.why()
     assert area(client) == before
+
+
+# Of what a driver writes from `actual` up to byte 16: how many bytes, and what `actual` is then.
+OF_ACTUAL = ((4, 263), (12, 263), (2, 0))
+
+
+@pytest.mark.parametrize("size, actual", OF_ACTUAL)
+def test_a_driver_s_write_as_rust_vmm_has_it(start_by_events, size, actual):
+    """With the flag that QEMU has for the client's own. A part of a field is refused."""
+    client = start_by_events()
+    answer = write(client, 4, bytes([7, 1, 0, 0, *bytes(8)])[:size])
+    assert answer == (bytes(8) if actual else FAILED)
+    assert struct.unpack_from("<I", area(client), 4) == (actual,)
+    assert client.why() == ""
 
 
 def test_a_guest_that_comes_has_room_without_a_lender(serve_well):
