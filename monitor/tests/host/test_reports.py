@@ -1,11 +1,12 @@
 """What a guest's process reports: each field of a report, with numbers that differ."""
 
 import select
+import string
 import struct
 
 import pytest
 from bigvasta import __version__
-from played import NUMBERS, ORDER_LOOK, ORDER_TARGET, TELL_REPORT, VERSION, Message
+from played import NUMBERS, ORDER_LOOK, ORDER_TARGET, TELL_REPORT, VERSION, Message, Played
 from tenants import AVAILABLE, FREE, eventually
 from test_channels import channel
 from test_strict import GIVEN, STRICT
@@ -113,3 +114,32 @@ def test_pages_that_are_given_are_news_of_a_strict_guest_alone(lend, come, stric
         assert [its.ballooned for its in unasked(it)] == [MORE] * strict
         assert reported(it).ballooned == MORE
     lend(1, *STRICT, folder=lender.folder)
+
+
+# Bytes of a version with the 0 after it, and the signs that versions have.
+BYTES, SIGNS = 32, string.ascii_letters + string.digits + ".+~-"
+
+# What a process says that its version is, and what is shown: nothing of what isn't one.
+VERSIONS = (
+    *((SIGNS[at : at + 22],) * 2 for at in range(0, len(SIGNS), 22)),
+    *((f"0.4{it}0", "") for it in " *,/:@[_`{}\n\x1b\x7f\x80\xff"),
+    *((f"{it}0.4", "") for it in "\n\xff"),
+    ("1" * (BYTES - 1),) * 2,
+    ("1" * BYTES, ""),
+    ("", ""),
+)
+
+
+def test_what_is_shown_of_the_version_that_a_process_says(lend):
+    lender = lend(1, *STRICT)
+    a = Played(lender, "a", pages=ALL)
+
+    def shown():
+        its = lender.status()["guests"][0]
+        return its["actual"], its["version"]
+
+    for number, (said, wanted) in enumerate(VERSIONS, 1):
+        a.report(words=said.encode("latin-1"), actual=number)
+        eventually(lambda: shown()[0] == number * PAGE, lender.said)
+        assert shown() == (number * PAGE, wanted), said
+    a.leave()
