@@ -7,6 +7,7 @@ from bigvasta.picture import Shown, picture
 from bigvasta.statuses import Refused
 from hosts import Answering
 from installed import bigvasta
+from vhost_client import Client
 from waiting import eventually
 
 MIB, PAGE = 1 << 20, 4096
@@ -55,6 +56,13 @@ def test_who_finds_no_room_is_seen_until_it_comes(host, strict):
     view = picture(host.ask("status"), 100, 20, Shown())
     assert any("refused: 0.1 MiB short" in it.text for it in view)
     assert "refused a: no room for 512K: 88K are missing" in host.said()
+    # Nor is a client admitted that has handed over no memory yet.
+    client = Client(f"{host.folder}/a")
+    client.negotiate()
+    eventually(lambda: host.guest("a")["process"])
+    assert refusal(host) == (wanted, 2)
+    client.leave()
+    eventually(lambda: host.guest("a")["state"] == "absent")
     # It comes in: nothing is wrong with it any longer, and the count stays.
     host.ask("budget", bytes=GUEST)
     guest = Answering(host, "a")
