@@ -57,6 +57,33 @@ def test_a_wrong_file_is_named_by_line_and_key(program, folder, file, old, new, 
     assert status == 1 and f"{file}: {said}" in lines, lines
 
 
+# Lines whose values are at the bounds of what their keys take, by their sections.
+AT_BOUNDS = (
+    *(("[host]", f"budget = {it}") for it in ("4K", "17179869176K")),
+    *(("[host]", f"{it} = 0K") for it in ("lowest_budget", "overdraft", "keep", "floor")),
+    *(("[host]", f"{it} = 480M") for it in ("lowest_budget", "overdraft")),
+    *(("[host]", f"reserve = {it}") for it in (0, 100)),
+    *(("[host]", f"step = {it}") for it in (0, 4294967294)),
+    *(("[host]", f"patience = {it}") for it in (1, 86400)),
+    *(("[host]", f"period = {it}") for it in (10, 60000)),
+    ("[host]", f"on_short = /{'x' * 126}"),
+    *(("[control]", f"mode = {it}") for it in ("000", "0777")),
+    *(("[log]", f"lines = {it}") for it in (0, 4294967294)),
+    *(("[guest web-1]", f"priority = {it}") for it in (0, 4294967295)),
+    *(("[guest web-1]", f"weight = {it}") for it in (1, 4294967295)),
+    *(("[guest web-1]", f"{it} = 0K") for it in ("least", "most", "overhead", "memory")),
+    ("[guest web-1]", "least = 8M\nmost = 8M"),
+    ("[guest web-1]", "start = 8M\nmost = 8M\nstrict = yes\nlimit = tmpfs:/dev/shm"),
+)
+
+
+@pytest.mark.parametrize("section, lines", AT_BOUNDS, ids=[it[1] for it in AT_BOUNDS])
+def test_a_value_at_its_bound_is_good(program, folder, file, section, lines):
+    others = re.sub(rf"(?m)^{lines.split()[0]} = .*\n", "", filled(folder))
+    file.write_text(others.replace(f"{section}\n", f"{section}\n{lines}\n"))
+    assert checked(program, file) == (0, [])
+
+
 def test_a_file_by_which_no_host_starts(program, folder, file):
     file.write_text("[host]\n")
     assert checked(program, file) == (
