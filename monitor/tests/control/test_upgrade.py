@@ -119,6 +119,15 @@ def test_a_process_whose_program_does_not_go_on_stays(program, folder, tmp_path)
     assert (ran.returncode, ran.stdout.splitlines()) == (5, said)
     eventually(lambda: host.guest("a")["answers"])
     assert host.guest("a")["memory"] > 0
+    # One that goes on takes it over, and says nothing of the one that didn't.
+    stays = f"a: its process stays of version {OLDER}: the program that is there now "
+    eventually(lambda: any(it.startswith(stays) for it in host.said()), host.said)
+    install(program, installed)
+    ran = bigvasta(host.control, "upgrade")
+    said = [f"host: {version()} -> {version()}", f"a: {OLDER} -> {version()}"]
+    assert (ran.returncode, ran.stdout.splitlines()) == (0, said)
+    eventually(lambda: host.guest("a")["answers"])
+    assert len([it for it in host.said() if "its process stays" in it]) == 1, host.said()
     host.ask("remove", name="a", force=True)
     assert host.end() == 0
 

@@ -2,6 +2,7 @@
 it is to end, and as it is admitted."""
 
 import os
+import select
 import signal
 import struct
 
@@ -12,11 +13,14 @@ from test_between_looks import report_that
 from test_channels import channel
 from test_reports import order, reported
 from test_strict import STRICT, Later
-from vhost_client import ADD_MEM_REG, DEFLATE, INFLATE, OFFERED, Client
+from vhost_client import ADD_MEM_REG, DEFLATE, INFLATE, OFFERED, PAGES_OF_REGION, Client
 from waiting import PATIENCE
 
 # Pages of the first region that its driver gives, after its rings; and how many it takes back.
 GIVEN, TAKEN = [*range(PAGES_OF_ALL + 20, PAGES_OF_ALL + 60)], 10
+
+# Seconds after which nothing comes of what was said before.
+QUIET = 0.5
 
 
 def begin(client):
@@ -44,6 +48,27 @@ def test_a_client_that_cannot_be_told_is_not_served_on_while_it_waits(lend, come
         lambda: "refused c: the client can't be told of a used buffer" in lender.said(), lender.said
     )
     lender.become("c", here=0, lent=0)
+    client.leave()
+
+
+def words_of(client, limit):
+    """Returns what a client is told until nothing comes for this time."""
+    found = []
+    while select.select([client.own], [], [], limit)[0]:
+        found.append(client.told())
+    return found
+
+
+def test_memory_that_is_added_changes_no_configuration(lend):
+    """Its target is as before, and its driver is told of no other."""
+    lender = lend(1, *STRICT)
+    client = Client(lender.add("a"))
+    begin(client)
+    lender.become("a", pages=PAGES_OF_REGION, ready=1)
+    words_of(client, QUIET)
+    client.accepted(ADD_MEM_REG, client.region_body(1), client.files[1:])
+    assert words_of(client, 0) == []
+    lender.become("a", pages=2 * PAGES_OF_REGION)
     client.leave()
 
 
