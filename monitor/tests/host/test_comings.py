@@ -6,13 +6,14 @@ import select
 import time
 
 import pytest
+from bigvasta.connection import Connection
 from played import TELL_REFUSED, TELL_REMARK, VERSION, WAIT_ROOM, Listens, Message, Played
 from tenants import AVAILABLE, FREE, eventually, go_on, status_of, stop
 from test_later_lender import QUICK
 from test_pressed import KILLS
 from test_strict import GIVEN, STRICT, Later
 from test_turns import connect
-from vhost_client import ADD_MEM_REG, BY_MESSAGES, OFFERED, REM_MEM_REG, Client
+from vhost_client import ADD_MEM_REG, BY_MESSAGES, OFFERED, PAGE, REM_MEM_REG, Client
 from waiting import PATIENCE
 
 # Seconds: what a client costs, what memory of the budget's size does, and what a seat may owe.
@@ -162,8 +163,9 @@ def test_the_last_words_of_a_process_that_reads_no_longer_are_heard(lend):
     assert "a: a remark" in said and "refused a: a fault" in said, said
 
 
-# Pages of a slot, and seconds in which slots come and go.
+# Pages of a slot, and seconds in which slots come and go; nobody is looked at by itself.
 SLOT, LONG = 64, 6
+SELDOM = ("--period", "60000")
 
 
 def test_a_slot_that_comes_and_goes_is_slowed_like_a_client(lend):
@@ -186,3 +188,27 @@ def test_a_slot_that_comes_and_goes_is_slowed_like_a_client(lend):
     seconds = time.monotonic() - begin
     assert 0 < count <= most_clients(OF_BUDGET / 2, seconds)
     client.leave()
+
+
+def test_a_slot_that_is_asked_for_as_the_one_before_comes_is_slowed_like_any_other(lend):
+    """What came before it cost more than is owed at most; it has no place in line, though it is the
+    next thing that its process says, and though there is room."""
+    lender = lend(1, *STRICT, *COSTS, *SELDOM)
+
+    def pages_of(field):
+        with Connection(f"{lender.folder}/.control") as control:
+            return control.ask("guest", name="a")["guest"][field] // PAGE
+
+    lender.set_budget(2 * SLOT)
+    b, a = Played(lender, "b", pages=SLOT), Played(lender, "a", pages=SLOT)
+    for wait in range(1, 2 * REPORTS):
+        a.report(waits=WAIT_ROOM, wait=wait, wanted=2 * SLOT)
+    lender.become("a", waits="room", lent=SLOT)
+    lender.set_budget(4 * SLOT)
+    # No line is said to it, at which it would be asked for another report.
+    eventually(lambda: pages_of("loan") == 2 * SLOT)
+    a.report(pages=2 * SLOT, wait=2 * REPORTS, wanted=3 * SLOT, actual=7)
+    eventually(lambda: pages_of("actual") == 7)
+    assert (pages_of("memory"), pages_of("loan")) == (2 * SLOT, 2 * SLOT)
+    for it in a, b:
+        it.leave()
