@@ -130,6 +130,55 @@ def test_who_is_upgraded():
     assert set(upgrade.served(answer)) == {"coming", "ready"}
 
 
+class Renewing:
+    """A host with one guest, whose process is another one from each of these moments on, 0 where
+    none has reported, and None once the guest has gone; time passes as its client sleeps."""
+
+    def __init__(self, processes):
+        self.processes, self.now, self.asked = {0: 5, **processes}, 0, []
+
+    def sleep(self, seconds):
+        """Lets time pass."""
+        self.now = round(self.now + seconds, 3)
+
+    def monotonic(self):
+        """Returns the time."""
+        return self.now
+
+    def ask(self, request, **fields):
+        """Answers with what there is, and notes when it is asked for another process."""
+        process = [it for at, it in self.processes.items() if at <= self.now][-1]
+        assert len(self.asked) < 99, "it asks for ever"
+        if request == "renew":
+            self.asked.append(self.now)
+            if process is None:
+                raise Refused({"code": "no-guest", "text": ""})
+        return {
+            "guests": [{"name": "a", "state": "ready", "process": process}] * (process is not None)
+        }
+
+
+# From when on a guest has which process; the one in the end; and when the host is asked for it.
+RENEWED = (
+    ({0.3: 7}, 7, [0]),
+    ({0.8: 7}, 7, [0, 0.5]),
+    ({0.2: 0, 0.7: 7}, 7, [0, 0.5]),
+    ({}, 5, [it / 2 for it in range(20)]),
+    ({9.9: 7}, 7, [it / 2 for it in range(20)]),
+    ({0.2: None}, None, [0]),
+    ({0: None}, None, [0]),
+)
+
+
+@pytest.mark.parametrize("processes, process, asked", RENEWED)
+def test_another_process_is_asked_for_twice_a_second(monkeypatch, processes, process, asked):
+    host = Renewing(processes)
+    monkeypatch.setattr(upgrade, "Connection", lambda _: contextlib.nullcontext(host))
+    monkeypatch.setattr(upgrade, "time", host)
+    its = upgrade.renew("", {"name": "a", "process": 5})
+    assert (its and its["process"], host.asked) == (process, asked)
+
+
 class Deciding:
     """A host that has taken five decisions of which it keeps the last two, as it is told, and takes
     a sixth one."""
