@@ -1,13 +1,18 @@
 """Tests of each message of a client as vhost-user has it (QEMU's docs/interop/vhost-user.rst): its
-bytes, its files, and its protocol feature."""
+bytes, its files, and its protocol feature; and of messages that come in pieces."""
 
+import fcntl
 import re
+import select
+import struct
+import termios
 
 import linux_kit
 import pytest
 import vhost_client
-from vhost_client import MIGRATION, OFFERED, SET_PROTOCOL_FEATURES
-from vhost_demands import demand_refused, word
+from vhost_client import GET_FEATURES, INFLATE, MIGRATION, OFFERED, SET_PROTOCOL_FEATURES
+from vhost_demands import FIRST, demand_refused, word
+from waiting import PATIENCE, eventually
 
 # Numbers of protocol features.
 MQ, LOG_SHMFD, BACKEND_REQ, CONFIG, RESET_DEVICE, INBAND, MEM_SLOTS = 0, 1, 5, 9, 13, 14, 15
@@ -95,3 +100,42 @@ def test_a_message_wants_its_feature(serve, name):
     client.accepted(SET_PROTOCOL_FEATURES, word((OFFERED | MIGRATION) & ~(1 << feature)))
     send(client, name, sizes[0], files[0])
     demand_refused(client, f"{name} isn't negotiated")
+
+
+# Bytes of a piece, which is neither a head nor a body.
+PIECE = 5
+
+
+class InPieces:
+    """A socket whose messages go in pieces, each once those before it have been read."""
+
+    def __init__(self, whole):
+        self.whole = whole
+
+    def __getattr__(self, name):
+        return getattr(self.whole, name)
+
+    def unread(self):
+        """Returns how much the other end has to read."""
+        return struct.unpack("i", fcntl.ioctl(self.whole, termios.TIOCOUTQ, bytes(4)))[0]
+
+    def sendmsg(self, parts, control=()):
+        """Sends a message, its files with the first piece."""
+        data = b"".join(parts)
+        for at in range(0, len(data), PIECE):
+            self.whole.sendmsg([data[at : at + PIECE]], control if at == 0 else [])
+            eventually(lambda: self.unread() == 0)
+
+
+def test_messages_may_come_in_pieces(serve_well):
+    client = serve_well()
+    client.socket = InPieces(client.socket)
+    client.start()
+    client.post_pages(INFLATE, [FIRST])
+    assert (client.told(), client.used(INFLATE)[0]) == (INFLATE, 1)
+
+
+def test_who_goes_before_it_has_read_its_answer_has_gone(serve_well):
+    client = serve_well()
+    client.send(GET_FEATURES, flags=1)
+    assert select.select([client.socket], [], [], PATIENCE)[0]
