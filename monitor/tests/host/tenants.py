@@ -95,6 +95,12 @@ class Guest(threading.Thread):
         with self.lock:
             self.client.post_pages(INFLATE, pages)
 
+    def give_free(self, pages):
+        """Puts free pages into its balloon: from then on it tells that it has fewer of these."""
+        with self.lock:
+            self.figures[FREE] -= len(pages)
+            self.client.post_pages(INFLATE, pages)
+
     def take(self, pages):
         """Takes pages out of its balloon."""
         with self.lock:

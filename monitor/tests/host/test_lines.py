@@ -20,7 +20,7 @@ def given(lend, come):
     lender.demand("terms b priority=1")
     lender.set_budget(146)
     lender.become("a", target=50), lender.become("b", target=60)
-    a.give(GIVEN[:50]), b.give(GIVEN[:60])
+    a.give_free(GIVEN[:50]), b.give_free(GIVEN[:60])
     lender.become("a", ballooned=50, lent=78), lender.become("b", ballooned=60, lent=68)
     a.figures[FREE] = b.figures[FREE] = 100
     lender.become("a", spare=128), lender.become("b", spare=128)
