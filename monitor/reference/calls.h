@@ -48,6 +48,7 @@ REFERENCE(host_relief);
 REFERENCE(seat_lent);
 REFERENCE(seat_asked);
 REFERENCE(seat_waits);
+REFERENCE(seat_same);
 REFERENCE(seat_due_target);
 REFERENCE(seat_due_grant);
 REFERENCE(seat_read);

@@ -1,6 +1,6 @@
 //! A host's lender as one step: seats, events as plain numbers, and what a seat says.
 
-ghost use Rattle.std.specs.Prelude.{◌≡◌, ◌-◌, ◌^◌, min};
+ghost use Rattle.std.specs.Prelude.{◌≡◌, ◌≢◌, ◌-◌, ◌≤◌, ◌^◌, min};
 ghost use Rattle.vb_virtio.specs.Tests.{one_if};
 ghost use Rattle.vb_host.specs.Least.{least_budget};
 ghost use Rattle.vb_host.specs.Lending.{room, shown_owed};
@@ -180,6 +180,16 @@ pub extern "C" fn vb_seat_waits(seat: &Seat) -> u32
     ensures { result ≡ one_if (waits seat.now) }
 {
     u32::from(seat.waits())
+}
+
+/// Whether two seats say the same.
+#[unsafe(no_mangle)]
+pub extern "C" fn vb_seat_same(seat: &Seat, other: &Seat) -> u32
+    ensures one { result ≡ 1 → seat.now ≡ other.now }
+    ensures none { result ≡ 0 → seat.now ≢ other.now }
+    ensures number { result ≤ 1 }
+{
+    u32::from(seat.is_same(other))
 }
 
 /// Whether a guest's process is to be sent its target.

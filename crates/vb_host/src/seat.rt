@@ -1,6 +1,6 @@
 //! What a lender knows of one guest, and what each event makes of it.
 
-ghost use Rattle.std.specs.Prelude.{◌≡◌, ◌+◌, ◌-◌, ◌<◌, ◌≤◌, ◌^◌};
+ghost use Rattle.std.specs.Prelude.{◌≡◌, ◌≢◌, true, false, ◌+◌, ◌-◌, ◌<◌, ◌≤◌, ◌^◌};
 ghost use Rattle.vb_host.specs.Line.{lined};
 ghost use Rattle.vb_host.specs.Seats.{apart, lent, asked, waits, covers, granting, possible_target};
 ghost use Rattle.vb_host.specs.Seats.{targeted, retargeted, uncounting};
@@ -84,6 +84,14 @@ impl Seat {
         ensures small { result ≤ 8589934590 }
     {
         self.lent_but(self.reclaimed())
+    }
+
+    /// Whether another seat says the same.
+    pub fn is_same(&self, other: &Seat) -> bool
+        ensures same { result ≡ true → self.now ≡ other.now }
+        ensures other { result ≡ false → self.now ≢ other.now }
+    {
+        *self == *other
     }
 
     /// Whether a deflate waits.

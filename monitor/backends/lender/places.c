@@ -2,7 +2,6 @@
 #include "places.h"
 
 #include <stdlib.h>
-#include <string.h>
 
 /* The seat of this number, of those that are leaving after all others; NULL after these. */
 static struct seat *seat_at(const struct host *host, unsigned number)
@@ -116,8 +115,7 @@ static bool is_news(const struct seat *seat, VbHostEvent event)
     VbSeat alone = *place_of(seat);
     event.guest = 0;
     expect_done(vb_host_happen(&lends, &alone, 1, &event), &event);
-    return host->unsettled || !is_followed(seat) ||
-           memcmp(&alone, place_of(seat), sizeof alone) != 0;
+    return host->unsettled || !is_followed(seat) || !vb_seat_same(&alone, place_of(seat));
 }
 
 /* Nobody has any memory there any longer. */

@@ -1,6 +1,7 @@
 /* Seats that no events need lead to: who waits first, which orders are due, which targets are
  * possible, what is refused, and the largest numbers. */
 #include "seats.h"
+#include <stddef.h>
 #include <string.h>
 
 /* ---- who waits first: by lines, then turns, then places */
@@ -61,8 +62,21 @@ static const struct {
     {"the deflate that waits", {20, 30, 30, 2, 0, 0, 3, 7, 0}, 1, 0},
 };
 
+/* Each byte of two seats counts, but those after the last field. */
+static void check_same_seats(void)
+{
+    for (size_t i = 0; i < sizeof(VbSeat); i++) {
+        VbSeat one, other;
+        bool counts = i < offsetof(VbSeat, deferred) + sizeof one.deferred;
+        memset(&one, 7, sizeof one), memset(&other, 7, sizeof other);
+        ((unsigned char *)&other)[i] = 9;
+        expect(vb_seat_same(&one, &other) == !counts, "a field of a seat counts");
+    }
+}
+
 void check_orders(void)
 {
+    check_same_seats();
     VbSeat seat = {.pages = 60, .ballooned = 25, .least_target = 20, .target = 30, .held = 8};
     seat.target_number = 4;
     seat.deflates = 7;

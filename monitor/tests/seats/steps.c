@@ -211,6 +211,7 @@ static void check_readers(const struct day *day)
         if (vb_seat_lent(it) != reference_seat_lent(it) ||
             vb_seat_asked(it) != reference_seat_asked(it) ||
             vb_seat_waits(it) != reference_seat_waits(it) ||
+            vb_seat_same(it, seats) != reference_seat_same(it, seats) ||
             vb_seat_due_target(it, &report) != reference_seat_due_target(it, &report) ||
             vb_seat_due_grant(it, &report) != reference_seat_due_grant(it, &report))
             fail(day, "the plain implementation reads something else of a seat");
