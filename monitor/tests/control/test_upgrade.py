@@ -2,6 +2,7 @@
 are, and shows which are of another version."""
 
 import os
+import signal
 
 from hosts import Answering, Host
 from installed import OLDER, bigvasta, install, older_program, version
@@ -119,15 +120,22 @@ def test_a_process_whose_program_does_not_go_on_stays(program, folder, tmp_path)
     assert (ran.returncode, ran.stdout.splitlines()) == (5, said)
     eventually(lambda: host.guest("a")["answers"])
     assert host.guest("a")["memory"] > 0
-    # One that goes on takes it over, and says nothing of the one that didn't.
+    # Once one has taken it over that goes on, the next process says nothing of the one that didn't.
     stays = f"a: its process stays of version {OLDER}: the program that is there now "
     eventually(lambda: any(it.startswith(stays) for it in host.said()), host.said)
     install(program, installed)
     ran = bigvasta(host.control, "upgrade")
     said = [f"host: {version()} -> {version()}", f"a: {OLDER} -> {version()}"]
     assert (ran.returncode, ran.stdout.splitlines()) == (0, said)
-    eventually(lambda: host.guest("a")["answers"])
-    assert len([it for it in host.said() if "its process stays" in it]) == 1, host.said()
+    process, ended = (
+        host.guest("a")["process"],
+        "a: its process has ended by signal 9: another one ",
+    )
+    os.kill(process, signal.SIGKILL)
+    eventually(lambda: host.guest("a")["process"] not in (0, process))
+    said = iter(host.said())
+    assert any(it.startswith(ended) for it in said)
+    assert not any(it.startswith("a: its process stays ") for it in said), host.said()
     host.ask("remove", name="a", force=True)
     assert host.end() == 0
 
