@@ -6,7 +6,8 @@ import time
 
 import pytest
 from host_small import Talker
-from tenants import process_of
+from tenants import eventually, process_of
+from vhost_client import Client
 
 # KiB that a guest's process may have for itself, and a part of one processor for all.
 MOST_KIB, MOST_SHARE = 1536, 0.02
@@ -65,3 +66,40 @@ def test_sixty_four_idle_guests(lend):
             "for what they take"
         )
     assert sum(shares) <= MOST_SHARE
+
+
+# Milliseconds between two looks, seconds in which a process that sleeps runs for none, and tries: a
+# look may come amid one.
+SELDOM, QUIET, TRIES = ("--period", "60000"), 0.2, 3
+
+
+def sleeps(process):
+    """Whether a process doesn't run for a while."""
+    before = seconds_of(process)
+    time.sleep(QUIET)
+    return seconds_of(process) == before
+
+
+def test_a_host_that_awaits_clients_sleeps(lend):
+    lender = lend(1, *SELDOM)
+    lender.demand("add a")
+    eventually(lambda: sleeps(lender.process.pid), "it never sleeps")
+    client = Client(lender.add("b"))
+    client.begin()
+    eventually(lambda: sleeps(lender.process.pid), "it never sleeps beside a client")
+    client.leave()
+
+
+def test_clients_that_come_after_one_another_are_taken_between_two_looks(lend):
+    """The lender wakes for those by itself, though nothing else comes."""
+    lender = lend(1, *SELDOM)
+    path = lender.add("a")
+    for _ in range(TRIES):
+        looks = lender.counters()["looks"]
+        for _ in range(3):
+            client = Client(path)
+            client.begin()
+            client.leave()
+        if lender.counters()["looks"] == looks:
+            return
+    raise AssertionError("each time it has looked meanwhile")
