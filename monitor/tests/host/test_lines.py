@@ -8,7 +8,10 @@ from bigvasta.connection import Connection
 from played import WAIT_RESET, Played
 from tenants import FREE, eventually
 from test_strict import GIVEN, STRICT, Later, lent, used, waits_of
-from vhost_client import DEFLATE, PAGE
+from vhost_client import DEFLATE, PAGE, RESET_DEVICE, SET_OWNER, UML_PROTOCOL, Client
+
+# The protocol feature by which a device is reset.
+RESETS = 1 << 13
 
 
 @pytest.fixture
@@ -48,6 +51,39 @@ def test_a_new_life_waits_for_what_was_in_the_balloon(given):
     set_budget(196)  # 68 are lent to the other one
     begins.ends()
     lender.become("a", waits="nothing", ballooned=0, lent=128)
+
+
+class Resetting(Client):
+    """A client that may reset its device, and kicks by messages."""
+
+    def begin(self, protocol=UML_PROTOCOL | RESETS):
+        super().begin(UML_PROTOCOL | RESETS)
+
+
+# How a client resets its device, whatever its driver has put into the balloon.
+WAYS = {
+    "the device": lambda client: client.accepted(RESET_DEVICE),
+    "the session": lambda client: client.accepted(SET_OWNER),
+}
+
+
+@pytest.mark.parametrize("pages", (1, 50))
+@pytest.mark.parametrize("way", WAYS)
+def test_a_reset_waits_for_what_was_in_the_balloon(lend, come, way, pages):
+    lender = lend(1, *STRICT)
+    a = come(lender, "a", {FREE: 100}, client=Resetting)
+    lender.set_budget(128 - pages)
+    lender.become("a", asked=pages)
+    a.give(GIVEN[:pages])
+    lender.become("a", ballooned=pages, lent=128 - pages)
+    a.ended.set(), a.join()
+    resets = Later(lambda: WAYS[way](a.client))
+    lender.become("a", waits="reset", ballooned=pages, lent=128 - pages)
+    assert resets.waits()
+    lender.set_budget(128)
+    resets.ends()
+    lender.become("a", waits="nothing", ballooned=0)
+    assert lender.counters()["gone"] == 0
 
 
 def test_a_deflate_passes_a_new_life(given):
