@@ -229,6 +229,10 @@ def test_each_field_of_a_decision(made, host):
         )
 
 
+# Seconds in which a host looks at its guests some times.
+LOOKS = 0.5
+
+
 def test_each_field_of_an_event(made, host):
     """From one phase to the next: what each guest does, by its states, flags and waits in
     made.py."""
@@ -275,6 +279,10 @@ def test_each_field_of_an_event(made, host):
         # All of what this host has changes with its phase, and test_audit.py looks at such changes.
         others = (it for it in events if it["event"] != "changed")
         found = list(itertools.islice(others, len(wanted)))
+        # Looks after that tell of nothing that was told: what comes next is of the phase before.
+        time.sleep(LOOKS)
+        host.ask("floor", bytes=0)
+        assert next(others)["event"] == "budget"
     last, begin = found[0]["number"] - 1, found[0]["time"]
     for it, its in zip(found, wanted):
         number = it.pop("number")
