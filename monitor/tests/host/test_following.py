@@ -192,11 +192,14 @@ NO_LINES = ("", "MemTotal: 5 kB\nMemAvailable: 5 MB\n", "MemAvailable: 5 kB\n", 
 
 
 @pytest.mark.parametrize("text", NO_LINES)
-def test_a_machine_that_can_t_be_read_is_refused(plain, machine, text):
+def test_a_machine_that_can_t_be_read_is_refused(plain, checked, machine, text):
+    """By the compiler's checks, too, of which one is that nothing is read beyond its text."""
     machine.write("meminfo", text)
     words = (f"{machine.folder}/host", "--budget", "1", "--keep", "1", "--machine", machine.folder)
     os.mkdir(words[0])
-    assert said_by(plain, *words) == "keep: MemAvailable of the machine: No data available\n"
+    for program in plain, checked:
+        said = said_by(program, *words)
+        assert said == "keep: MemAvailable of the machine: No data available\n", said
 
 
 def test_the_budget_stays_while_the_machine_can_t_be_read(follow, machine):
