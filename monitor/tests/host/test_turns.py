@@ -182,6 +182,22 @@ def test_who_comes_seldom_comes_first(lend):
     assert min(keepers, key=keepers.get) == "b", keepers
 
 
+def test_a_guest_is_removed_in_the_turn_in_which_its_client_comes(lend, checked):
+    """Nothing is started for it, by the compiler's checks: it isn't there any longer."""
+    lender = lend(1, program=checked)
+    lender.demand("add a")
+    stop(lender.process.pid)
+    eventually(lambda: status_of(lender.process.pid)["State"].startswith("T"))
+    clients = [connect(lender, it) for it in (".control", "a")]
+    clients[0].send(b'{"version": 1, "request": "remove", "name": "a"}\n')
+    go_on(lender.process.pid)
+    with clients[0].makefile("rb") as lines:
+        assert json.loads(lines.readline())["ok"]
+    assert lender.guests() == {}
+    for it in clients:
+        it.close()
+
+
 def test_comings_of_all_seats_have_a_pace(lend):
     lender = lend(64)
     names, begin = add_all(lender), time.monotonic()
