@@ -69,6 +69,23 @@ def wait_for(lender, *wanted):
     eventually(lambda: shortages(lender) == wanted, lambda: (shortages(lender), lender.said()))
 
 
+# It notes what the kernel says of it: a shell might have changed that.
+STATUS = """#!/usr/bin/python3
+print(open("/proc/self/status").read(), file=open("{log}", "w"))
+"""
+
+
+def test_it_blocks_no_signal(lend, come, command, checked):
+    """Though the host does, which waits for them in its loop."""
+    with open(command.path, "w", encoding="ascii") as file:
+        file.write(STATUS.format(log=command.log))
+    lender = lend(1, *command.options(), program=checked)
+    two(lender, come)
+    lender.set_budget(156)
+    found = eventually(lambda: [it.split() for it in command.noted() if it.startswith("SigBlk:")])
+    assert found == [["SigBlk:", 16 * "0"]]
+
+
 def test_it_is_run_once_for_a_shortage_that_lasts(lend, come, command):
     """With the guest of the lowest priority, and the MiB that are missing: 100 pages are a part of
     one."""

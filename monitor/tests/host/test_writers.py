@@ -6,7 +6,7 @@ import resource
 
 import pytest
 from host_checks import files_of
-from tenants import FREE, eventually, has_ended, writer_of
+from tenants import FREE, eventually, has_ended, status_of, writer_of
 from test_strict import STRICT, Later
 from vhost_client import Client
 
@@ -29,6 +29,14 @@ def test_a_writer_has_its_channel_and_its_lock_alone(lend, come, limits):
         == [channel, channel, channel, lock],
         lambda: os.listdir(folder),
     )
+
+
+def test_a_writer_blocks_no_signal(lend, come, checked, limits):
+    """Though its lender does, which waits for them in its loop."""
+    lender, its = lend(1, *STRICT, program=checked), limits("a")
+    come(lender, "a", {FREE: 100}, f"overhead=0 limit={its.term}")
+    assert int(status_of(lender.process.pid)["SigBlk"], 16)
+    assert not int(status_of(writer_of(lender, "a"))["SigBlk"], 16)
 
 
 def test_of_a_writer_that_finds_too_few_files_left_none_stays_open(lend, limits):
