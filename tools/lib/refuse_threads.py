@@ -106,10 +106,7 @@ def walk_tests(proved):
         "|\n|---|---|"
     )
     print(f"| {left.count(NO_REPORT)} requests | `Memory`, and no frame is out |")
-    print(
-        f"| {left.count(REPORT)} requests, or none | a report, whose histories replay, and no "
-        "frame is out |"
-    )
+    print(f"| {left.count(REPORT)} requests, or none | a whole report, and no frame is out |")
     print(f"| {left.count(NO_RUN)} requests | they are the test's own, beside the run |")
     print(f"| {ended} threads | `Memory`, and no frame is out |")
     wrong = count_wrong("request of the test", runs, what_is_left)

@@ -1,5 +1,4 @@
-//! Tests alone: guests on threads, whose histories are replayed in a guest of plain lists and
-//! numbers.
+//! Tests alone: guests on threads, whose threads note what they do.
 #![tactic(auto)]
 
 #[cfg(test)]

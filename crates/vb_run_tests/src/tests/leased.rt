@@ -3,7 +3,6 @@
 use crate::tests::holds::{Hold, Holding, first_unmet};
 use crate::tests::notes::Note;
 use crate::tests::order::{Broken, Run};
-use crate::tests::replay::all_replay;
 use crate::tests::watch::{Watch, add_watched};
 use std::alloc::{AllocError, Global};
 use std::sync::Wait;
@@ -15,7 +14,7 @@ use vb_shared::{FramePass, Leased, SharedFrames};
 use vb_slot::LonePort;
 
 /// How a guest's device serves requests.
-#[derive(Clone, Copy, PartialEq, Eq)]
+#[derive(Clone, Copy)]
 pub(super) enum Pace {
     Immediate,
     Paced,
@@ -46,14 +45,12 @@ pub(super) struct Ended {
     pub result: Result<Report, RunFault>,
     /// Frames that are out afterwards, over all tables.
     out: u32,
-    /// Whether all histories of the report, if there is one, replay in a plain guest.
-    replays: bool,
 }
 
 impl Ended {
-    /// Whether all frames came back, and all histories replay.
+    /// Whether all frames came back.
     pub(super) fn is_clean(&self) -> bool {
-        self.out == 0 && self.replays
+        self.out == 0
     }
 }
 
@@ -104,25 +101,6 @@ fn count_out(tables: &[SharedFrames]) -> u32 {
     out
 }
 
-/// How a run ended with this answer, after which `out` frames are out.
-fn end_of_run(
-    alloc: Global,
-    plan: &Plan,
-    pace: Pace,
-    out: u32,
-    answer: Result<Report, RunFault>,
-) -> Result<Ended, AllocError> {
-    let replays = match &answer {
-        Ok(report) => all_replay(alloc, plan, report, pace == Pace::Paced)?,
-        Err(_fault) => true,
-    };
-    Ok(Ended {
-        result: answer,
-        out,
-        replays,
-    })
-}
-
 /// Runs a plan at these ports.
 pub(super) fn run_leased<G: Watch, R: Threads + Wait + Sync>(
     rt: &R,
@@ -156,7 +134,7 @@ pub(super) fn run_leased<G: Watch, R: Threads + Wait + Sync>(
     }
     let result = run_threads(rt, alloc, plan, devices, gate);
     let out = count_out(tables.as_slice());
-    end_of_run(alloc, plan, ports.pace, out, result)
+    Ok(Ended { result, out })
 }
 
 /// How a run ended whose threads noted what they did.

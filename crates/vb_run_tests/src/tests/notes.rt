@@ -1,6 +1,6 @@
 //! What threads note of a run: what its gate is called for, and what its guests do.
 
-use crate::tests::plain::{Act, Said};
+use crate::tests::history::{Act, Said};
 use std::alloc::{AllocError, Global};
 use vb_model::{Actor, Call, Reply};
 

@@ -3,8 +3,8 @@
 mod lock;
 mod passes;
 
+use crate::tests::history::{Act, Said};
 use crate::tests::notes::{Line, Note, lines_of};
-use crate::tests::plain::{Act, Said};
 use std::alloc::{AllocError, Global};
 use vb_model::{Actor, Call, Reply};
 use vb_run::{Plan, Report, Round};

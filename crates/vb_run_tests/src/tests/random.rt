@@ -1,5 +1,4 @@
-//! Random plans: each that is run gives a report in which every history replays, and what its
-//! threads noted is as it must be.
+//! Random plans: each that is run gives a report, and what its threads noted is as it must be.
 
 use crate::tests::leased::{Noted, Pace, Ports, Tables, run_noted};
 use rand_core::Rng;
@@ -156,7 +155,7 @@ fn run<R: Threads + Wait + Clock + Sync>(
 }
 
 #[test]
-fn random_plans_replay(rt: HostRuntime) -> Result<(), Fail> {
+fn random_plans_are_run(rt: HostRuntime) -> Result<(), Fail> {
     let alloc = rt.alloc();
     let mut numbers = Pcg32::new(SEED, 0);
     let mut calls: u64 = 0;

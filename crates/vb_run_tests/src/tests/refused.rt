@@ -16,12 +16,9 @@ enum Left {
     Report,
 }
 
-/// What a run left; no frame is out, and a report's histories replay.
+/// What a run left; no frame is out.
 fn left_by(rt: &impl Abort, ended: &Ended) -> Left {
-    assert!(rt;
-        ended.is_clean(),
-        "no frame is out, and all histories replay"
-    );
+    assert!(rt; ended.is_clean(), "no frame is out");
     match &ended.result {
         Ok(report) => {
             assert!(rt; report.guests.len() == 2, "both guests are in the report");

@@ -95,10 +95,7 @@ fn large_runs_have_memory_and_room(rt: HostRuntime) {
         let Ok(ended) = row.run(&rt, rt.alloc()) else {
             panic!(rt; "{name}: there is no memory")
         };
-        assert!(rt;
-            ended.is_clean(),
-            "{name}: its history replays, and no frame is out"
-        );
+        assert!(rt; ended.is_clean(), "{name}: no frame is out");
         match &ended.result {
             Ok(report) => assert!(rt; row.is_whole(report), "{name}: all rounds and the room"),
             Err(fault) => panic!(rt; "{name}: {fault:?}"),

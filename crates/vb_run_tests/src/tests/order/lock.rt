@@ -1,7 +1,7 @@
 //! What is done under a guest's lock: one thing at a time.
 
+use crate::tests::history::Act;
 use crate::tests::notes::{Note, is_processor, is_scripted};
-use crate::tests::plain::Act;
 
 /// What is done under the lock.
 #[derive(Clone, Copy, PartialEq, Eq)]

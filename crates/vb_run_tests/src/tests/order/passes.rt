@@ -1,9 +1,8 @@
 //! A worker's passes: each ends once nine different calls in a row have found nothing to do.
 
 use super::{Broken, Run};
+use crate::tests::history::{Act, Pair, Said, pairs_by, rows_of};
 use crate::tests::notes::{Line, Note, is_processor, lines_of};
-use crate::tests::plain::{Act, Said, rows_of};
-use crate::tests::replay::{Pair, pairs_by};
 use std::alloc::{AllocError, Global};
 use vb_model::Actor;
 use vb_run::{Bells, Entry};

@@ -1,7 +1,7 @@
 //! A history in plain values: rows that can be copied and compared.
 
 use std::alloc::{AllocError, Global};
-use vb_model::{Actor, Call, Claim, Reply};
+use vb_model::{Actor, Call, Reply};
 use vb_run::{Entry, Step};
 use vb_virtio::Refusal;
 
@@ -109,7 +109,6 @@ impl<'a> Said<'a> {
 pub(crate) struct Row<'a> {
     pub actor: Actor,
     pub act: Act<'a>,
-    pub claims: &'a [Claim],
     pub said: Said<'a>,
 }
 
@@ -119,18 +118,16 @@ impl<'a> Row<'a> {
             Step::Called {
                 actor,
                 call,
-                claims,
                 reply,
+                ..
             } => Row {
                 actor: *actor,
                 act: Act::of(call),
-                claims: claims.as_slice(),
                 said: Said::of(reply),
             },
             Step::Looked { floor, spare } => Row {
                 actor: Actor::Balancer,
                 act: Act::Look(*floor),
-                claims: &[],
                 said: Said::Spare(*spare),
             },
         }
@@ -144,4 +141,22 @@ pub(crate) fn rows_of<'a>(alloc: Global, history: &'a [Entry]) -> Result<Vec<Row
         rows.push(Row::of(entry))?;
     }
     Ok(rows)
+}
+
+/// A call and its reply.
+pub(crate) type Pair<'a> = (Act<'a>, Said<'a>);
+
+/// What an actor called and was replied, in order.
+pub(crate) fn pairs_by<'a>(
+    alloc: Global,
+    rows: &[Row<'a>],
+    actor: Actor,
+) -> Result<Vec<Pair<'a>>, AllocError> {
+    let mut pairs = Vec::new(alloc);
+    for row in rows {
+        if row.actor == actor {
+            pairs.push((row.act, row.said))?;
+        }
+    }
+    Ok(pairs)
 }
