@@ -18,7 +18,7 @@ PACKAGES = (
     ),
     (
         ("README.md", r"`make -C monitor daemons` \|[^|]*\(`([^`]*)`\)"),
-        ("README.md", r"(?m)^    sudo apt-get install (make .*)$"),
+        ("README.md", r"(?m)^    sudo apt-get install python3 (make .*)$"),
         ("monitor/Makefile", r"in out/library/plain \(`apt-get install ([^`]*)`\)"),
         ("tools/lib/suites.py", r'(?m)^DAEMONS = "(.*)"$'),
     ),

@@ -1,0 +1,105 @@
+"""The jobs that measure-overcommit gives its guests."""
+
+import random
+import threading
+import time
+from typing import NamedTuple
+
+from linux_kit import Fault
+
+# MiB that a guest fills, of its disk and of what it reads of that, and that it compresses; how
+# often it reads; the longest that it keeps what it filled, and that it rests.
+LEAST_FILL, MOST_FILL, DISK, READ, COMPRESSED = 30, 120, 64, 40, 6
+MOST_READS, MOST_KEEP, MOST_REST = 3, 2.0, 1.0
+
+# Seconds for which one job may last.
+LONGEST_JOB = 300
+
+
+class Stuck(Fault):
+    """A job that lasts too long."""
+
+
+class Job(NamedTuple):
+    """What a guest does: its kind, MiB, how often it reads, and how long it keeps and rests."""
+
+    kind: str
+    size: int
+    reads: int
+    keeps: float
+    rests: float
+
+
+def jobs_of(seed, guest, count):
+    """Returns the jobs of a guest."""
+    chance = random.Random(f"{seed} {guest}")
+    return [
+        Job(
+            chance.choice(("fill", "fill", "read", "compute")),
+            chance.randint(LEAST_FILL, MOST_FILL),
+            chance.randint(1, MOST_READS),
+            chance.random() * MOST_KEEP,
+            chance.random() * MOST_REST,
+        )
+        for _ in range(count)
+    ]
+
+
+class Work(threading.Thread):
+    """A guest at its jobs."""
+
+    def __init__(self, member, jobs, end):
+        super().__init__(daemon=True)
+        self.member, self.jobs, self.until = member, list(jobs), end
+        self.took, self.fault = 0.0, None
+
+    def do(self, line):
+        """Has the guest do something, and counts its time."""
+        begin = time.monotonic()
+        try:
+            said = self.member.guest.do(line, LONGEST_JOB)
+        except Fault:
+            if time.monotonic() - begin < LONGEST_JOB:
+                raise
+            raise Stuck(self.member.name) from None
+        self.took += time.monotonic() - begin
+        return said
+
+    def fill(self, job):
+        """Fills memory, and demands that what is read again is what was filled."""
+        self.do(f"fill work {job.size}")
+        first = self.do("sums work")
+        time.sleep(job.keeps)
+        for _ in range(job.reads):
+            if self.do("sums work") != first:
+                raise Fault(f"{self.member.name}: kept bytes have changed")
+        self.do("drop work")
+
+    def read(self, job):
+        """Reads its disk through the page cache."""
+        for _ in range(job.reads):
+            self.do(f"dd if=/dev/ubda of=/dev/null bs=1M count={READ} 2> /dev/null")
+
+    def compute(self, job):
+        """Compresses bytes."""
+        for _ in range(job.reads):
+            self.do(f"dd if=/dev/urandom bs=1M count={COMPRESSED} 2> /dev/null | gzip > /dev/null")
+
+    def run(self):
+        """Does its jobs, as long as there is time."""
+        try:
+            while self.jobs and time.monotonic() < self.until:
+                job = self.jobs.pop(0)
+                getattr(self, job.kind)(job)
+                time.sleep(job.rests)
+        except Fault as fault:
+            self.fault = fault
+
+
+def raise_first(faults):
+    """Raises the first fault, if there is one; jobs that last too long are one, with all names."""
+    for it in faults:
+        if not isinstance(it, Stuck):
+            raise it
+    if faults:
+        raise Stuck(", ".join(map(str, faults)))
