@@ -100,7 +100,8 @@ typedef struct {
     VbCounter stalls;            /* 11: allocations that waited until memory was reclaimed */
     VbCounter direct_scan;       /* 13: memory that these scanned */
     VbCounter direct_reclaim;    /* 15: memory that these reclaimed */
-    uint32_t ballooned, target;  /* pages in its balloon, and its target */
+    /* pages in its balloon, and the greatest target that it had since the sample before */
+    uint32_t ballooned, target;
 } VbSample;
 
 /* What a host remembers of a guest to tell whether it is pressed: zeros at first. */

@@ -34,10 +34,11 @@ static VbCounter *counter_of(VbSample *sample, uint16_t tag)
 }
 
 /* What it reports: its balloon is as its driver says, which alone knows what it is still to put
- * there. */
-static VbSample sample_of(const struct lending_message *report)
+ * there. Where a target has fallen since, it may have inflated toward that. */
+static VbSample sample_of(const struct seat *seat)
 {
-    VbSample sample = {.ballooned = report->actual, .target = report->target};
+    const struct lending_message *report = &seat->report;
+    VbSample sample = {.ballooned = report->actual, .target = seat->most_target};
     for (uint32_t i = 0; i < report->figure_count; i++) {
         VbCounter *counter = counter_of(&sample, report->figures[i].tag);
         if (counter)
@@ -46,10 +47,17 @@ static VbSample sample_of(const struct lending_message *report)
     return sample;
 }
 
+void pressure_follows(struct seat *seat)
+{
+    uint32_t target = seat->report.target;
+    seat->most_target = target > seat->most_target ? target : seat->most_target;
+}
+
 void pressure_hears(struct seat *seat)
 {
-    VbSample sample = sample_of(&seat->report);
+    VbSample sample = sample_of(seat);
     seat->pressure = vb_policy_press(&seat->pressure, &sample, (uint64_t)loop_now());
+    seat->most_target = seat->report.target;
 }
 
 bool seat_is_pressed(const struct seat *seat)

@@ -118,6 +118,7 @@ static void answer_room(struct seat *seat)
 static void take_note(struct seat *seat)
 {
     const struct counters *counters = &seat->report.counters;
+    pressure_follows(seat);
     if (counters->statistics != seat->heard) {
         seat->heard = counters->statistics;
         seat->silent = 0;

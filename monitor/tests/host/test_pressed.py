@@ -4,16 +4,21 @@ worked out by hand."""
 import struct
 
 import pytest
+from kept import structs
+from played import COUNTERS, Played
 from tenants import AVAILABLE, FREE, eventually
 from test_policy import QUICK, become
 from test_strict import GIVEN
-from vhost_client import SET_CONFIG
+from vhost_client import PAGE, SET_CONFIG
 
 # Tags of counters, of VIRTIO 1.1, 5.5.6.3, and of Linux 6.12: those that press, a kill first, and
 # those that don't.
 KILLS, STALLS = 10, 11
 PRESS = {"kills": KILLS, "stalls": STALLS, "in": 0, "out": 1, "scan": 13, "reclaim": 15}
 OTHERS = {"major": 2, "minor": 3, "huge": 8, "none": 9, "async-scan": 12, "async-reclaim": 14}
+
+# Nobody is looked at by itself.
+SELDOM = ("--strict", "--floor", "0", "--reserve", "0", "--step", "0", "--period", "60000")
 
 # Where `actual` is in the configuration (VIRTIO 1.1, 5.5.4).
 ACTUAL_AT = 4
@@ -97,6 +102,34 @@ def test_what_its_own_balloon_reclaims_presses_nobody(lend, come):
     assert lender.guests()["a"]["pressed"] == 0
     counts(lender, guests[0], {KILLS: 8})
     assert lender.guests()["a"]["pressed"] == 1
+
+
+def answers(guest, number, stalls):
+    """Has a played process report statistics for the time of this number, with these stalls."""
+    counted = [it for _, it in structs()["counters"]]
+    figures = ((FREE, 60 * PAGE), (AVAILABLE, 60 * PAGE), (STALLS, stalls))
+    counters = tuple(number if it == "statistics" else 0 for it in counted)
+    assert len(counters) == COUNTERS
+    guest.report(counters=counters, figure_count=len(figures), figures=figures)
+
+
+@pytest.mark.parametrize("meanwhile, pressed", ((50, 1), (51, 0)))
+def test_what_its_balloon_reclaimed_toward_a_target_that_fell_presses_nobody(
+    lend, meanwhile, pressed
+):
+    """It has as many pages in its balloon before and after; its counters come after that."""
+    lender = lend(1, *SELDOM)
+    guest = Played(lender, "a", pages=128, ballooned=50, actual=50, target=50)
+    answers(guest, 1, 7)
+    guest.report(target=meanwhile)
+    guest.report(target=50)
+    answers(guest, 2, 8)
+    lender.become("a", statistics=2)
+    assert lender.guests()["a"]["pressed"] == pressed
+    answers(guest, 3, 8)
+    answers(guest, 4, 9)
+    lender.become("a", statistics=4, pressed=1)
+    guest.leave()
 
 
 def test_another_guest_at_its_socket_is_not_pressed(lend, come):
