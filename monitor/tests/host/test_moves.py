@@ -37,6 +37,10 @@ WRONG = {
 # another one gave page cache.
 ROSE = (20261150, 20261197, 20261263)
 
+# Days of `slow` on which a guest was silent amid an inflate, and had another target once it told
+# what its balloon had reclaimed: it counted as pressed, and those whose work waited got nothing.
+INFLATED = (70000032, 70000102)
+
 # Days on which the kernel of a guest at rest took page cache back in the background, and its work
 # hadn't waited yet when it was asked: it was asked the next time a second later.
 RECLAIMED = (("at-once", 40000454), ("weights", 40000138), ("weights", 40000450))
@@ -56,6 +60,13 @@ def test_cached_pages_follow_the_work(kind, tmp_path_factory):
 
 @pytest.mark.parametrize("number", ROSE)
 def test_a_target_that_rises_amid_a_deflate_has_nobody_give_page_cache(number, tmp_path_factory):
+    host = linux_kit.built("simulated/vhost_user_host")
+    status, said = live(host, str(tmp_path_factory.mktemp("d")), number, KINDS["slow"])
+    assert status == 0 and numbers_of(said)["works"] == SHIFTS, said
+
+
+@pytest.mark.parametrize("number", INFLATED)
+def test_what_the_balloon_of_a_silent_guest_reclaims_presses_nobody(number, tmp_path_factory):
     host = linux_kit.built("simulated/vhost_user_host")
     status, said = live(host, str(tmp_path_factory.mktemp("d")), number, KINDS["slow"])
     assert status == 0 and numbers_of(said)["works"] == SHIFTS, said

@@ -61,6 +61,9 @@ struct guest {
     int64_t reports_at;
     uint64_t answers; /* the number of the question that is to be answered; 0: none */
     int64_t answers_until;
+    uint64_t statistics; /* those of its last report, and the questions for some since then */
+    unsigned unanswered;
+    int64_t silent_at;            /* when it had last left three of those unanswered */
     uint32_t target, read_target; /* the last one that it has heard, and that its driver has read */
     uint32_t reminded;            /* what was in the balloon at the last target or reminder */
     uint32_t inflates, deflates;  /* pages of the requests that are on its queues */

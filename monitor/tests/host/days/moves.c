@@ -3,8 +3,8 @@
  * others stand still with what they have cached, and the last one never reads. As in Linux, a guest
  * without a free page reclaims its own page cache for what it reads, mostly in the background, and
  * counts what its work waits for. What is demanded: the cached pages follow the working set, the
- * busy guest isn't late to get pages that others have, and nobody keeps memory that is used for
- * nothing while others give page cache. */
+ * busy guest isn't late to get pages that others have, and nobody who answers keeps memory that is
+ * used for nothing while others give page cache. */
 #include "days.h"
 
 #include <stddef.h>
@@ -53,12 +53,25 @@ static void read_some(struct guest *guest)
     later(guest, read_some, EACH);
 }
 
+/* What a guest could give nobody knows that has left three questions unanswered, or unread; others
+ * are asked then, and a step that they give by may take the longest time. */
+static void look_at_silence(struct guest *guest)
+{
+    if (guest->unanswered + guest->orders.count >= 3)
+        guest->silent_at = day->now;
+}
+
+static bool was_silent(const struct guest *guest)
+{
+    return day->now - guest->silent_at <= LONGEST;
+}
+
 void moves_gives_cache(void)
 {
     for (unsigned i = 0; i < day->size; i++) {
         const struct guest *its = &day->guests[i];
         uint32_t owes = its->target > its->balloon ? its->target - its->balloon : 0;
-        if (its != busy() && driver_free(its) > owes + MOST_UNUSED)
+        if (its != busy() && !was_silent(its) && driver_free(its) > owes + MOST_UNUSED)
             town_ends("keeps unused memory while another gives page cache", its);
     }
 }
@@ -119,6 +132,8 @@ static void look_at_wants(const struct guest *guest)
 void moves_look(void)
 {
     struct guest *guest = busy();
+    for (unsigned i = 0; i < day->size; i++)
+        look_at_silence(&day->guests[i]);
     look_at_wants(guest);
     if (day->now < day->shift_ends)
         return;

@@ -41,6 +41,9 @@ static void send_report(struct guest *guest, uint64_t number)
     report->obeyed = guest->read_target + 1;
     report->held_kib = (uint64_t)(guest->pages - report->ballooned) * PAGE_KIB;
     lending_send(guest->channel, report);
+    if (report->counters.statistics != guest->statistics)
+        guest->unanswered = 0;
+    guest->statistics = report->counters.statistics;
     guest->news = false;
     if (number == 0)
         guest->reports_at = day->now + NEWS_EVERY;
@@ -98,6 +101,7 @@ static void look(struct guest *guest, const struct lending_message *order)
     if (guest->answers != 0)
         send_report(guest, guest->answers);
     guest->answers = order->number;
+    guest->unanswered++;
     guest->answers_until = day->now + ANSWERS_IN;
     soon(guest, tell_figures);
     later(guest, turn, ANSWERS_IN);
