@@ -1,5 +1,5 @@
-"""What guests that wait take in the end, and the least budget with which all of them have it.
-Guests have 128 pages."""
+"""What guests that wait take in the end, the least budget with which all of them have it, and what
+they can spare meanwhile. Guests have 128 pages."""
 
 import time
 
@@ -63,3 +63,17 @@ def test_the_least_budget_is_enough_to_a_page(starved):
     lender.set_budget(least)
     used(a, DEFLATE, 1)
     lender.become("a", waits="nothing")
+
+
+@pytest.mark.parametrize("asks", (1, FLOOR - 9, GAVE))
+def test_a_guest_that_waits_can_spare_what_stays_in_its_balloon_then(starved, asks):
+    """Its statistics and its floor don't count meanwhile. The log has what that goes by."""
+    lender, a = starved
+    lender.become("a", spare=GAVE - FLOOR)
+    a.take(GIVEN[:asks])
+    lender.become("a", waits="deflate", spare=GAVE - asks)
+    lender.decisions()
+    lender.set_budget(ALL)
+    (_, shares), *_ = eventually(lender.decisions)
+    said = {name: (it["spare"], it["by"]) for name, it in shares.items()}
+    assert said == {"a": (GAVE - asks, "loan"), "b": (0, "statistics")}
