@@ -179,6 +179,61 @@ def test_another_process_is_asked_for_twice_a_second(monkeypatch, processes, pro
     assert (its and its["process"], host.asked) == (process, asked)
 
 
+class Coming(Renewing):
+    """A host that becomes another program once its client has waited for the end of its connection.
+    That one knows the process of each guest from such a moment on."""
+
+    def __init__(self, moments):
+        super().__init__({})
+        self.moments, self.is_other = moments, False
+
+    def ends(self):
+        """It is another one from now on."""
+        self.is_other = True
+
+    def ask(self, request):
+        """Answers with its version and its guests, or becomes another program."""
+        self.asked.append(request)
+        assert len(self.asked) < 999, "it asks for ever"
+        guests = [
+            {
+                "name": str(number),
+                "state": "absent" if at is None else "ready",
+                "process": 0 if at is None or self.is_other and self.now < at else 5,
+            }
+            for number, at in enumerate(self.moments)
+        ]
+        return {"host": {"version": "new" if self.is_other else "old"}, "guests": guests}
+
+
+# When the next host knows the process of each guest, where a client is there; and for how long an
+# upgrade waits for that. Seconds.
+COMES = (
+    ((), 0),
+    ((0,), 0),
+    ((0.4,), 0.4),
+    ((0.4, 0.1, 0.75, None), 0.75),
+    ((9.95, 0), 9.95),
+    ((None,), 0),
+    ((10.5, 0.1), 10),
+)
+
+
+@pytest.mark.parametrize("moments, until", COMES)
+def test_an_upgrade_waits_for_the_host_that_comes(monkeypatch, moments, until):
+    """Until that one knows each guest's process, and no longer than a host may take to answer."""
+    host = Coming(moments)
+    monkeypatch.setattr(upgrade, "Connection", lambda _: contextlib.nullcontext(host))
+    monkeypatch.setattr(upgrade, "time", host)
+    before, after = upgrade.upgrade_host("")
+    assert (before["host"]["version"], after["host"]["version"]) == ("old", "new")
+    assert (host.asked[:2], host.asked.count("upgrade")) == (["status", "upgrade"], 1)
+    assert host.now == until
+    assert [it["process"] for it in after["guests"]] == [
+        5 if it is not None and it <= until else 0 for it in moments
+    ]
+
+
 class Deciding:
     """A host that has taken five decisions of which it keeps the last two, as it is told, and takes
     a sixth one."""
