@@ -8,7 +8,7 @@ from test_matrix import answer
 
 # Looks are a second apart, and a guest has 100 pages. Each day's budgets and guests; and how many
 # pages were promised, of how many, and the guests' seconds: those for which they waited, and all.
-AT_REST, ASKS = "50/0/0", "50/10/0"
+AT_REST, ASKS, ASKS_FOR_ONE = "50/0/0", "50/10/0", "50/1/0"
 DAYS = {
     "nobody waits": ([150] * 3, {"a": [AT_REST] * 3, "b": [AT_REST] * 3}, (200, 150, 0, 4)),
     "one of two waits": (
@@ -16,6 +16,7 @@ DAYS = {
         {"a": [AT_REST, ASKS, *[AT_REST] * 3], "b": [AT_REST] * 5},
         (200, 150, 1, 8),
     ),
+    "one waits for a page": ([150] * 3, {"a": [AT_REST, ASKS_FOR_ONE, AT_REST]}, (100, 150, 1, 2)),
     "both wait": ([80] * 3, {"a": [ASKS] * 3, "b": [AT_REST, *[ASKS] * 2]}, (200, 80, 3, 4)),
     "one waits at the last look": ([100] * 2, {"a": [AT_REST, ASKS]}, (100, 100, 0, 1)),
     "one goes": ([150] * 4, {"a": [AT_REST] * 4, "b": [AT_REST, ASKS]}, (200, 150, 1, 5)),
