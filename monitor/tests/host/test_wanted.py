@@ -5,13 +5,15 @@ import time
 
 import pytest
 from bigvasta.connection import Connection
+from played import WAIT_ROOM, Played
 from tenants import FREE, eventually
 from test_short import STANDS
 from test_strict import GIVEN, STRICT, used
 from vhost_client import DEFLATE, PAGE
 
-# Pages of a guest, those that one has given, and those that are to stay available in each.
-ALL, GAVE, FLOOR = 128, 50, 20
+# Pages of a guest, those of a part that is added to one, those that one has given, and those that
+# are to stay available in each.
+ALL, PART, GAVE, FLOOR = 128, 64, 50, 20
 
 
 def demand(lender):
@@ -77,3 +79,21 @@ def test_a_guest_that_waits_can_spare_what_stays_in_its_balloon_then(starved, as
     (_, shares), *_ = eventually(lender.decisions)
     said = {name: (it["spare"], it["by"]) for name, it in shares.items()}
     assert said == {"a": (GAVE - asks, "loan"), "b": (0, "statistics")}
+
+
+def test_memory_for_which_a_process_waits_no_longer_is_not_lent(lend):
+    """Its wait to add some ends without it, and so does its place in line."""
+    lender = lend(1, *STRICT)
+    a, b = Played(lender, "a", pages=PART), Played(lender, "b", pages=ALL)
+    lender.set_budget(PART + ALL)
+    a.report(waits=WAIT_ROOM, wait=1, wanted=2 * PART)
+    lender.become("a", waits="room")
+    assert demand(lender) == (PART, 2 * PART + ALL)
+    a.report(waits=0, wanted=0)
+    lender.become("a", waits="nothing")
+    assert demand(lender) == (0, PART + ALL)
+    lender.set_budget(2 * PART + ALL)
+    looks = lender.counters()["looks"]
+    eventually(lambda: lender.counters()["looks"] > looks + 1)
+    assert lender.guests()["a"]["lent"] == PART
+    a.leave(), b.leave()
