@@ -222,6 +222,8 @@ REFUSED = (
     (f"limit=cgroup:{cgroups() or '/proc'}/cgroup.procs/x", NO_FOLDER[cgroups() is not None]),
     ("limit=tmpfs:/etc", "no mount of tmpfs"),
     ("limit=tmpfs:/dev/shm/x", "no mount of tmpfs"),
+    # A name may begin with dots.
+    *((f"limit=tmpfs:/dev/{it}/x", "no mount of tmpfs") for it in (".x", "..x", "...")),
     ("limit=tmpfs:/" + "x" * 150, "no mount of tmpfs"),
     (
         "strict=0 limit=tmpfs:/dev/shm",
