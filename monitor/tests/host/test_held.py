@@ -251,6 +251,15 @@ def test_a_slot_that_comes_back_is_lent_already(full):
     b.leave()
 
 
+def test_what_a_removed_slot_holds_counts_as_targets_are_decided(full):
+    """It is lent to the guest, which is to give as many pages as are missing."""
+    lender, _ = full
+    lender.decisions()
+    lender.set_budget(ALL - 10)
+    lender.become("a", target=10)
+    assert [its["a"]["pages"] for _, its in lender.decisions()][-1:] == [ALL]
+
+
 # Pages of a slot that comes back, of which the first ones are holes.
 COMES_BACK = ((PAGES_OF_REGION, 10), (PAGES_OF_REGION, PAGES_OF_REGION), (32, 32), (32, 20))
 
