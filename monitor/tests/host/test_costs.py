@@ -7,6 +7,7 @@ import time
 import pytest
 from host_small import Talker
 from tenants import eventually, process_of
+from test_strict import Later
 from vhost_client import Client
 
 # KiB that a guest's process may have for itself, and a part of one processor for all.
@@ -88,6 +89,17 @@ def test_a_host_that_awaits_clients_sleeps(lend):
     client.begin()
     eventually(lambda: sleeps(lender.process.pid), "it never sleeps beside a client")
     client.leave()
+
+
+def test_the_process_of_a_guest_that_waits_sleeps(lend):
+    lender = lend(1, *SELDOM, "--strict", "--floor", "0")
+    lender.set_budget(255)
+    first, second = (Client(lender.add(it)) for it in "ab")
+    first.start(), second.negotiate()
+    comes = Later(second.hand_over_memory)
+    lender.become("b", waits="room")
+    eventually(lambda: sleeps(process_of(lender, "b")), "it never sleeps")
+    first.leave(), comes.ends(), second.leave()
 
 
 def test_clients_that_come_after_one_another_are_taken_between_two_looks(lend):
