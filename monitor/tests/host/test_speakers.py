@@ -5,8 +5,8 @@ import signal
 import time
 
 import pytest
-from played import TELL_REMARK, WORDS, Played
-from tenants import FREE, eventually, go_on, stop, writer_of
+from played import TELL_GONE, TELL_REMARK, WORDS, Played
+from tenants import FREE, eventually, go_on, status_of, stop, writer_of
 from test_between_looks import HEARD, SELDOM, has_target
 from test_strict import GIVEN
 from vhost_client import PAGE
@@ -46,3 +46,20 @@ def test_words_of_a_process_end_with_its_message(lend):
     said = "a: " + "x" * (WORDS - 1)
     eventually(lambda: lender.hear() or said in lender.said(), lender.said)
     guest.leave()
+
+
+def test_words_of_a_process_take_no_line_of_what_the_host_says_of_its_guest(lend):
+    """It has ended, and a look is due: what it has said since is read at once. Its words have used
+    up their own lines as it says last that its client has gone."""
+    lender = lend(1, "--period", "50", "--lines", "3")
+    guest = Played(lender, "a")
+    stop(lender.process.pid)
+    eventually(lambda: status_of(lender.process.pid)["State"].startswith("T"))
+    for _ in range(20):
+        guest.say(TELL_REMARK, b"a remark")
+    guest.say(TELL_GONE), guest.leave()
+    time.sleep(0.1)
+    go_on(lender.process.pid)
+    lender.become("a", here=0)
+    said = lender.said()
+    assert "a: further lines of this second are left out" in said and "gone a" in said, said
