@@ -9,6 +9,7 @@ from host_small import Talker
 from tenants import eventually, process_of
 from test_strict import Later
 from vhost_client import Client
+from waiting import seconds_of
 
 # KiB that a guest's process may have for itself, and a part of one processor for all.
 MOST_KIB, MOST_SHARE = 1536, 0.02
@@ -23,12 +24,6 @@ def private_kib(process):
     with open(f"/proc/{process}/smaps_rollup", encoding="ascii") as numbers:
         its = {it.split()[0]: int(it.split()[1]) for it in numbers if it.endswith("kB\n")}
     return its["Private_Clean:"] + its["Private_Dirty:"]
-
-
-def seconds_of(process):
-    """Returns the seconds for which a process has had a processor."""
-    with open(f"/proc/{process}/schedstat", encoding="ascii") as its:
-        return int(its.read().split()[0]) / 1e9
 
 
 def answer_all(guests, seconds):

@@ -1,4 +1,4 @@
-"""Waits of tests, which end by themselves."""
+"""Waits of tests, which end by themselves, and what a process does meanwhile."""
 
 import os
 import time
@@ -23,3 +23,9 @@ def eventually(condition, what="", limit=None):
             return found
         assert time.monotonic() < end, what() if callable(what) else what
         time.sleep(0.02)
+
+
+def seconds_of(process):
+    """Returns the seconds for which a process has had a processor."""
+    with open(f"/proc/{process}/schedstat", encoding="ascii") as its:
+        return int(its.read().split()[0]) / 1e9

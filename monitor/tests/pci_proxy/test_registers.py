@@ -34,7 +34,7 @@ from pci_client import (
     STATUS,
     SYNC_MEMORY,
 )
-from waiting import patience_from_now
+from waiting import patience_from_now, seconds_of
 
 COMMON, NOTIFIES, INTERRUPTS, CONFIGURATION = 1, 2, 3, 4
 
@@ -226,6 +226,22 @@ def test_interrupts(client):
         lambda: time.sleep(0.1) or client.read(ISR, 1) == 1,
         "a driver that looks by itself finds nothing",
     )
+
+
+# A part of a processor, and the seconds for which is looked at what a process has of it.
+LITTLE, LOOKED = 0.05, 0.4
+
+
+def test_a_backend_sleeps_between_the_interrupts_of_a_driver_that_does_nothing(client):
+    client.start()
+    process = client.backend.process.pid
+
+    def part():
+        before, begin = seconds_of(process), time.monotonic()
+        time.sleep(LOOKED)
+        return (seconds_of(process) - before) / (time.monotonic() - begin)
+
+    eventually(lambda: part() < LITTLE, "it never sleeps")
 
 
 def test_memory_in_two_regions(client):
