@@ -121,7 +121,8 @@ def test_who_is_to_start_without_some_pages_finds_its_target_as_it_begins(begins
 
 
 def test_who_restarts_asks_no_longer_for_what_it_asked_for_before(begins):
-    """It was to have 50 in its balloon of the 100 that it started without."""
+    """It was to have 50 in its balloon of the 100 that it started without. It waits for those that
+    its driver has put there."""
     client, it = begins(100)
     for number in range(4):
         client.place(number), client.enable(number)
@@ -134,6 +135,7 @@ def test_who_restarts_asks_no_longer_for_what_it_asked_for_before(begins):
         client.place(number)
     restarts = Later(lambda: [client.enable(number) for number in range(4)])
     report, _ = report_that(it, lambda its: its.waits == WAIT_RESET)
+    assert report.wanted == len(GIVEN)
     order(it, ORDER_ADMIT, wait=report.wait, ballooned=100, target=100)
     restarts.ends()
     assert (its := reported(it)).held_pages == 0 and its.ballooned == 100
