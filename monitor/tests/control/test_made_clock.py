@@ -1,6 +1,7 @@
 """How much a host does for clients until the time of a call is over, by a clock that is made: it is
-over as soon as that is read again."""
+over as soon as that is read again. And a client that its kernel has no room to wait for."""
 
+import contextlib
 import signal
 
 import linux_kit
@@ -16,16 +17,29 @@ SOON, AT_ONCE = 5, 16
 
 
 @pytest.fixture
-def host(folder):
-    """A host by a made clock, with a file that adds guests."""
-    file = folder / "host.conf"
-    file.write_text("[host]\n")
-    program, process = map(linux_kit.built, ("clocked/vhost_user_host", "plain/vhost_user_balloon"))
-    options = ("--budget", "1", "--config", str(file), "--program", process)
-    it = Host(program, folder, str(folder), *options)
-    it.lines.next(patience_from_now())
-    yield it
-    assert it.end() == 0, it.said()
+def begin(folder):
+    """Begins a host by a made clock, with a file that adds guests, which ends well."""
+    begun = []
+
+    def make(**environment):
+        file = folder / "host.conf"
+        file.write_text("[host]\n")
+        program, process = map(
+            linux_kit.built, ("clocked/vhost_user_host", "plain/vhost_user_balloon")
+        )
+        options = ("--budget", "1", "--config", str(file), "--program", process)
+        begun.append(Host(program, folder, str(folder), *options, environment=environment))
+        begun[0].lines.next(patience_from_now())
+        return begun[0]
+
+    yield make
+    assert begun[0].end() == 0, begun[0].said()
+
+
+@pytest.fixture
+def host(begin):
+    """Such a host."""
+    return begin()
 
 
 def add(host, *names):
@@ -102,3 +116,22 @@ def test_an_event_is_told_in_a_look_to_some_followers(host):
     assert max(map(len, sent)) == AT_ONCE and sum(map(len, sent)) >= len(told) * len(files)
     waits = [as_int(turn[0][3]) for to, turn in zip(sent, turns[1:]) if to]
     assert max(waits) <= SOON, waits
+
+
+def test_a_client_that_cannot_be_waited_for_goes(begin):
+    """Beside the two sockets there is room for one: who comes next isn't served, until that one has
+    gone."""
+    host = begin(WAITS="3")
+    first, other = Raw(host.control), Raw(host.control)
+    assert other.lines.readline() == b""
+    assert first.answer(say(request="status"))["host"]["control"]["clients"] == 1
+    first.close(), other.close()
+
+    def is_served():
+        with contextlib.closing(Raw(host.shown)) as it:
+            try:
+                return it.answer(say(request="status"))["ok"]
+            except (OSError, ValueError):
+                return False
+
+    eventually(is_served)
