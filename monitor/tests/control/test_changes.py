@@ -164,6 +164,14 @@ def test_all_of_it_as_a_file(kept, program):
     assert host.ask("config")["config"] == text
 
 
+def test_the_file_of_all_has_each_section_once(kept):
+    """An empty line is between two."""
+    parts = [it.splitlines() for it in kept.host.ask("config")["config"].split("\n\n")]
+    heads = ("host", "control", "status", "log", "guest web-1", "guest web-2")
+    assert [it[0] for it in parts] == [f"[{it}]" for it in heads]
+    assert all(" = " in line for _, *lines in parts for line in lines)
+
+
 def test_a_host_without_a_folder_says_so(host):
     assert host.ask("budget", bytes=300 * MIB)["lasts"] is False
     assert host.ask("add", name="a")["lasts"] is False
