@@ -81,14 +81,32 @@ def test_a_guest_that_waits_can_spare_what_stays_in_its_balloon_then(starved, as
     assert said == {"a": (GAVE - asks, "loan"), "b": (0, "statistics")}
 
 
-def test_memory_for_which_a_process_waits_no_longer_is_not_lent(lend):
-    """Its wait to add some ends without it, and so does its place in line."""
+@pytest.fixture
+def adding(lend):
+    """A host, and the process of a guest that waits to add as much memory as it has."""
     lender = lend(1, *STRICT)
     a, b = Played(lender, "a", pages=PART), Played(lender, "b", pages=ALL)
     lender.set_budget(PART + ALL)
     a.report(waits=WAIT_ROOM, wait=1, wanted=2 * PART)
     lender.become("a", waits="room")
     assert demand(lender) == (PART, 2 * PART + ALL)
+    yield lender, a
+    a.leave(), b.leave()
+
+
+def test_memory_that_is_to_be_added_counts_as_in_the_balloon(adding):
+    """So the guest has all of it as targets are decided, and gives none of it."""
+    lender, _ = adding
+    lender.decisions()
+    lender.set_budget(PART + ALL + 1)
+    (_, shares), *_ = eventually(lender.decisions)
+    its = tuple(shares["a"][it] for it in ("pages", "ballooned", "spare", "by"))
+    assert its == (2 * PART, PART, 0, "loan")
+
+
+def test_memory_for_which_a_process_waits_no_longer_is_not_lent(adding):
+    """Its wait to add some ends without it, and so does its place in line."""
+    lender, a = adding
     a.report(waits=0, wanted=0)
     lender.become("a", waits="nothing")
     assert demand(lender) == (0, PART + ALL)
@@ -96,4 +114,3 @@ def test_memory_for_which_a_process_waits_no_longer_is_not_lent(lend):
     looks = lender.counters()["looks"]
     eventually(lambda: lender.counters()["looks"] > looks + 1)
     assert lender.guests()["a"]["lent"] == PART
-    a.leave(), b.leave()
