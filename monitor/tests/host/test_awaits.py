@@ -120,6 +120,13 @@ def test_who_is_to_start_without_some_pages_finds_its_target_as_it_begins(begins
     assert struct.unpack_from("<I", read_target(client), 12) == (without,)
 
 
+def test_who_is_to_have_more_than_it_started_with_asks_for_it_unasked(begins):
+    _, it = begins(100)
+    report_that(it, lambda its: its.waits == 0 and its.ballooned == 100)
+    order(it, ORDER_TARGET, target=50)
+    report_that(it, lambda its: its.held_pages == 50)
+
+
 def test_who_restarts_asks_no_longer_for_what_it_asked_for_before(begins):
     """It was to have 50 in its balloon of the 100 that it started without. It waits for those that
     its driver has put there."""
