@@ -127,22 +127,43 @@ def test_who_is_to_have_more_than_it_started_with_asks_for_it_unasked(begins):
     report_that(it, lambda its: its.held_pages == 50)
 
 
-def test_who_restarts_asks_no_longer_for_what_it_asked_for_before(begins):
-    """It was to have 50 in its balloon of the 100 that it started without. It waits for those that
-    its driver has put there."""
-    client, it = begins(100)
+def give(client):
+    """Has a driver ready, and put pages into its balloon."""
     for number in range(4):
         client.place(number), client.enable(number)
     client.post_pages(INFLATE, GIVEN)
-    order(it, ORDER_TARGET, target=50)
-    report_that(it, lambda its: its.held_pages == 50)
+
+
+def restart(client, it, without):
+    """Has another driver begin, which is admitted without these pages; returns the report by which
+    its process has waited for that."""
     for number in range(4):
         client.enable(number, 0)
     for number in range(4):
         client.place(number)
     restarts = Later(lambda: [client.enable(number) for number in range(4)])
     report, _ = report_that(it, lambda its: its.waits == WAIT_RESET)
-    assert report.wanted == len(GIVEN)
-    order(it, ORDER_ADMIT, wait=report.wait, ballooned=100, target=100)
+    order(it, ORDER_ADMIT, wait=report.wait, ballooned=without, target=without)
     restarts.ends()
+    return report
+
+
+def test_who_restarts_asks_no_longer_for_what_it_asked_for_before(begins):
+    """It was to have 50 in its balloon of the 100 that it started without. It waits for those that
+    its driver has put there."""
+    client, it = begins(100)
+    give(client)
+    order(it, ORDER_TARGET, target=50)
+    report_that(it, lambda its: its.held_pages == 50)
+    assert restart(client, it, 100).wanted == len(GIVEN)
     assert (its := reported(it)).held_pages == 0 and its.ballooned == 100
+
+
+@pytest.mark.parametrize("without", (0, 1, 100))
+def test_a_driver_that_starts_without_some_pages_has_read_no_target(begins, without):
+    """One that restarts with all of them obeys the one that was read before."""
+    client, it = begins(100)
+    give(client), read_target(client)
+    report_that(it, lambda its: its.obeyed > 0)
+    restart(client, it, without)
+    assert (reported(it).obeyed > 0) == (without == 0)
