@@ -104,6 +104,15 @@ def test_memory_that_is_to_be_added_counts_as_in_the_balloon(adding):
     assert its == (2 * PART, PART, 0, "loan")
 
 
+def test_memory_that_is_added_is_a_grant_and_no_guest_that_comes(adding):
+    lender, _ = adding
+    counts = lambda: [lender.counters()[it] for it in ("grants", "admitted")]
+    grants, admitted = counts()
+    lender.set_budget(2 * PART + ALL)
+    lender.become("a", lent=2 * PART)
+    assert counts() == [grants + 1, admitted]
+
+
 def test_memory_for_which_a_process_waits_no_longer_is_not_lent(adding):
     """Its wait to add some ends without it, and so does its place in line."""
     lender, a = adding
