@@ -1,11 +1,11 @@
 """What guests that wait take in the end, the least budget with which all of them have it, and what
-they can spare meanwhile. Guests have 128 pages."""
+they can spare meanwhile; memory that is to be added to one. Guests have 128 pages."""
 
 import time
 
 import pytest
 from bigvasta.connection import Connection
-from played import WAIT_ROOM, Played
+from played import TELL_GONE, WAIT_ROOM, Played
 from tenants import FREE, eventually
 from test_short import STANDS
 from test_strict import GIVEN, STRICT, used
@@ -91,7 +91,8 @@ def adding(lend):
     lender.become("a", waits="room")
     assert demand(lender) == (PART, 2 * PART + ALL)
     yield lender, a
-    a.leave(), b.leave()
+    for it in (a, b):
+        it.leave() if it.is_alive() else None
 
 
 def test_memory_that_is_to_be_added_counts_as_in_the_balloon(adding):
@@ -123,3 +124,22 @@ def test_memory_for_which_a_process_waits_no_longer_is_not_lent(adding):
     looks = lender.counters()["looks"]
     eventually(lambda: lender.counters()["looks"] > looks + 1)
     assert lender.guests()["a"]["lent"] == PART
+
+
+def ends(lender, guest):
+    """Its process ends."""
+    guest.leave(), lender.become("a", here=0)
+
+
+def goes(lender, guest):
+    """Its client has gone; its process hasn't ended yet."""
+    guest.say(TELL_GONE)
+    eventually(lambda: lender.counters()["gone"] == 1)
+
+
+@pytest.mark.parametrize("act, left", ((ends, 0), (goes, PART)))
+def test_nobody_waits_for_what_was_to_be_added_to_a_guest_that_has_gone(adding, act, left):
+    lender, guest = adding
+    act(lender, guest)
+    eventually(lambda: demand(lender) == (0, left + ALL), lambda: demand(lender))
+    assert lender.guests()["a"]["lent"] == left
