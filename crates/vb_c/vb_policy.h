@@ -100,7 +100,8 @@ typedef struct {
     VbCounter stalls;            /* 11: allocations that waited until memory was reclaimed */
     VbCounter direct_scan;       /* 13: memory that these scanned */
     VbCounter direct_reclaim;    /* 15: memory that these reclaimed */
-    /* pages in its balloon, and the greatest target that it had since the sample before */
+    /* pages in its balloon, and its target, or a greater one toward which it inflated since the
+     * sample before */
     uint32_t ballooned, target;
 } VbSample;
 

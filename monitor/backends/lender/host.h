@@ -99,7 +99,7 @@ struct seat {
     int64_t paused_until;  /* it has taken pages itself: until then it is asked for no more than it
                               has given */
     VbPressure pressure;   /* what its counters said of waits for memory */
-    uint32_t most_target;  /* the greatest that its process had since its last statistics */
+    uint32_t inflates_to;  /* the greatest target above its balloon since its last statistics */
     uint32_t target;       /* what was decided; what is wanted so far is in its VbSeat */
     uint32_t by_hand;      /* what an operator wants in its balloon until all is decided again */
     int64_t waits_since, migrates_since;

@@ -33,12 +33,18 @@ static VbCounter *counter_of(VbSample *sample, uint16_t tag)
     }
 }
 
+static uint32_t larger(uint32_t a, uint32_t b)
+{
+    return a > b ? a : b;
+}
+
 /* What it reports: its balloon is as its driver says, which alone knows what it is still to put
- * there. Where a target has fallen since, it may have inflated toward that. */
+ * there. */
 static VbSample sample_of(const struct seat *seat)
 {
     const struct lending_message *report = &seat->report;
-    VbSample sample = {.ballooned = report->actual, .target = seat->most_target};
+    VbSample sample = {.ballooned = report->actual,
+                       .target = larger(report->target, seat->inflates_to)};
     for (uint32_t i = 0; i < report->figure_count; i++) {
         VbCounter *counter = counter_of(&sample, report->figures[i].tag);
         if (counter)
@@ -47,17 +53,19 @@ static VbSample sample_of(const struct seat *seat)
     return sample;
 }
 
+/* Its target may have fallen by the time that its statistics come. */
 void pressure_follows(struct seat *seat)
 {
-    uint32_t target = seat->report.target;
-    seat->most_target = target > seat->most_target ? target : seat->most_target;
+    const struct lending_message *report = &seat->report;
+    if (report->target > report->actual)
+        seat->inflates_to = larger(seat->inflates_to, report->target);
 }
 
 void pressure_hears(struct seat *seat)
 {
     VbSample sample = sample_of(seat);
     seat->pressure = vb_policy_press(&seat->pressure, &sample, (uint64_t)loop_now());
-    seat->most_target = seat->report.target;
+    seat->inflates_to = 0;
 }
 
 bool seat_is_pressed(const struct seat *seat)

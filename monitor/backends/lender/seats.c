@@ -50,7 +50,7 @@ void seat_clear(struct seat *seat)
     seat->heard_at = seat->paused_until = seat->asked_at = seat->waits_since = 0;
     seat->serving = 0;
     seat->pressure = (VbPressure){0};
-    seat->most_target = 0;
+    seat->inflates_to = 0;
     seat->still = (struct stillness){0};
     seat->moved_at = seat->passed_over = 0;
     seat->exchange = (VbExchange){0};

@@ -113,16 +113,23 @@ def answers(guest, number, stalls):
     guest.report(counters=counters, figure_count=len(figures), figures=figures)
 
 
-@pytest.mark.parametrize("meanwhile, pressed", ((50, 1), (51, 0)))
-def test_what_its_balloon_reclaimed_toward_a_target_that_fell_presses_nobody(
-    lend, meanwhile, pressed
-):
-    """It has as many pages in its balloon before and after; its counters come after that."""
+# What a guest of 50 pages in its balloon, as its target wants, reports between two samples, and
+# whether what it has waited for presses it: it may have inflated toward a target that fell since.
+MEANWHILE = {
+    "nothing": ((), 1),
+    "a greater target": (({"target": 51}, {"target": 50}), 0),
+    "pages that it gave up": (({"target": 51}, {"target": 49}, {"ballooned": 49, "actual": 49}), 0),
+    "pages that it got": (({}, {"target": 40}, {"ballooned": 40, "actual": 40}), 1),
+}
+
+
+@pytest.mark.parametrize("reports, pressed", MEANWHILE.values(), ids=MEANWHILE)
+def test_what_a_balloon_reclaims_between_two_samples_presses_nobody(lend, reports, pressed):
     lender = lend(1, *SELDOM)
     guest = Played(lender, "a", pages=128, ballooned=50, actual=50, target=50)
     answers(guest, 1, 7)
-    guest.report(target=meanwhile)
-    guest.report(target=50)
+    for it in reports:
+        guest.report(**it)
     answers(guest, 2, 8)
     lender.become("a", statistics=2)
     assert lender.guests()["a"]["pressed"] == pressed
