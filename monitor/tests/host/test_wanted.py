@@ -114,6 +114,20 @@ def test_memory_that_is_added_is_a_grant_and_no_guest_that_comes(adding):
     assert counts() == [grants + 1, admitted]
 
 
+def test_all_is_decided_again_as_memory_is_to_be_added_and_as_it_is(adding):
+    """As for a guest that comes: the log says that guests have changed."""
+    lender, _ = adding
+    found = []
+
+    def last():
+        found.extend((said["why"], said["short"]) for said, _ in lender.decisions())
+        return found[-1:]
+
+    eventually(lambda: last() == [("guests", PART)], lambda: found)
+    lender.set_budget(2 * PART + ALL)
+    eventually(lambda: last() == [("guests", 0)], lambda: found)
+
+
 def test_memory_for_which_a_process_waits_no_longer_is_not_lent(adding):
     """Its wait to add some ends without it, and so does its place in line."""
     lender, a = adding
