@@ -261,7 +261,13 @@ def test_what_a_removed_slot_holds_counts_as_targets_are_decided(full):
 
 
 # Pages of a slot that comes back, of which the first ones are holes.
-COMES_BACK = ((PAGES_OF_REGION, 10), (PAGES_OF_REGION, PAGES_OF_REGION), (32, 32), (32, 20))
+COMES_BACK = (
+    (PAGES_OF_REGION, 10),
+    (PAGES_OF_REGION, PAGES_OF_REGION - 1),
+    (PAGES_OF_REGION, PAGES_OF_REGION),
+    (32, 32),
+    (32, 20),
+)
 
 
 @pytest.mark.parametrize("pages, holes", COMES_BACK)
