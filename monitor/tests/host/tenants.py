@@ -54,6 +54,11 @@ class Lender(linux_host.Host):
         with open(self.log, encoding="latin-1") as log:
             return log.read().splitlines()
 
+    def tells(self, words):
+        """Waits until it has said a line with these words. Those of a guest's process may come
+        after what its client is told."""
+        eventually(lambda: self.hear() or any(words in it for it in self.said()), self.said)
+
     def kill(self):
         """Ends it without a word."""
         self.process.kill()

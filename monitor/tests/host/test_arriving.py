@@ -140,9 +140,7 @@ def test_a_device_with_fewer_pages_in_its_balloon_than_it_was_to_come_with(movin
     lender, other = crowded(ALL)
     assert comes(other, GIVEN_UP + 1, ALL) == FINE
     assert not load(other, data)
-    lender.hear()
-    words = "a: the device that is to be loaded has fewer pages in its balloon than it was to come"
-    assert any(it.startswith(words) for it in lender.said())
+    lender.tells("a: the device that is to be loaded has fewer pages in its balloon than it was to")
     lender.become("a", lent=ALL - GIVEN_UP - 1)
 
 

@@ -237,7 +237,6 @@ def test_the_control_area(migrating):
         return client.send(SET_CONFIG, struct.pack("<III", at, len(data), OF_CLIENT) + data)
 
     assert [write(*it) for it in (TARGET, KEEP)] == [WRONG] * 2
-    lender.hear()
-    assert any("a: the lender alone has control" in it for it in lender.said())
+    lender.tells("a: the lender alone has control")
     assert write(*ASK) == FINE
     lender.become("a", ballooned=3, asked=3)
