@@ -1,6 +1,6 @@
 """The installed service under systemd, with a guest at work whose limit is `memory.max` of its own
-cgroup: processes are killed, restarted and upgraded, and the guest's client notices nothing
-(service.py says what is done, and what is demanded)."""
+cgroup: processes are killed, restarted and upgraded, an operator changes settings, and the guest's
+client notices nothing (service.py and settings.py say what is done, and what is demanded)."""
 
 import pytest
 from debian_disk import FOLDER
@@ -18,8 +18,8 @@ def service(machine, package):
     tests = f"{FOLDER}/source/monitor/tests"
     settings = f"PYTHONPATH={tests}/kit:{FOLDER}/source/client"
 
-    def do(step):
-        return machine.run(f"{settings} python3 -B {tests}/machine/service.py {step}", step)
+    def do(step, file="service"):
+        return machine.run(f"{settings} python3 -B {tests}/machine/{file}.py {step}", step)
 
     machine.run(
         (
@@ -46,3 +46,15 @@ def test_a_restart_of_the_service(service):
 
 def test_an_upgrade_of_the_service(service):
     print(service("upgrade"))
+
+
+def test_what_is_changed_stays_after_a_restart(service):
+    print(service("stays", "settings"))
+
+
+def test_a_reload_of_a_wrong_file_fails_and_of_a_right_one_is_waited_for(service):
+    print(service("file", "settings"))
+
+
+def test_the_journal_says_who_has_changed_what(service):
+    print(service("journal", "settings"))
