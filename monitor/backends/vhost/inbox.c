@@ -53,11 +53,12 @@ enum stream_state inbox_read(int socket, struct inbox *inbox)
     enum stream_state state = STREAM_WHOLE;
     size_t came;
     while (state == STREAM_WHOLE && !inbox_is_whole(inbox)) {
+        /* The process before may have ended as it had read the head alone. */
+        if (inbox->got == HEAD && inbox->message.size > MOST_BODY)
+            return STREAM_WRONG;
         state = inbox_take(socket, inbox, &came);
         if (state == STREAM_WHOLE)
             note(inbox, came);
-        if (inbox->got == HEAD && inbox->message.size > MOST_BODY)
-            return STREAM_WRONG;
     }
     return state;
 }

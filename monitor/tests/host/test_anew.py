@@ -244,6 +244,22 @@ def test_a_process_that_is_killed_amid_work(lend, way, strict):
     client.leave()
 
 
+def test_a_process_that_is_cut_off_as_it_reads_what_is_no_message(lend, cutting):
+    """The next one reads no more bytes of a body for which there is no room: it refuses these."""
+    lender = lend(64, *WIDE, "--lines", "10000", "--program", cutting)
+    for place in range(1, MOST_CUTS):
+        name = f"cut-{place}"
+        client = Client(lender.add(name), lambda: "")
+        with contextlib.suppress(OSError):
+            client.socket.sendall(struct.pack("<III", 1, 1, 1 << 20) + bytes(1 << 20))
+        lender.become(name, here=0)
+        lender.tells(f"refused {name}: the client's bytes are no message")
+        lender.demand(f"remove {name}")
+        if not any(f"{name}: its process has ended by signal" in it for it in lender.said()):
+            break
+    assert place > 5
+
+
 def test_a_process_that_ends_again_and_again_is_not_started_anew(lend, cutting):
     lender = lend(64, *WIDE, "--program", cutting)
     client = Client(lender.add("cut-always"), lambda: "")
