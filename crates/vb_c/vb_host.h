@@ -52,8 +52,9 @@ uint64_t vb_seat_lent(const VbSeat *seat);
 uint32_t vb_seat_asked(const VbSeat *seat);
 /* 1 where a deflate of it waits, else 0. */
 uint32_t vb_seat_waits(const VbSeat *seat);
-/* 1 where two seats say the same, else 0. After a step, an event that leaves the seat at its place
- * the same (as vb_host_happen on a copy of that seat alone shows) needs no other step. */
+/* 1 where two seats say the same, else 0. After a step, a report or a takeover (VB_HEARS,
+ * VB_TAKES_OVER) that leaves its seat the same, as vb_host_happen on a copy of that seat alone
+ * shows, needs no other step. */
 uint32_t vb_seat_same(const VbSeat *seat, const VbSeat *other);
 /* 1 where its process hasn't received its last target, by its last report, else 0. */
 uint32_t vb_seat_due_target(const VbSeat *seat, const VbReport *report);

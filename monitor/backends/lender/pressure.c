@@ -33,18 +33,14 @@ static VbCounter *counter_of(VbSample *sample, uint16_t tag)
     }
 }
 
-static uint32_t larger(uint32_t a, uint32_t b)
-{
-    return a > b ? a : b;
-}
-
 /* What it reports: its balloon is as its driver says, which alone knows what it is still to put
  * there. */
 static VbSample sample_of(const struct seat *seat)
 {
     const struct lending_message *report = &seat->report;
+    bool had_more = seat->inflates_to > report->target;
     VbSample sample = {.ballooned = report->actual,
-                       .target = larger(report->target, seat->inflates_to)};
+                       .target = had_more ? seat->inflates_to : report->target};
     for (uint32_t i = 0; i < report->figure_count; i++) {
         VbCounter *counter = counter_of(&sample, report->figures[i].tag);
         if (counter)
@@ -57,8 +53,8 @@ static VbSample sample_of(const struct seat *seat)
 void pressure_follows(struct seat *seat)
 {
     const struct lending_message *report = &seat->report;
-    if (report->target > report->actual)
-        seat->inflates_to = larger(seat->inflates_to, report->target);
+    if (report->target > report->actual && report->target > seat->inflates_to)
+        seat->inflates_to = report->target;
 }
 
 void pressure_hears(struct seat *seat)

@@ -120,7 +120,7 @@ def test_a_process_whose_program_does_not_go_on_stays(program, folder, tmp_path)
     assert (ran.returncode, ran.stdout.splitlines()) == (5, said)
     eventually(lambda: host.guest("a")["answers"])
     assert host.guest("a")["memory"] > 0
-    # Once one has taken it over that goes on, the next process says nothing of the one that didn't.
+    # Once one serves that has taken it over, the next process says nothing of the one that did not.
     stays = f"a: its process stays of version {OLDER}: the program that is there now "
     eventually(lambda: any(it.startswith(stays) for it in host.said()), host.said)
     install(program, installed)

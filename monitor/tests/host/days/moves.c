@@ -57,7 +57,11 @@ static void read_some(struct guest *guest)
  * are asked then, and a step that they give by may take the longest time. */
 static void look_at_silence(struct guest *guest)
 {
-    if (guest->unanswered + guest->orders.count >= 3)
+    const struct mail *orders = &guest->orders;
+    unsigned questions = guest->unanswered;
+    for (unsigned i = 0; i < orders->count; i++)
+        questions += orders->messages[(orders->first + i) % MOST_MAIL].asks;
+    if (questions >= 3)
         guest->silent_at = day->now;
 }
 
