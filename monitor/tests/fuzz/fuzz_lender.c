@@ -28,7 +28,9 @@ struct script script;
 
 static struct host host;
 static struct process processes[SEATS];
-static bool adopted[SEATS];  /* its process is an earlier lender's: what it has nobody granted */
+static bool adopted[SEATS]; /* its process is an earlier lender's: what it has nobody granted */
+/* Its last report was read while the host awaited an earlier lender's processes. */
+static bool not_refused_yet[SEATS];
 static uint32_t most_frames; /* the largest budget that there was */
 /* A process has said that it holds more than a guest may have: that counts as lent to it, as no
  * limit of the kernel's holds it. */
@@ -133,7 +135,9 @@ static void serve(void)
 {
     for (unsigned i = 0; i < SEATS; i++) {
         struct seat *seat = host.seats[i];
-        seat_read(seat, MOST_READ);
+        bool awaits = host_awaits(&host);
+        if (seat_read(seat, MOST_READ) > 0)
+            not_refused_yet[i] = awaits;
         if (seat->here && seat->channel < 0)
             seat_ended(seat);
     }
@@ -144,6 +148,13 @@ static void serve(void)
     most_frames = host.frames > most_frames ? host.frames : most_frames;
     for (unsigned i = 0; i < SEATS; i++)
         process_hears(&processes[i]);
+}
+
+/* Whether a guest may come for more than there ever was: while the host awaits the processes of an
+ * earlier lender it refuses nobody, and then whoever reports once more. */
+static bool may_want_all(unsigned place)
+{
+    return host.places[place].granted > 0 || (place < SEATS && not_refused_yet[place]);
 }
 
 /* Nobody waits who could be granted, nor for more than there ever was; and nobody has more pages
@@ -157,7 +168,7 @@ static void check_line(void)
         const VbSeat *its = &host.places[i];
         demand(its->pages <= MOST_SET || says_more);
         demand(!vb_seat_waits(its) || vb_seat_asked(its) > 0);
-        demand(its->granted > 0 || vb_seat_asked(its) <= most_frames);
+        demand(may_want_all(i) || vb_seat_asked(its) <= most_frames);
     }
 }
 
@@ -269,6 +280,7 @@ static void begin(void)
     host.budget = host.frames = most_frames = FRAMES;
     lent_before = 0;
     says_more = false;
+    memset(not_refused_yet, 0, sizeof not_refused_yet);
     host.floor = kind / 16;
     host.period = PERIOD;
     host.patience = PATIENCE;
