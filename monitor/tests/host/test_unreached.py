@@ -64,6 +64,21 @@ def test_a_process_that_does_not_report_counts_with_all_its_pages(lend, stuck):
     newcomer.leave()
 
 
+def test_who_comes_with_too_much_meanwhile_is_refused_then(lend, stuck):
+    """While the host awaits that process, it refuses nobody."""
+    lender = later(lend, stuck[0])
+    lender.set_budget(ALL - 1)
+    newcomer = Client(lender.add("c"))
+    newcomer.negotiate()
+    comes = Later(newcomer.hand_over_memory)
+    lender.become("c", waits="room")
+    eventually(lambda: "refused c: no room for 512K: 4K are missing" in lender.said(), lender.said)
+    lender.become("c", here=0, lent=0)
+    newcomer.socket.shutdown(2)
+    comes.join(PATIENCE)
+    newcomer.leave()
+
+
 @pytest.mark.parametrize(
     "client, act, frames",
     ((OneFile, remove_slot, ALL), (Larger, lambda a: a.client.fill_outside(), ALL + OUTSIDE)),
