@@ -1,4 +1,4 @@
--- How much a notice does yet at most, as a number that each step makes smaller.
+-- An upper bound on the steps that a notice still makes: each step makes it smaller.
 use Rattle.std.specs.Prelude.{ℕ, ◌+◌, ◌-◌, ◌*◌, ◌^◌, Bool, true, false, List, length}
 use Rattle.vb_virtio.specs.declared.limits.TheConstants.{MAX_QUEUE_SIZE}
 use Rattle.vb_monitor.specs.declared.room.TheConstants.{MAX_RUNS}
@@ -39,7 +39,7 @@ onward_left false regions piece done = 0
 abbrev pub once_whole : List Region → ℕ
 once_whole regions = once_named regions + 1 + copies_left regions 0 0
 
--- Before that the descriptors are, of which n were.
+-- The bound while n descriptors of a chain have been copied.
 abbrev pub once_copied : List Region → ℕ → ℕ
 once_copied regions count = once_whole regions + (MAX_QUEUE_SIZE - count)
 

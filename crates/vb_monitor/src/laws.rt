@@ -192,8 +192,8 @@ pub fn large_pages_go_once_they_are_given_up()
         is_of r answer.cut p ≡ true }
 {}
 
-/// A queue of which a chain may be given back is refused nothing once it was: so it is tested where
-/// it is looked at, and not after each chain.
+/// Returning a chain can't make its queue invalid: so a queue is validated where its index is read,
+/// and not after each chain.
 #[tactic(auto, using(crate::proofs::OpenLemmas::used_open))]
 pub fn a_chain_that_is_given_back_leaves_its_queue_open()
     ensures { (kind : Kind) (head : ℕ) (d : Device) → use_denial kind head d ≡ None →

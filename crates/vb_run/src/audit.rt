@@ -95,7 +95,7 @@ pub(crate) fn expected_of(
     Ok(entries)
 }
 
-/// Whether the two are one look, or one target that was set without a claim.
+/// Whether both record the same look, or the same target that was set without a claim.
 fn is_same_entry(guest: u32, note: &Note, other: &Entry) -> bool
     ensures { (result ≡ true) ↔ ((noted_entry guest [] note.now ≡ other.now)
         × (is_of_round (noted_entry guest [] note.now) ≡ true)) }

@@ -85,8 +85,8 @@ struct backend {
      * once. Or NULL. */
     bool (*answer)(struct backend *backend, const struct message *message, const void *body,
                    size_t size);
-    /* The target that its driver obeys, which may not have read the last one yet; or NULL: the last
-     * one. */
+    /* The effective target, as the driver may not have read the current one yet; or NULL: the
+     * current one. */
     uint32_t (*obeyed)(const struct backend *backend);
     /* What the backend is now is to outlive its process; or NULL. */
     void (*keep)(struct backend *backend);

@@ -185,9 +185,10 @@ json_t *request_answer(struct control *control, struct control_client *client, s
     struct asked asked = {control, client, host, fields, {client->user, client->process, ""}};
     json_t *reply;
     if (!fields)
-        reply = request_refusal("trash", NULL, "no JSON: column %d: %s", fault.column, fault.text);
+        reply = request_refusal("invalid-json", NULL, "no JSON: column %d: %s", fault.column,
+                                fault.text);
     else if (!json_is_object(fields))
-        reply = request_refusal("trash", NULL, "JSON, but no object");
+        reply = request_refusal("invalid-json", NULL, "JSON, but no object");
     else
         reply = answer(&asked);
     reply = request_headed(fields, reply);

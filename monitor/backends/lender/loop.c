@@ -142,7 +142,7 @@ static int64_t latest(int64_t one, int64_t other)
 }
 
 /* Waits for a guest's client or process, and for the writer of its limit. A process that ends
- * closes its channel: whether one has ended and has not is looked at once a period. */
+ * closes its channel; one that has ended without is found once a period. */
 static void wait_for_seat(struct seat *seat, int64_t now)
 {
     struct loop *loop = &seat->host->loop;
@@ -240,7 +240,7 @@ static int turn_of_seats(void *context)
     return LOOP_GOES_ON;
 }
 
-/* Lets what guests are asked for grow. */
+/* Ramps the targets. */
 static void step(struct host *host, int64_t now)
 {
     int64_t passed = now - host->stepped_at;

@@ -207,7 +207,7 @@ static void await_held(struct lent *lent)
         lent->notes.held_pages = 0;
 }
 
-/* Who was told something last may not have heard it. */
+/* The last notification may have been lost: it is repeated. */
 static bool tell_all(struct backend *backend)
 {
     for (unsigned number = 0; number < QUEUES; number++)
@@ -263,7 +263,7 @@ static bool begin(struct lent *lent, const struct options *options, struct kept 
         complain("its process has ended by signal %u: another one takes over", kept->ended_by);
     if (kept->stays)
         complain(
-            "its process stays of version %s: the program that is there now can't take it over",
+            "upgrade refused: the installed program can't take over its process, which stays at %s",
             VB_VERSION);
     files_put_off(true);
     process_is_shut = HAS_SANDBOX && !options->open;

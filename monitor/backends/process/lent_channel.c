@@ -31,7 +31,7 @@ static void say_to_lender(enum saying saying, const char *words)
     send_to_lender(speaks, &message);
 }
 
-/* The hook for the target that its driver obeys: the one that it has read last, or the last one,
+/* The hook for the effective target: the last one that the driver has read, or the current one
  * where it reads none, or hasn't for a while. */
 static uint32_t obeyed(const struct backend *backend)
 {

@@ -16,22 +16,24 @@ PAGES = "a whole number of bytes in pages of 4096, up to 17592186036224"
 NO_USER = "a user of this machine, a user's number, or none"
 NO_NUMBER = "a user's name or number, or null"
 
+NO_JSON = "invalid-json"
+
 # A line, and the code, the field and the words by which it is refused.
 WRONG = (
-    (b"", "trash", None, "no JSON: column 0: '[' or '{' expected near end of file"),
-    (b"status", "trash", None, "no JSON: column 6: '[' or '{' expected near 'status'"),
-    (b'{"version": 1', "trash", None, "no JSON: column 13: '}' expected near end of file"),
-    (b'{"version": 1} {}', "trash", None, "no JSON: column 16: end of file expected near '{'"),
+    (b"", NO_JSON, None, "no JSON: column 0: '[' or '{' expected near end of file"),
+    (b"status", NO_JSON, None, "no JSON: column 6: '[' or '{' expected near 'status'"),
+    (b'{"version": 1', NO_JSON, None, "no JSON: column 13: '}' expected near end of file"),
+    (b'{"version": 1} {}', NO_JSON, None, "no JSON: column 16: end of file expected near '{'"),
     (
         b'{"version": 1, "version": 1}',
-        "trash",
+        NO_JSON,
         None,
         "no JSON: column 24: duplicate object key near '\"version\"'",
     ),
-    (b"[1]", "trash", None, "JSON, but no object"),
-    (b"\xff\xfe", "trash", None, "no JSON: column 0: unable to decode byte 0xff"),
-    (b"\0", "trash", None, "no JSON: column 1: '[' or '{' expected near end of file"),
-    (b"[" * 3000, "trash", None, "no JSON: column 2049: maximum parsing depth reached near '['"),
+    (b"[1]", NO_JSON, None, "JSON, but no object"),
+    (b"\xff\xfe", NO_JSON, None, "no JSON: column 0: unable to decode byte 0xff"),
+    (b"\0", NO_JSON, None, "no JSON: column 1: '[' or '{' expected near end of file"),
+    (b"[" * 3000, NO_JSON, None, "no JSON: column 2049: maximum parsing depth reached near '['"),
     (
         b'{"request": "status"}',
         "missing-field",
@@ -78,7 +80,7 @@ WRONG = (
     (say(request="guest", name="a", target="4096"), "bad-field", "target", PAGES),
     (say(request="guest", name="a", target=None), "bad-field", "target", PAGES),
     (say(request="guest", name="a", least=PAGE * 0xFFFFFFFF), "bad-field", "least", PAGES),
-    (say(request="guest", name="a", most=2**63), "trash", None, "too big integer"),
+    (say(request="guest", name="a", most=2**63), NO_JSON, None, "too big integer"),
     (say(request="guest", name="a", most=False), "bad-field", "most", f"{PAGES}, or null"),
     (
         say(request="guest", name="a", priority=2**32),
@@ -191,7 +193,7 @@ def test_each_wrong_line_is_refused_by_its_words_and_changes_nothing(host, raw):
             code,
             field,
         ), (line, answer)
-        assert error["text"].startswith(text) or (code == "trash" and text in error["text"]), (
+        assert error["text"].startswith(text) or (code == NO_JSON and text in error["text"]), (
             line,
             error,
         )

@@ -44,8 +44,8 @@ CHANGES = (
 
 # What is refused there as it is at the control socket, and by which code.
 WRONG = (
-    (b"", "trash"),
-    (b"[1]", "trash"),
+    (b"", "invalid-json"),
+    (b"[1]", "invalid-json"),
     (say(), "missing-field"),
     (say(request="nope"), "unknown-request"),
     (say(request="guest"), "missing-field"),

@@ -121,8 +121,11 @@ def test_a_process_whose_program_does_not_go_on_stays(program, folder, tmp_path)
     eventually(lambda: host.guest("a")["answers"])
     assert host.guest("a")["memory"] > 0
     # Once one serves that has taken it over, the next process says nothing of the one that did not.
-    stays = f"a: its process stays of version {OLDER}: the program that is there now "
-    eventually(lambda: any(it.startswith(stays) for it in host.said()), host.said)
+    stays = (
+        "a: upgrade refused: the installed program can't take over its process, "
+        f"which stays at {OLDER}"
+    )
+    eventually(lambda: stays in host.said(), host.said)
     install(program, installed)
     ran = bigvasta(host.control, "upgrade")
     said = [f"host: {version()} -> {version()}", f"a: {OLDER} -> {version()}"]

@@ -151,7 +151,7 @@ static void serve(void)
 }
 
 /* Whether a guest may come for more than there ever was: while the host awaits the processes of an
- * earlier lender it refuses nobody, and then whoever reports once more. */
+ * earlier lender it refuses nobody, and then each guest by its next report. */
 static bool may_want_all(unsigned place)
 {
     return host.places[place].granted > 0 || (place < SEATS && not_refused_yet[place]);
