@@ -1,0 +1,97 @@
+"""Memory that is added to a guest at work, and that waits: what ends its wait lets in who waits after
+it."""
+
+import contextlib
+import ctypes
+import os
+import signal
+
+import pytest
+from played import TELL_GONE, WAIT_ROOM, Played
+from tenants import eventually
+from test_strict import STRICT, lent
+
+# Pages of the budget; of a guest, and those that are added to it, for which there is no room even
+# without it; of another one; and of one that waits after it, for which there is room.
+BUDGET, OWN, ADDED, OTHERS, NEXT = 200, 10, 190, 20, 50
+
+# The host isn't patient with who waits first, and lets nobody pass.
+NEVER = ("--patience", "3600")
+
+# ptrace(2), waitpid(2).
+CONT, SEIZE, STOPS_AS_IT_ENDS, ANY_CHILD = 7, 0x4206, 0x40, 0x40000000
+
+
+@pytest.fixture
+def blocked(lend):
+    """Returns a lender, a guest `a` that waits first, for memory that is added to it, and a guest
+    `b` that waits after it."""
+    lender = lend(1, *STRICT, *NEVER)
+    lender.set_budget(BUDGET)
+    a, c = Played(lender, "a", pages=OWN), Played(lender, "c", pages=OTHERS)
+    a.report(waits=WAIT_ROOM, wait=1, wanted=OWN + ADDED)
+    lender.become("a", waits="room", lent=OWN)
+    b = Played(lender, "b")
+    b.report(waits=WAIT_ROOM, wait=1, wanted=NEXT)
+    lender.become("b", waits="room", lent=0)
+    yield lender, a
+    for it in (b, c):
+        it.leave()
+        lender.become(it.name_of, here=0)
+
+
+def is_next(lender):
+    """The other one is let in."""
+    lender.become("b", lent=NEXT)
+
+
+def test_who_waits_after_it_waits(blocked):
+    lender, a = blocked
+    looks = lender.counters()["looks"]
+    eventually(lambda: lender.counters()["looks"] > looks + 2)
+    assert lender.guests()["b"]["lent"] == 0
+    a.leave()
+    is_next(lender)
+    lender.become("a", here=0, lent=0)
+
+
+def test_a_process_asks_no_longer(blocked):
+    lender, a = blocked
+    a.report(waits=0, wanted=0)
+    is_next(lender)
+    assert lent(lender) == OWN + OTHERS + NEXT
+    a.leave()
+
+
+def test_the_client_has_gone_whose_process_has_not_ended(blocked):
+    """What it has stays lent until then."""
+    lender, a = blocked
+    a.say(TELL_GONE)
+    is_next(lender)
+    assert lent(lender) == OWN + OTHERS + NEXT
+    a.leave()
+
+
+@contextlib.contextmanager
+def ends_late(child):
+    """A process that is killed meanwhile has ended afterwards only."""
+    ptrace = ctypes.CDLL(None).ptrace
+    ptrace.argtypes = [ctypes.c_long, ctypes.c_long, ctypes.c_void_p, ctypes.c_void_p]
+    assert ptrace(SEIZE, child, None, STOPS_AS_IT_ENDS) == 0
+    try:
+        yield
+        assert os.WIFSTOPPED(os.waitpid(child, ANY_CHILD)[1]), "it isn't killed, or has ended"
+    finally:
+        os.kill(child, signal.SIGKILL)
+        ptrace(CONT, child, None, None)
+
+
+def test_a_process_has_lied_that_has_not_ended(blocked):
+    """It is served no longer, and what it has stays lent until then."""
+    lender, a = blocked
+    with ends_late(a.listens.child):
+        a.report(pages=OWN + 1)
+        is_next(lender)
+        assert lent(lender) == OWN + OTHERS + NEXT
+    lender.become("a", here=0, lent=0)
+    a.channel.close()
