@@ -11,7 +11,7 @@ from played import ORDER_ADMIT, ORDER_TARGET, WAIT_RESET, WAIT_ROOM
 from tenants import FREE, PAGES, PAGES_OF_ALL, eventually, process_of, read_target
 from test_between_looks import report_that
 from test_channels import channel
-from test_reports import order, reported
+from test_reports import MAY_START_SMALL, order, reported
 from test_strict import STRICT, Later
 from vhost_client import ADD_MEM_REG, DEFLATE, INFLATE, OFFERED, PAGES_OF_REGION, Client
 from waiting import PATIENCE
@@ -70,6 +70,30 @@ def test_memory_that_is_added_changes_no_configuration(lend):
     assert words_of(client, 0) == []
     lender.become("a", pages=2 * PAGES_OF_REGION)
     client.leave()
+
+
+def test_memory_that_is_added_is_no_start(lend):
+    """Its driver is told of no target, and has read the one that it has, though the lender says how
+    many of its pages are in its balloon."""
+    lender, given = lend(1, *STRICT), len(GIVEN)
+    client = Client(lender.add("a"))
+    begin(client)
+    client.post_pages(INFLATE, GIVEN)
+    lender.reclaim("a", client, given)
+    lender.kill()
+    with channel() as it:
+        it.connect(f"{lender.folder}/.channels/a")
+        words_of(client, QUIET)
+        adds = Later(lambda: client.accepted(ADD_MEM_REG, client.region_body(1), client.files[1:]))
+        report, _ = report_that(it, lambda its: its.waits == WAIT_ROOM)
+        order(it, ORDER_ADMIT, wait=report.wait, ballooned=given, target=given)
+        adds.ends()
+        assert words_of(client, 0) == []
+        its = reported(it)
+        assert (its.pages, its.ballooned, its.target) == (2 * PAGES_OF_REGION, given, given)
+        assert (its.obeyed, its.holds) == (given + 1, MAY_START_SMALL)
+    client.leave()
+    lend(1, *STRICT, folder=lender.folder).become("a", here=0)
 
 
 @pytest.fixture
