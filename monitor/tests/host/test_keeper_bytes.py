@@ -6,6 +6,9 @@ import socket
 import struct
 import time
 
+import pytest
+from bigvasta.connection import Connection
+from installed import OLDER, install, older_program, version
 from kept import HEAD, Kept, layout
 from played import FIGURES
 from tenants import eventually, process_of, status_of, stop
@@ -98,3 +101,85 @@ def test_another_process_goes_on_before_the_count_of_bytes_ends(lend, checked):
     lender.become("a", here=1, ready=1)
     assert not [it for it in lender.said() if it.startswith("a: ")]
     client.leave(), os.close(kept.file)
+
+
+class Installed:
+    """A guest of the older programs, in whose place others are installed."""
+
+    def __init__(self, lend, folder):
+        self.folder = str(folder)
+        self.lender = lend(64, *WIDE, program=install(older_program(), self.folder))
+        self.client = Client(self.lender.add("a"), lambda: self.lender.said()[-4:])
+        self.client.start()
+
+    def version(self):
+        """Returns the version of the process that serves it."""
+        self.lender.become("a", here=1, ready=1)
+        return self.lender.status()["guests"][0]["version"]
+
+    def break_program(self):
+        """Installs a program of a guest's process that doesn't continue with what is kept."""
+        path = f"{self.folder}/vhost_user_balloon"
+        os.unlink(path)
+        with open(path, "w", encoding="ascii") as script:
+            script.write("#!/bin/sh\n[ $1 = --version ]\n")
+        os.chmod(path, 0o755)
+
+    def is_next(self, process):
+        """Waits until another process has continued with the client."""
+        eventually(lambda: process_of(self.lender, "a") not in (0, process))
+        assert configuration(self.client)[0] == 0
+
+    def renew(self):
+        """Has it be asked to become what is installed; returns the version of what serves then."""
+        process = process_of(self.lender, "a")
+        with Connection(f"{self.lender.folder}/.control") as control:
+            control.ask("renew", name="a")
+        self.is_next(process)
+        return self.version()
+
+    def end_count(self):
+        """Has the count of its client's bytes end; returns the version of what serves then."""
+        process = process_of(self.lender, "a")
+        kept = Kept(process)
+        have_been_counted(process, kept, MOST_COUNTED)
+        configuration(self.client)
+        self.is_next(process)
+        os.close(kept.file)
+        return self.version()
+
+    def stays(self):
+        """Returns how often it was said that the program that is installed can't continue."""
+        self.lender.hear()
+        return sum(it.startswith("a: its process stays of version ") for it in self.lender.said())
+
+
+@pytest.fixture
+def installed(lend, tmp_path):
+    """Returns such a guest."""
+    its = Installed(lend, tmp_path)
+    yield its
+    its.client.leave()
+
+
+def test_who_was_asked_alone_becomes_what_is_installed(installed, plain):
+    """Not a process that continues as the count of bytes ends, before that one or after it."""
+    install(plain, installed.folder)
+    assert installed.end_count() == OLDER
+    assert installed.renew() == version()
+    install(older_program(), installed.folder)
+    assert installed.end_count() == version()
+    assert installed.stays() == 0
+
+
+def test_who_could_not_become_what_is_installed_does_so_once_it_is_asked_again(installed, plain):
+    """What can't continue is named each time that it is asked for, and not by later processes."""
+    installed.break_program()
+    assert (installed.renew(), installed.stays()) == (OLDER, 1)
+    install(plain, installed.folder)
+    assert (installed.end_count(), installed.stays()) == (OLDER, 1)
+    installed.break_program()
+    assert (installed.renew(), installed.stays()) == (OLDER, 2)
+    install(plain, installed.folder)
+    assert (installed.renew(), installed.stays()) == (version(), 2)
+    assert (installed.end_count(), installed.stays()) == (version(), 2)
