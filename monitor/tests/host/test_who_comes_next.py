@@ -91,6 +91,16 @@ def test_who_comes_next_has_nothing_of_the_client_before(lend, come, options):
         it.leave()
 
 
+def test_who_comes_after_one_that_took_pages_may_be_asked_at_once(lend, come):
+    """The one before had taken some of what it gave, and was to be asked for no more for a
+    while."""
+    lender = lend(4, *LOOSE, *SLOW)
+    lender.demand("add a overhead=0 most=0")
+    live(lender, come, False)
+    come(lender, "a", {FREE: 70})
+    assert lender.guests()["a"]["spare"] == 70
+
+
 def test_a_client_that_comes_after_one_that_waited_waits_for_its_own(lend, come):
     lender = lend(1, *STRICT)
     others = [come(lender, it, {FREE: 0}) for it in "bc"]
