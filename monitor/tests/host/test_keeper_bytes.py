@@ -151,7 +151,7 @@ class Installed:
     def stays(self):
         """Returns how often it was said that the program that is installed can't continue."""
         self.lender.hear()
-        return sum(it.startswith("a: its process stays of version ") for it in self.lender.said())
+        return sum(it.startswith("a: upgrade refused: ") for it in self.lender.said())
 
 
 @pytest.fixture
