@@ -75,11 +75,13 @@ static void balloon_set_config(VirtIODevice *vdev, const uint8_t *config)
     }
 }
 
-static void balloon_set_status(VirtIODevice *vdev, uint8_t status)
+static VHostUserBalloonTaken balloon_set_status(VirtIODevice *vdev,
+                                                uint8_t status)
 {
     if (vub_balloon_is_connected(VHOST_USER_BALLOON(vdev))) {
-        vub_balloon_base_class()->set_status(vdev, status);
+        return vub_balloon_base_class()->set_status(vdev, status);
     }
+    return (VHostUserBalloonTaken) 0;
 }
 
 static struct vhost_dev *balloon_get_vhost(VirtIODevice *vdev)

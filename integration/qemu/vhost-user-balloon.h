@@ -14,12 +14,17 @@
 #define TYPE_VHOST_USER_BALLOON "vhost-user-balloon"
 OBJECT_DECLARE_SIMPLE_TYPE(VHostUserBalloon, VHOST_USER_BALLOON)
 
-/* The class data of a type is constant from 10.1 on */
+/*
+ * From 10.1 on the class data of a type is constant, and a device says whether
+ * it took a status
+ */
 #if QEMU_VERSION_MAJOR > 10 || \
     (QEMU_VERSION_MAJOR == 10 && QEMU_VERSION_MINOR > 0)
 typedef const void *VHostUserBalloonClassData;
+typedef int VHostUserBalloonTaken;
 #else
 typedef void *VHostUserBalloonClassData;
+typedef void VHostUserBalloonTaken;
 #endif
 
 /* What the driver sees of the configuration, and where `actual` is in it */
