@@ -29,6 +29,12 @@ def pytest_addoption(parser):
     )
     parser.addoption("--hours", type=float, metavar="H", help="the run of a host for H hours alone")
     parser.addoption("--vmm", default="uml", choices=VMMS, help="what runs a Linux")
+    parser.addoption(
+        "--suite",
+        metavar="NAME",
+        help="another Debian, bookworm, trixie or sid: of its kernel, or of the QEMU of a guest "
+        "that migrates",
+    )
 
 
 def is_chosen(item, wrong, hours):

@@ -1,5 +1,5 @@
-"""Linux guests that migrate, or are saved: QEMUs of Debian 13 on one machine, each with its
-backend, and the device vhost-user-balloon-pci preloaded into them."""
+"""Linux guests that migrate, or are saved: QEMUs of Debian 13, or of another one, on one machine,
+each with its backend, and the device vhost-user-balloon-pci preloaded into them."""
 
 import hashlib
 import os
@@ -8,10 +8,13 @@ import sys
 
 from linux_guest import Backend, Guest
 from linux_packages import ROOT, Fault, Missing, last_line
-from linux_vmms import Qemu, fetched_qemu
+from linux_vmms import Qemu, accelerator, fetched_qemu
 from waiting import eventually
 
 DEBIAN, DEVICE = "trixie", "vhost-user-balloon-pci"
+
+# QEMU's words for how it runs a guest: the first where none is asked for.
+ACCELERATORS = ("tcg", "kvm")
 
 # Bytes of a page; pages that are compared at a time.
 PAGE, AT_A_TIME = 4096, 256
@@ -24,29 +27,40 @@ DRIVER_OK = 15
 CAPABILITIES = ("events", "return-path")
 
 
-def module():
+def module(suite):
     """Returns the device's module, which tools/qemu-balloon builds for the QEMU of this Debian."""
-    tool = os.path.join(ROOT, "tools", "qemu-balloon")
-    ran = subprocess.run([sys.executable, tool, "--path"], capture_output=True, text=True)
+    words = [os.path.join(ROOT, "tools", "qemu-balloon"), "--path", "--suite", suite]
+    ran = subprocess.run([sys.executable, *words], capture_output=True, text=True)
     if ran.returncode != 0:
         raise Missing(last_line(ran.stderr))
     return ran.stdout.strip()
 
 
 class Migrating(Qemu):
-    """QEMU with this repository's device, of which a guest may migrate."""
+    """QEMU of a Debian with this repository's device, of which a guest may migrate. The guest's
+    kernel is Debian 13's in each case."""
 
-    devices, debian = (DEVICE,), DEBIAN
+    devices = (DEVICE,)
     OF_BALLOON = {}
     # On a busy machine an emulated processor may stand still for longer than the kernel likes.
     kernel_words = (*Qemu.kernel_words, "nowatchdog", "rcupdate.rcu_cpu_stall_suppress=1")
 
+    def __init__(self, folder, suite=None, asked=None):
+        if asked == "kvm" and accelerator() != "kvm":
+            raise Missing(
+                "--accelerator kvm: KVM doesn't answer here, or takes only kernels that are made "
+                "for it (the processor has neither vmx nor svm)"
+            )
+        self.debian, self.asked = suite or DEBIAN, asked or ACCELERATORS[0]
+        super().__init__(folder, DEBIAN)
+
     def find(self):
         """Returns the words that begin a command of QEMU, and its device: the module is preloaded
         by the loader, and so in no process that QEMU starts."""
-        words = fetched_qemu(DEBIAN)
+        words = fetched_qemu(self.debian)
         loader = next(i for i, it in enumerate(words) if "ld-linux" in it)
-        return [*words[: loader + 1], "--preload", module(), *words[loader + 1 :]], DEVICE
+        preloaded = ["--preload", module(self.debian)]
+        return [*words[: loader + 1], *preloaded, *words[loader + 1 :]], DEVICE
 
     def words(self, folder, shape, path):
         """Returns the guest's command; a backend that has gone is looked for again, and there is a
@@ -55,8 +69,8 @@ class Migrating(Qemu):
         return [*words, "-device", "pcie-root-port,id=port2,chassis=2,slot=2"]
 
     def accelerator(self):
-        """Returns QEMU's word for its own emulation."""
-        return "tcg"
+        """Returns QEMU's word for what was asked for, and never another."""
+        return self.asked
 
     def device_words(self, shape):
         """Returns the device by its names."""

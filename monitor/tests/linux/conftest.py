@@ -12,11 +12,6 @@ def pytest_addoption(parser):
     words.addoption(
         "--form", choices=FORMS, help="the one form in which guest and device notify each other"
     )
-    words.addoption(
-        "--suite",
-        metavar="NAME",
-        help="the kernel of another Debian than the machine's: bookworm, trixie, sid",
-    )
 
 
 def forms_of(config):

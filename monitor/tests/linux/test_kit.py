@@ -7,6 +7,7 @@ import subprocess
 import time
 
 import linux_guest
+import linux_migrated
 import linux_packages
 import linux_vmms
 import pytest
@@ -233,3 +234,33 @@ def test_suites_that_are_none(suite):
 
 def test_the_machine_s_own_suite():
     assert linux_packages.apt_of(None) is None
+
+
+@pytest.fixture
+def migrating(monkeypatch, tmp_path):
+    """Returns what makes guests that migrate, on a machine whose QEMU has this accelerator;
+    nothing is fetched."""
+
+    def make(has, *asked):
+        monkeypatch.setattr(linux_migrated, "accelerator", lambda: has)
+        return linux_migrated.Migrating(str(tmp_path), *asked)
+
+    monkeypatch.setattr(linux_migrated.Qemu, "__init__", lambda *_: None)
+    monkeypatch.setattr(linux_migrated, "fetched_qemu", lambda it: ["ld-linux.so", f"qemu-{it}"])
+    monkeypatch.setattr(linux_migrated, "module", lambda it: f"module-{it}")
+    return make
+
+
+def test_a_guest_that_migrates_is_emulated_unless_kvm_is_asked_for(migrating):
+    for has, *asked in (("kvm",), ("tcg",), ("kvm", None, "tcg"), ("tcg", "sid", "tcg")):
+        assert migrating(has, *asked).accelerator() == "tcg"
+    assert migrating("kvm", None, "kvm").accelerator() == "kvm"
+    with pytest.raises(linux_packages.Missing, match="takes only kernels that are made for it"):
+        migrating("tcg", None, "kvm")
+
+
+@pytest.mark.parametrize("asked, debian", ((None, "trixie"), ("sid", "sid")))
+def test_a_guest_that_migrates_between_qemus_of_a_debian(migrating, asked, debian):
+    command, device = migrating("tcg", asked).find()
+    assert command == ["ld-linux.so", "--preload", f"module-{debian}", f"qemu-{debian}"]
+    assert device == "vhost-user-balloon-pci"

@@ -2,7 +2,7 @@
 
 import linux_kit
 import pytest
-from linux_migrated import DEBIAN, Migrating, Pair
+from linux_migrated import ACCELERATORS, Migrating, Pair
 from linux_vmms import Shape
 
 PROGRAMS = (
@@ -17,10 +17,17 @@ pytest.register_assert_rewrite("migrate_demands")
 MEMORY = 256
 
 
+def pytest_addoption(parser):
+    """The option of this suite."""
+    parser.addoption("--accelerator", choices=ACCELERATORS, help="how QEMU runs a guest")
+
+
 @pytest.fixture(scope="session")
-def vmm(tmp_path_factory):
+def vmm(tmp_path_factory, request):
     """QEMU with the device, and a kernel."""
-    return Migrating(str(tmp_path_factory.mktemp("migrate")), DEBIAN)
+    asked = request.config.getoption
+    folder = str(tmp_path_factory.mktemp("migrate"))
+    return Migrating(folder, asked("--suite"), asked("--accelerator"))
 
 
 @pytest.fixture
