@@ -119,8 +119,14 @@ def test_an_option_to_keep_pages_stays(serve_well):
     assert client.holes() == []
 
 
+# A command that would be obeyed where commands are, and the places from which on it is none.
+KEEP = struct.pack("<II", VERSION, KEEP_PAGES)
+ELSEWHERE = (0, 16, 19, 24, 200, 256)
+
 # Bytes of the client's own that are no target and no command of the version.
 WRONG = (
+    *((at, KEEP) for at in ELSEWHERE),
+    *((COMMAND_AT, it) for it in (KEEP[:7], KEEP + bytes(1), KEEP + bytes(4))),
     (0, bytes(3)),
     (0, bytes(8)),
     (3, bytes(4)),
