@@ -82,6 +82,33 @@ def test_too_few_or_too_many_bytes_or_files(serve, name):
             demand_refused(client, f"{name} has {words}")
 
 
+# Bytes that a message's body may have at most (vhost_user.h), whatever message it is.
+MOST_BODY = 512
+
+
+@pytest.mark.parametrize(
+    "more, words", ((0, f"SET_CONFIG has {MOST_BODY} bytes"), (1, "bytes are no message"))
+)
+def test_the_longest_body(serve, more, words):
+    client = serve()
+    send(client, "SET_CONFIG", MOST_BODY + more, 0)
+    demand_refused(client, words)
+
+
+# Numbers of messages that a backend has no rule for, up to the first after the last one that has
+# one, and what a client may say besides.
+NUMBERS = {getattr(vhost_client, it) for it in MESSAGES}
+NO_NUMBERS = sorted({*range(max(NUMBERS) + 2), 2**31, 2**32 - 1} - NUMBERS)
+
+
+@pytest.mark.parametrize("number", NO_NUMBERS)
+def test_a_message_without_a_rule(serve, number):
+    """With another one after it, which is read with its head."""
+    client = serve()
+    client.socket.sendall(struct.pack("<6I", number, 1, 0, GET_FEATURES, 1, 0))
+    demand_refused(client, f"message {number} is unknown")
+
+
 @pytest.mark.parametrize("name", MESSAGES)
 def test_the_fewest_and_the_most_bytes_and_files(serve, name):
     sizes, files, _ = rule_of(name)
