@@ -296,6 +296,7 @@ def test_a_reader_that_goes(ready):
 def test_files_that_are_no_pipe(ready):
     client = ready()
     stopped(client)
+    files = client.open_files()
     for file in (os.memfd_create("state"), os.eventfd(0), os.open("/dev/zero", os.O_RDWR)):
         for direction in (SAVE, LOAD):
             assert ask(client, os.dup(file), direction) == BADLY
@@ -304,6 +305,7 @@ def test_files_that_are_no_pipe(ready):
         assert ask(client, os.pipe()[direction == SAVE], direction, phase) == BADLY
         assert f"in direction {direction}, in phase {phase}" in client.why()
     assert client.send(CHECK_DEVICE_STATE) == WRONG
+    assert client.open_files() == files
 
 
 def test_files_are_closed(ready):
