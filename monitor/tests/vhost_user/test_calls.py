@@ -18,7 +18,7 @@ from vhost_client import (
     SET_VRING_KICK,
 )
 from vhost_demands import FIRST, MOMENT, word
-from waiting import PATIENCE
+from waiting import PATIENCE, eventually
 
 
 def test_pipes_and_sockets_for_calls(start_by_events):
@@ -71,6 +71,17 @@ def test_a_call_to_a_pipe_or_a_socket_that_is_full(start_by_events):
         os.close(ends[0]), os.close(ends[1])
 
 
+def test_a_queue_without_a_call_is_told_of_nothing(start_by_events):
+    """Its driver looks by itself; the channel is for messages, where these are negotiated."""
+    client = start_by_events()
+    for number in (INFLATE, DEFLATE):
+        client.accepted(SET_VRING_CALL, word(number | NO_FILE))
+        client.post_pages(number, [FIRST])
+        eventually(lambda: client.is_all_used(number), client.why)
+    # The first thing that it is told is what comes after that.
+    assert (client.backend.ask("target 5"), client.told()) == ("ok", None)
+
+
 def test_one_event_for_the_kicks_of_two_queues(start_by_events):
     client = start_by_events()
     event = os.eventfd(0, os.EFD_NONBLOCK)
@@ -83,6 +94,12 @@ def test_one_event_for_the_kicks_of_two_queues(start_by_events):
         event, 1
     )  # one of the two takes it; the other one finds nothing, and doesn't wait
     assert (client.called(INFLATE), client.used(INFLATE)[0], client.counter("kicks")) == (1, 1, 1)
+    # Who has found nothing has its kicks still.
+    client.accepted(SET_VRING_ENABLE, struct.pack("<II", INFLATE, 0))
+    client.describe(DEFLATE, 0, BUFFERS, 4)
+    client.publish(DEFLATE, 0)
+    os.eventfd_write(event, 1)
+    assert (client.called(DEFLATE), client.used(DEFLATE)[0], client.counter("kicks")) == (1, 1, 2)
     os.close(event)
 
 
@@ -94,6 +111,17 @@ def test_a_kick_that_another_event_follows(start_by_events):
     client.send(SET_VRING_KICK, word(INFLATE), [client.kicks[DEFLATE]], flags=1)
     os.kill(process, signal.SIGCONT)
     assert (client.called(INFLATE), client.used(INFLATE)[0], client.holes()) == (1, 1, [FIRST])
+
+
+def test_a_kick_by_a_message_starts_a_ring_that_was_stopped(start):
+    """As a kick by a file does: it is enabled still (docs/interop/vhost-user.rst, "Ring states")."""
+    client = start()
+    client.post_pages(INFLATE, [FIRST])
+    assert (client.told(), client.stop_ring(INFLATE)) == (INFLATE, 1)
+    client.tell_place(INFLATE, base=1)
+    assert client.post_pages(INFLATE, [FIRST + 1]) == bytes(8)
+    eventually(lambda: client.is_all_used(INFLATE), client.why)
+    assert (client.told(), client.holes()) == (INFLATE, [FIRST, FIRST + 1])
 
 
 def test_a_kick_as_its_ring_is_disabled(start_by_events):
