@@ -13,6 +13,7 @@ from vhost_client import (
     INFLATE,
     PAGE,
     QEMU_PROTOCOL,
+    QUEUES,
     REGIONS,
     RESET_DEVICE,
     SET_CONFIG,
@@ -20,6 +21,7 @@ from vhost_client import (
     SET_STATUS,
     SET_VRING_ADDR,
     SET_VRING_ENABLE,
+    SET_VRING_ERR,
     SET_VRING_KICK,
     SET_VRING_NUM,
     SIZE,
@@ -32,7 +34,7 @@ def test_status(serve_well):
     client.negotiate(protocol=QEMU_PROTOCOL)
     client.add_memory()
     answers = []
-    for status in (8, 9, 1, 12, 11, 15, 0x100, 0):
+    for status in (8, 9, 1, 12, 11, 15, 0x100, 0xFF, 0, 4, 7, 12):
         answers.append(
             (client.send(SET_STATUS, word(status)) == bytes(8), client.send(GET_STATUS)[0])
         )
@@ -44,7 +46,9 @@ def test_status(serve_well):
         (True, 11),
         (True, 15),
         (False, 15),
+        (True, 0xFF),
         (True, 0),
+        *((False, 0), (False, 0), (True, 12)),
     ]
     assert answers == accepted
 
@@ -161,9 +165,11 @@ def test_a_new_driver_has_nothing_in_its_balloon(start_by_events):
 def test_a_device_that_is_plugged_again(serve_well):
     client = serve_well()
     client.begin(QEMU_PROTOCOL)
-    files = client.open_files()
+    files, fault = client.open_files(), os.eventfd(0, os.EFD_NONBLOCK)
     for stops in (True, True, False):
         client.start_by_events()
+        for number in range(QUEUES):
+            client.accepted(SET_VRING_ERR, word(number), [fault])
         assert (client.counter("status"), client.counter("actual")) == (15, 0)
         demand_served(client, INFLATE, [FIRST, FIRST + 1])
         client.accepted(SET_CONFIG, struct.pack("<IIII", 4, 4, 0, 77))
@@ -181,6 +187,7 @@ def test_a_device_that_is_plugged_again(serve_well):
     client.start_by_events()
     demand_served(client, INFLATE, [FIRST])
     assert (client.backend.ask("target 3"), client.told()) == ("ok", None)
+    os.close(fault)
 
 
 def test_a_state_s_file_is_whole_at_each_moment(serve_well):

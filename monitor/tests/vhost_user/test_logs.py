@@ -6,6 +6,7 @@ import struct
 
 import pytest
 from vhost_client import (
+    CHECK_DEVICE_STATE,
     DEFLATE,
     FEATURES,
     HAS_PROTOCOL,
@@ -32,6 +33,7 @@ from vhost_logs import (
     page_of_used,
     set_logging,
 )
+from vhost_moves import LOAD, PROTOCOL, WELL, WRONG, ask, stopped
 from waiting import eventually
 
 # Flags of seals (linux/fcntl.h).
@@ -91,8 +93,30 @@ def test_a_log_in_place_of_another(begin):
     assert client.open_files() == files
 
 
-def test_a_ring_over_two_pages(serve_well):
-    """A used element lies on another page than the index before it."""
+def test_a_log_ends_with_its_session(serve):
+    """So does a pipe for the device's state: the next session of the connection has neither."""
+    client = serve()
+    client.begin(PROTOCOL)
+    files = client.open_files()
+    client.start_by_events(protocol=PROTOCOL)
+    file = log_file()
+    assert log_base(client, file) == bytes(8)
+    stopped(client)
+    theirs, ours = os.pipe()
+    assert ask(client, theirs, LOAD) == WELL
+    client.begin(PROTOCOL)
+    assert client.open_files() == files
+    assert client.send(CHECK_DEVICE_STATE) == WRONG and "no state of a device" in client.why()
+    client.start_by_events(protocol=PROTOCOL)
+    set_logging(client, True)
+    demand_served(client, INFLATE, [FIRST])
+    assert logged(file) == []
+    os.close(ours)
+
+
+@pytest.mark.parametrize("before, pages", ((8, 2), (12, 1)), ids=("amid", "up to"))
+def test_a_ring_over_two_pages(serve_well, before, pages):
+    """A used element lies amid two pages, or ends where one does: the next one isn't written."""
     client = serve_well()
     client.negotiate(protocol=QEMU_PROTOCOL | MIGRATION)
     client.add_memory()
@@ -101,8 +125,8 @@ def test_a_ring_over_two_pages(serve_well):
     user, table = REGIONS[0][1], REGIONS[0][0]
     client.write(table, bytes(10 * PAGE))
     set_logging(client, True, [])
-    # The used ring begins 8 bytes before a page's end: index and no element are on the first.
-    used = table + 8 * PAGE - 8
+    # The index and the first element have 4 and 8 bytes.
+    used = table + 8 * PAGE - before
     client.tell_place(INFLATE, size)
     body = struct.pack("<IIQQQQ", INFLATE, LOGGED, user, user + used - table, user + 5 * PAGE, used)
     client.accepted(SET_VRING_ADDR, body)
@@ -113,13 +137,13 @@ def test_a_ring_over_two_pages(serve_well):
     client.write(table + 5 * PAGE, struct.pack("<HHH", 0, 1, 0))
     client.kick(INFLATE)
     assert client.called(INFLATE) == 1
-    assert logged(file) == [used // PAGE, used // PAGE + 1]
+    assert logged(file) == [used // PAGE + it for it in range(pages)]
 
 
 # Logs that are none: what is said, how large the file is, and what the message says of it: size
 # and offset.
 NOWHERE, LATER = "ends where no file does", "ends after its file"
-WRONG = {
+NO_LOGS = {
     "no bytes": ("the log of 0 bytes from 0 on has no bytes", LOG_BYTES, 0, 0),
     "none at the end": ("has no bytes", LOG_BYTES, 0, LOG_BYTES),
     "a byte more": (LATER, LOG_BYTES, LOG_BYTES + 1, 0),
@@ -144,7 +168,7 @@ def demand_no_log(serve, file, words, size=LOG_BYTES, offset=0):
     demand_refused(client, words)
 
 
-@pytest.mark.parametrize("words, length, size, offset", WRONG.values(), ids=WRONG)
+@pytest.mark.parametrize("words, length, size, offset", NO_LOGS.values(), ids=NO_LOGS)
 def test_a_log_that_is_none(serve, words, length, size, offset):
     demand_no_log(serve, log_file(length), words, size, offset)
 
