@@ -1,5 +1,5 @@
-"""Memory that is added to a guest at work, and that waits: what ends its wait lets in who waits after
-it."""
+"""Memory that is added to a guest at work, and that waits: what ends its wait lets in who waits
+after it."""
 
 import contextlib
 import ctypes

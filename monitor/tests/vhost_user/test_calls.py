@@ -114,7 +114,7 @@ def test_a_kick_that_another_event_follows(start_by_events):
 
 
 def test_a_kick_by_a_message_starts_a_ring_that_was_stopped(start):
-    """As a kick by a file does: it is enabled still (docs/interop/vhost-user.rst, "Ring states")."""
+    """As a kick by a file does: it is still enabled (vhost-user.rst, "Ring states")."""
     client = start()
     client.post_pages(INFLATE, [FIRST])
     assert (client.told(), client.stop_ring(INFLATE)) == (INFLATE, 1)
