@@ -192,23 +192,67 @@ def test_least_above_most(lend):
     assert lender.ask("terms b least=3") == "error: no guest has that name"
 
 
-def test_what_an_operator_wants_is_asked_of_a_silent_guest(lend, come):
+@pytest.mark.parametrize("wanted", (40, 1))
+def test_what_an_operator_wants_is_asked_of_a_silent_guest(lend, come, wanted):
     # With 64 of its 128 pages given up and back, it holds 64; with 40 in its balloon it counts for
     # 104.
     lender = lend(1, *QUICK)
     a, pages = come(lender, "a", {FREE: 0}), list(range(PAGES, PAGES + 64))
     a.give(pages)
     lender.become("a", ballooned=64)
-    a.take(pages[40:])
-    lender.become("a", ballooned=40, held_kib=4 * 64)
-    lender.demand("a target 40")
+    a.take(pages[wanted:])
+    lender.become("a", ballooned=wanted, held_kib=4 * 64)
+    lender.demand(f"a target {wanted}")
     a.answers = False
     lender.become("a", answers=0)
     looks = lender.counters()["looks"]
     eventually(lambda: lender.counters()["looks"] > looks + 3)
-    assert targets(lender) == {"a": 40}
+    assert targets(lender) == {"a": wanted}
     lender.set_budget(255)  # then all is decided again, and nothing is missing
     become(lender, {"a": 0})
+
+
+def stay(lender, wanted):
+    """Demands that the targets are these, and stay so for some looks."""
+    become(lender, wanted)
+    looks = lender.counters()["looks"]
+    eventually(lambda: lender.counters()["looks"] > looks + 3)
+    assert targets(lender) == wanted
+
+
+# A floor of 16 pages, of which an eighth may lack; what a guest can spare with 50 of its 128 pages
+# in its balloon, on a budget that it can't come down to, and its target then.
+FLOOR, GAVE = 16, 50
+LACKING = ((52, 50), (48, 50), (53, 53), (51, 53), (50, 50), (47, 47))
+
+
+def test_an_eighth_of_the_floor_may_lack(lend, come):
+    lender = lend(1, *QUICK, "--floor", f"{4 * FLOOR}K")
+    guest = come(lender, "a", {FREE: FLOOR + GAVE})
+    lender.set_budget(28)
+    become(lender, {"a": GAVE})
+    guest.give_free(GIVEN[:GAVE])
+    lender.become("a", ballooned=GAVE, spare=GAVE)
+    for spare, target in LACKING:
+        guest.figures[FREE] = spare - GAVE + FLOOR
+        lender.become("a", spare=spare)
+        stay(lender, {"a": target})
+
+
+def test_who_has_35_percent_of_its_part_keeps_its_target(lend, come):
+    """Of 40 pages that are missing each part is of the other one, which can spare 120: `a` has 22
+    of 62, and then 21 of 61."""
+    lender = lend(1, *QUICK)
+    a, b = (come(lender, name, {FREE: free}) for name, free in (("a", 40), ("b", 0)))
+    lender.set_budget(216)
+    stay(lender, {"a": 40, "b": 0})
+    a.figures[FREE] = 62
+    lender.become("a", spare=62)
+    b.figures[FREE] = 120
+    lender.become("b", spare=120)
+    stay(lender, {"a": 40, "b": 0})
+    a.figures[FREE] = 61
+    stay(lender, {"a": 0, "b": 40})
 
 
 def test_a_silent_guest_counts_for_what_it_holds(lend, come):
