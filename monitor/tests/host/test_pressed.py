@@ -65,6 +65,21 @@ def test_a_pressed_guest_gets_its_part_at_once(lend, come, tag):
     assert [it["by"] for it in shares.values()] == ["pressure", "statistics"]
 
 
+def test_who_is_pressed_is_not_named_where_its_target_stays(lend, come):
+    """Both have given all that they can, and the other one takes ten pages back."""
+    lender, guests = halves(lend, come, KILLS)
+    for it in guests:
+        counts(lender, it, {FREE: 0, AVAILABLE: 0})
+    counts(lender, guests[0], {KILLS: 8})
+    lender.become("a", pressed=1)
+    become(lender, {"a": 50, "b": 50})
+    lender.decisions()
+    guests[1].take(GIVEN[:10])
+    become(lender, {"a": 50, "b": 40})
+    said, _ = lender.decisions()[0]
+    assert (said["why"], said["who"], said["short"]) == ("spare", "b", 10)
+
+
 @pytest.mark.parametrize("tag", OTHERS.values(), ids=OTHERS)
 def test_other_counters_press_nobody(lend, come, tag):
     lender, guests = halves(lend, come, tag)
