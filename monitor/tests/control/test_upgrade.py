@@ -4,6 +4,7 @@ are, and shows which are of another version."""
 import os
 import signal
 
+import pytest
 from hosts import Answering, Host
 from installed import OLDER, bigvasta, install, older_program, version
 from waiting import eventually, patience_from_now
@@ -80,14 +81,15 @@ def test_one_command_upgrades_the_host_and_its_guests(program, folder, tmp_path)
     assert host.end() == 0
 
 
-def test_a_program_that_does_not_run_upgrades_nothing(program, folder, tmp_path):
+@pytest.mark.parametrize("end", ("exit 1", "kill -9 $$"), ids=("status", "signal"))
+def test_a_program_that_does_not_run_upgrades_nothing(program, folder, tmp_path, end):
     installed = tmp_path / "installed"
     host = begin(install(program, installed), folder)
     come(host, "a")
     process = host.guest("a")["process"]
     for broken in ("vhost_user_host", "vhost_user_balloon"):
         os.rename(installed / broken, installed / "aside")
-        (installed / broken).write_text("#!/bin/sh\ncat\necho out\necho err >&2\nexit 1\n")
+        (installed / broken).write_text(f"#!/bin/sh\ncat\necho out\necho err >&2\n{end}\n")
         os.chmod(installed / broken, 0o755)
         ran = bigvasta(host.control, "upgrade")
         assert (ran.returncode, ran.stdout, ran.stderr) == (
