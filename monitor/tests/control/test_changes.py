@@ -257,6 +257,9 @@ def test_a_change_that_the_host_refuses_is_not_kept(kept):
         assert not raw.answer(say(request="add", name="a", strict=True, limit=limit))["ok"]
     raw.close()
     assert kept.changes.read_text() == text
+    # Nor is it with the next change.
+    assert kept.host.ask("budget", bytes=250 * MIB)["lasts"]
+    assert kept.changes.read_text() == text.replace("300M", "250M")
 
 
 def test_an_upgrade_goes_on_with_what_was_changed(kept):

@@ -51,6 +51,22 @@ def test_what_is_damaged_is_named_and_harms_nothing(kept, name):
     assert kept.changes.read_bytes() == text
 
 
+# Bytes of the file at most, and its last line.
+MOST, END = 256 << 10, b"# The end of what was changed.\n"
+
+
+@pytest.mark.parametrize("size, budget", ((MOST, 300), (MOST + 1, 480)), ids=("most", "more"))
+def test_as_many_bytes_as_there_may_be(kept, size, budget):
+    """Lines that say nothing are before the last one."""
+
+    def filled(text):
+        left = size - len(text)
+        return text.removesuffix(END) + b"#\n" * (left // 2 - 1) + b"#" * (left % 2) + b"#\n" + END
+
+    assert spoiled(kept, filled).status()["budget"] == budget * MIB
+    assert kept.changes.stat().st_size == size
+
+
 def of_another_user(kept):
     os.chown(kept.changes, 65534, -1)
 
