@@ -9,6 +9,7 @@ import time
 import linux_guest
 import vhost_client
 from vhost_client import (
+    ADD_MEM_REG,
     BUFFERS,
     DEFLATE,
     FEATURES,
@@ -108,6 +109,19 @@ def test_regions_of_one_file(serve_well):
     client.files[1] = os.dup(client.files[0])
     client.negotiate(protocol=QEMU_PROTOCOL)
     client.add_memory()
+    assert client.counter("held_kib") == 4 * PAGES_OF_REGION
+
+
+def test_what_is_held_of_a_file_is_counted_once_whichever_regions_stay(serve_well):
+    """The last region has the place of one that is taken away, with its file."""
+    client = serve_well()
+    client.negotiate(protocol=QEMU_PROTOCOL)
+    half, (guest, user) = PAGES_OF_REGION // 2 * PAGE, REGIONS[1]
+    parts = [struct.pack("<5Q", 0, guest + it, half, user + it, it) for it in (0, half)]
+    for body, file in ((client.region_body(0), 0), *((it, 1) for it in parts)):
+        client.accepted(ADD_MEM_REG, body, [client.files[file]])
+    assert client.counter("held_kib") == 2 * 4 * PAGES_OF_REGION
+    client.accepted(REM_MEM_REG, client.region_body(0))
     assert client.counter("held_kib") == 4 * PAGES_OF_REGION
 
 

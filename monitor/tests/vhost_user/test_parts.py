@@ -18,7 +18,9 @@ from vhost_client import (
     GET_QUEUE_NUM,
     INFLATE,
     OFFERED,
+    PAGE,
     SET_BACKEND_REQ_FD,
+    SET_MEM_TABLE,
     SET_PROTOCOL_FEATURES,
     SET_VRING_ADDR,
     SET_VRING_BASE,
@@ -149,6 +151,25 @@ def test_more_files_than_the_next_message_may_have(serve, event):
         put(client, GETS), put(client, CALL, [event] * 9)
     is_accepted(client, GET_QUEUE_NUM, struct.pack("<Q", 5))
     demand_refused(client, "SET_VRING_CALL has 8 files and more")
+
+
+@pytest.mark.parametrize(
+    "files, words",
+    (((4, 4), ""), ((5, 4), "has 8 files and more"), ((4, 5), "has 8 files and more")),
+)
+def test_the_most_files_of_a_message_in_parts(serve, files, words):
+    """They are counted over its parts: a table of eight regions has as many files."""
+    client = serve()
+    client.accepted(SET_PROTOCOL_FEATURES, word(OFFERED))
+    regions = [struct.pack("<4Q", it * PAGE, PAGE, it << 32, 0) for it in range(8)]
+    table = message(SET_MEM_TABLE, struct.pack("<II", 8, 0) + b"".join(regions))
+    put(client, table[:100], files[0] * client.files[:1]), is_read(client)
+    put(client, table[100:], files[1] * client.files[:1])
+    if words:
+        demand_refused(client, f"SET_MEM_TABLE {words}")
+    else:
+        is_accepted(client, SET_MEM_TABLE)
+        assert (client.counter("end"), client.close()) == (8, (0, ""))
 
 
 def test_files_of_the_first_of_two_in_one_write(client):
