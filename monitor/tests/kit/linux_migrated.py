@@ -36,6 +36,15 @@ def module(suite):
     return ran.stdout.strip()
 
 
+def preloaded(built_for, debian):
+    """Returns the words that begin a command of QEMU of a Debian, with the module that was built
+    for that of another, or of the same. It is preloaded by the loader, and so in no process that
+    QEMU starts."""
+    words = fetched_qemu(debian)
+    loader = next(i for i, it in enumerate(words) if "ld-linux" in it)
+    return [*words[: loader + 1], "--preload", module(built_for), *words[loader + 1 :]]
+
+
 class Migrating(Qemu):
     """QEMU of a Debian with this repository's device, of which a guest may migrate. The guest's
     kernel is Debian 13's in each case."""
@@ -55,12 +64,8 @@ class Migrating(Qemu):
         super().__init__(folder, DEBIAN)
 
     def find(self):
-        """Returns the words that begin a command of QEMU, and its device: the module is preloaded
-        by the loader, and so in no process that QEMU starts."""
-        words = fetched_qemu(self.debian)
-        loader = next(i for i, it in enumerate(words) if "ld-linux" in it)
-        preloaded = ["--preload", module(self.debian)]
-        return [*words[: loader + 1], *preloaded, *words[loader + 1 :]], DEVICE
+        """Returns the words that begin a command of QEMU, and its device."""
+        return preloaded(self.debian, self.debian), DEVICE
 
     def words(self, folder, shape, path):
         """Returns the guest's command; a backend that has gone is looked for again, and there is a
