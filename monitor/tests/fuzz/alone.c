@@ -17,7 +17,7 @@ static struct backend alone;
 static struct options options;
 static bool is_there;
 static unsigned left; /* turns since the script's end */
-static int pipe_in = -1, end_file = -1;
+static int pipe_in, end_file = -1;
 
 int __real_process_end(void);
 int __wrap_process_end(void);
@@ -27,12 +27,9 @@ int __wrap_process_end(void)
     return end_file = __real_process_end();
 }
 
-/* The control pipe is standard input. */
-static void make_pipe(void)
+void alone_begins(void)
 {
     int ends[2];
-    if (pipe_in >= 0)
-        return;
     demand(!pipe2(ends, O_CLOEXEC | O_NONBLOCK) && dup2(ends[0], STDIN_FILENO) == STDIN_FILENO);
     close(ends[0]);
     pipe_in = ends[1];
@@ -97,7 +94,6 @@ static void forget(void)
 
 void alone_runs(unsigned kind)
 {
-    make_pipe();
     plans_clear();
     options = (struct options){.features = UINT64_C(1) << 32 | 0x27,
                                .keep = kind & 1,

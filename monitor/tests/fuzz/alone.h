@@ -5,6 +5,9 @@
 
 struct backend;
 
+/* Makes its control pipe, which is standard input from then on. */
+void alone_begins(void);
+
 /* Runs the process by the rest of the script, as the first byte says. */
 void alone_runs(unsigned kind);
 

@@ -49,6 +49,17 @@ void client_ends(void)
     shutdown(client.socket, SHUT_RDWR);
 }
 
+bool client_has(int file)
+{
+    bool has = file == client.socket || file == client.source || file == client.log ||
+               file == client.others[0] || file == client.others[1];
+    for (unsigned i = 0; i < EVENTS; i++)
+        has |= file == client.events[i];
+    for (unsigned i = 0; i < REGIONS; i++)
+        has |= file == client.memory[i];
+    return has;
+}
+
 void client_goes(void)
 {
     let_go(&client.socket);

@@ -28,6 +28,9 @@ int client_comes(void);
 void client_ends(void);
 void client_goes(void);
 
+/* Whether it has this file. */
+bool client_has(int file);
+
 /* Sends a message as a client usually does; `choice` says which of several. */
 void client_tells(uint32_t request, unsigned queue, unsigned choice);
 

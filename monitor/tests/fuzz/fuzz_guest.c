@@ -1,10 +1,12 @@
 /* A guest's process of a host that lends, fuzzed: any messages, bytes and files of its client, any
  * rings and memory, and any orders of its lender, in any order; now and then another process goes
  * on with what is kept. Or one without a lender (alone.c). Its guest may migrate. After each step
- * its count of pages in the balloon is that of its set, and in the end no file is left open. */
+ * its count of pages in the balloon is that of its set, and it has no file open that nobody
+ * names. */
 #include "../../backends/process/lent.c"
 #include "alone.h"
 #include "client.h"
+#include "opened.h"
 #include "plans.h"
 #include "ring_layout.h"
 #include "script.h"
@@ -165,6 +167,8 @@ static int process_begins(void)
     memset(&fuzzed, 0, sizeof fuzzed);
     demand(prepare(&fuzzed, &options, kept));
     demand(kept_regain(kept));
+    files_let_go();
+    opened_close_others(kept, lender);
     return guard(go_on, &fuzzed);
 }
 
@@ -279,14 +283,6 @@ static void goes(void)
     client_goes();
 }
 
-/* The lowest number that a new file has. */
-static int next_file(void)
-{
-    int file = dup(STDIN_FILENO);
-    close(file);
-    return file;
-}
-
 static void listen_once(void)
 {
     if (later > 0)
@@ -297,6 +293,7 @@ static void listen_once(void)
            !listen(later, 8));
     signal(SIGPIPE, SIG_IGN);
     demand(loop_add(&turns, (struct loop_part){&fuzzed, waits, turn}));
+    alone_begins();
 }
 
 /* The words that the set loses are zeros (marks.c), unless it ends amid a request. */
@@ -319,6 +316,8 @@ static void lives(unsigned kind)
         check_words(served < 0);
         if (served >= 0) /* else it is amid a request, and ends */
             check_set(&fuzzed.backend);
+        if (served > 0 && !ends)
+            opened_check(kept, lender);
         if ((served > 0 && ends) || (served == 0 && fuzzed.ends_anew))
             served = another_goes_on();
     }
@@ -337,7 +336,7 @@ int LLVMFuzzerTestOneInput(const uint8_t *data, size_t size)
 {
     enum { ALONE = 32 };
     listen_once();
-    int before = next_file();
+    opened_begin();
     script.at = data, script.end = data + size;
     now = (struct timespec){1, 0};
     unsigned kind = next_byte();
@@ -345,6 +344,6 @@ int LLVMFuzzerTestOneInput(const uint8_t *data, size_t size)
         alone_runs(kind);
     else
         lives(kind);
-    demand(next_file() == before);
+    opened_close_all();
     return 0;
 }
