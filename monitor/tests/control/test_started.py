@@ -1,0 +1,94 @@
+"""What a host has as it starts: what its command line says, else what its file says, else what
+bigvasta-host.conf(5) names."""
+
+import pytest
+from hosts import Host
+from test_config import TAKEN, filled
+from waiting import patience_from_now
+
+MIB, PAGE = 1 << 20, 4096
+
+# The numbers of the man page, as a status shows them.
+USUAL = {
+    "keep": 0,
+    "lowest_budget": 0,
+    "floor": 12 * MIB,
+    "reserve": 5,
+    "overdraft": 0,
+    "strict": False,
+    "step": 8,
+    "period": 0.2,
+    "patience": 10,
+    "on_short": None,
+}
+
+# What a command line says before a file with other words, also where that is 0, and what is shown.
+FILE = {
+    "keep": "1M",
+    "lowest_budget": "40M",
+    "floor": "3M",
+    "reserve": "7",
+    "overdraft": "2M",
+    "step": "7",
+    "period": "100",
+    "patience": "7",
+    "on_short": "/bin/true",
+}
+SAID = (
+    ("keep", "2", 2 * MIB),
+    ("keep", "0", 0),
+    ("lowest_budget", "39", 39 * MIB),
+    ("lowest_budget", "0", 0),
+    ("floor", "1", MIB),
+    ("floor", "0", 0),
+    ("reserve", "3", 3),
+    ("reserve", "0", 0),
+    ("overdraft", "9", 9 * PAGE),
+    ("overdraft", "0", 0),
+    ("step", "5", 5),
+    ("step", "0", 0),
+    ("period", "300", 0.3),
+    ("patience", "9", 9),
+    ("on_short", "/bin/false", "/bin/false"),
+)
+
+
+@pytest.fixture
+def starts(program, folder):
+    """Starts a host by a file with this text, and these words alone."""
+    begun = []
+
+    def start(text, *words):
+        (folder / "host.conf").write_text(text)
+        starter = ("-c", f'exec "$0" --config "$1" {" ".join(words)}', program)
+        begun.append(Host("sh", folder, *starter, f"{folder}/host.conf"))
+        assert begun[-1].lines.next(patience_from_now()) == "ready"
+        return begun[-1]
+
+    yield start
+    for it in begun:
+        assert it.end() == 0, it.said()
+
+
+def test_what_nobody_says_is_as_the_page_says(starts, folder):
+    its = starts(f"[host]\nfolder = {folder}\nbudget = 480M\n").status()
+    assert {it: its[it] for it in USUAL} == USUAL
+
+
+@pytest.mark.parametrize("key, old, new, shown, value", TAKEN, ids=[it[0] for it in TAKEN])
+def test_what_the_file_says(starts, folder, key, old, new, shown, value):
+    assert shown(starts(filled(folder, old, new))) == value, key
+
+
+@pytest.mark.parametrize("key, word, value", SAID)
+def test_what_the_command_line_says_is_before_the_file(starts, folder, key, word, value):
+    lines = "".join(f"{it} = {its}\n" for it, its in FILE.items())
+    text = f"[host]\nfolder = {folder}\nbudget = 480M\n{lines}"
+    assert starts(text, f"--{key.replace('_', '-')}", word).status()[key] == value
+
+
+def test_each_key_of_the_host_is_tried():
+    """Each that a status shows, but for the budget and `strict`, of which a flag says more alone."""
+    shown = {it[0].removesuffix(" of [host]") for it in TAKEN if it[0].endswith(" of [host]")}
+    assert shown - {"budget", "strict"} | {"period"} == set(FILE) == {it[0] for it in SAID}
+    assert set(USUAL) == set(FILE) | {"strict"}
