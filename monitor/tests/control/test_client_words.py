@@ -1,13 +1,16 @@
 """What the client program makes of words and numbers: sizes, addresses, bars, pictures and
 lines."""
 
+import json
+import types
+
 import pytest
 from bigvasta import picture
 from bigvasta.addresses import parse_address
-from bigvasta.commands import log
+from bigvasta.commands import log, upgrade
 from bigvasta.picture import PLAIN, Shown
 from bigvasta.sizes import mebibytes, parse_size, seconds
-from bigvasta.statuses import Usage
+from bigvasta.statuses import DONE, PART, Usage
 from bigvasta.waits import wait_of, words_of
 from test_client import MIB
 
@@ -211,3 +214,46 @@ def test_a_decision_s_line():
         "decision 7: pressure of a; budget 480, tier cache; targets: a 60>0 (pressed), b 1.0 "
         "(pressed)"
     )
+
+
+def served(version, process=5):
+    """Returns what a host shows of a guest `a`."""
+    return {"name": "a", "state": "ready", "version": version, "process": process}
+
+
+# A guest as the next host finds it, whose version was 1, or isn't known, and as it is once it was
+# asked for the next process; what is said of it, and whether all is upgraded.
+UPGRADED = (
+    ("1", served("1"), served("2", 7), "1 -> 2", DONE),
+    ("2", served("2"), served("2", 7), "2 -> 2", DONE),
+    ("1", served("2", 7), served("2", 9), "1 -> 2", DONE),
+    ("", served(""), served("2", 7), "unknown -> 2", DONE),
+    (None, served("1"), served("2", 7), "1 -> 2", DONE),
+    ("1", served("1"), None, "has gone", DONE),
+    ("1", served("1"), served("1", 7), "1 stays, until its client reconnects", PART),
+    ("1", served("1"), served("1"), "1 stays, until its client reconnects", PART),
+    ("", served(""), served(""), "unknown stays, until its client reconnects", PART),
+    (
+        "2",
+        served("2"),
+        served("2"),
+        "2 stays: its process doesn't answer, or waits for memory",
+        PART,
+    ),
+)
+
+
+@pytest.mark.parametrize("is_json", (False, True), ids=("lines", "json"))
+@pytest.mark.parametrize("before, guest, then, words, status", UPGRADED)
+def test_what_an_upgrade_says_of_a_guest(
+    monkeypatch, capsys, is_json, before, guest, then, words, status
+):
+    """An operator learns which stay, and why; who reads JSON has the status of the host."""
+    was = {"host": {"version": "1"}, "guests": [] if before is None else [served(before)]}
+    its = {"host": {"version": "2"}, "guests": [guest]}
+    monkeypatch.setattr(upgrade, "upgrade_host", lambda _: (was, its))
+    monkeypatch.setattr(upgrade, "renew", lambda _, asked: asked == guest and then)
+    monkeypatch.setattr(upgrade, "look", lambda *_: its)
+    assert upgrade.run(types.SimpleNamespace(control="", json=is_json)) == status
+    said = capsys.readouterr().out
+    assert json.loads(said) == its if is_json else said == f"host: 1 -> 2\na: {words}\n"

@@ -84,10 +84,11 @@ def test_who_brings_too_much_is_seen(host):
 def test_a_guest_at_work_is_removed_by_force_alone(host, arrive):
     guest = arrive("a")
     eventually(lambda: host.guest("a")["state"] == "ready")
-    with pytest.raises(Refused, match="a is at work: --force .*lives on until its VMM closes it"):
-        host.ask("remove", name="a")
-    with pytest.raises(Refused):
-        host.ask("remove", name="a", force=False)
+    words = "a is at work: --force .*lives on until its VMM closes it"
+    for fields in ({}, {"force": False}):
+        with pytest.raises(Refused, match=words) as found:
+            host.ask("remove", name="a", **fields)
+        assert (found.value.code, found.value.field) == ("at-work", "name")
     ran = bigvasta(host.control, "remove", "a")
     assert ran.returncode == 1 and "--force" in ran.stderr
     assert host.guest("a")["state"] == "ready" and host.guest("a")["answers"]
