@@ -247,6 +247,22 @@ def test_a_process_has_limits(lend, come):
     }
 
 
+@pytest.mark.parametrize("option, what", (("nofile", "open files"), ("data", "own memory")))
+def test_a_process_whose_limit_is_lower_goes_on_and_says_so(
+    lend, come, plain, tmp_path, option, what
+):
+    """It may raise none."""
+    most = LIMITS["Max open files" if option == "nofile" else "Max data size"]
+    program = tmp_path / "host"
+    program.write_text(f'#!/bin/sh\nexec prlimit --{option}={most - 1} {plain} "$@"\n')
+    program.chmod(0o755)
+    lender = lend(5, "--guests", "1", program=str(program))
+    come(lender, "a", {FREE: 60})
+    lender.hear()
+    said = [it for it in lender.said() if it.startswith("a: ")]
+    assert said == [f"a: its {what} can't be limited: Operation not permitted"]
+
+
 @contextlib.contextmanager
 def scored(process):
     """Opens the score by which the kernel chooses whom to kill."""
