@@ -2,6 +2,7 @@
 
 import ctypes
 import os
+import signal
 import socket
 import struct
 import time
@@ -12,7 +13,7 @@ from installed import OLDER, install, older_program, version
 from kept import HEAD, Kept, layout
 from played import FIGURES
 from tenants import eventually, process_of, status_of, stop
-from vhost_client import GET_CONFIG, Client
+from vhost_client import GET_CONFIG, PAGE, Client
 
 WIDE = ("--floor", "0", "--period", "100", "--step", "0")
 
@@ -26,6 +27,10 @@ MOST_COUNTED, QUESTION, SO_PEEK_OFF, PIDFD_GETFD = 1 << 29, HEAD + 28, 42, 438
 
 # Seconds in which a process would end.
 MOMENT = 0.5
+
+# The most regions of a guest's memory, as GET_MAX_MEM_SLOTS answers, and words of the set of its
+# pages, which are below 64 GiB; more than each.
+MOST, HUGE = {"region_count": 32, "set_words": (64 << 30) // PAGE // 64}, (1 << 32) - 1
 
 
 def configuration(client):
@@ -67,6 +72,28 @@ def test_the_next_process_has_no_more_statistics_than_there_may_be(lend):
     assert kept["figure_count"] == FIGURES
     kept.leave(lender)
     client.leave()
+
+
+@pytest.mark.parametrize(
+    "field, number", ((f, n) for f, most in MOST.items() for n in (most + 1, HUGE))
+)
+def test_the_next_process_has_no_more_memory_than_there_may_be(lend, checked, field, number):
+    """It reads no region after the last one that there is room for, and no word of the set of pages
+    after it: its guest alone ends, and why is said."""
+    lender = lend(64, *WIDE, program=checked)
+    client = Client(lender.add("a"), lambda: lender.said()[-4:])
+    client.start()
+    kept = Kept(process_of(lender, "a"))
+    stop(kept.process)
+    _, at, size, each, _ = layout()[field]
+    with open(f"/proc/{kept.keeper}/fd/{KEPT_FILE}", "r+b", buffering=0) as file:
+        for state in range(2):
+            os.pwrite(file.fileno(), number.to_bytes(size, "little"), at + each * state)
+    os.kill(kept.process, signal.SIGKILL)
+    lender.become("a", here=0)
+    lender.tells("refused a: the guest's memory can't be mapped by another process")
+    assert not [it for it in lender.said() if "runtime error" in it]
+    os.close(kept.file), client.leave()
 
 
 def have_been_counted(process, kept, count):
