@@ -294,46 +294,36 @@ def terms_after(lend, lender, kept=None):
         later, "a", listens=listens, pages=ALL, has_terms=1, least=7, most=9, priority=8, strict=0
     )
     later.become("a", lent=ALL)
-    found = {
-        name: it
-        for name, it in seen(later)["terms"].items()
-        if name in ("least", "most", "priority", "strict", "overhead")
-    }
+    found = seen(later)["terms"]
     a.leave()
     later.become("a", here=0)
     return later, found
+
+
+# The terms of a guest of which nothing else is said.
+USUAL = {"weight": 1} | dict.fromkeys(("limit", "user", "memory", "start"))
+
+
+def in_pages(**its):
+    """Returns terms that are so many pages, in bytes."""
+    return {name: it * PAGE for name, it in its.items()}
 
 
 def test_a_process_tells_no_terms_of_its_own(lend):
     lender = lend(1, *STRICT)
     lender.demand("add a least=0 most=1 priority=2 strict=1 overhead=5")
     later, found = terms_after(lend, lender)
-    assert found == {
-        "least": 0,
-        "most": 1 << 20,
-        "priority": 2,
-        "strict": True,
-        "overhead": 5 << 20,
-    }
+    its = in_pages(least=0, most=256, overhead=5 * 256)
+    assert found == USUAL | its | {"priority": 2, "strict": True}
     # Of a process of 0.3.0 they count once, as that kept two terms in the folder.
     later, found = terms_after(lend, later, "3 none")
-    assert found == {
-        "least": 7 * PAGE,
-        "most": 9 * PAGE,
-        "priority": 8,
-        "strict": False,
-        "overhead": 3 * PAGE,
-    }
-    os.unlink(f"{later.folder}/=a"), os.symlink(
-        f"terms 0 256 3 1 0 {HUGE} {HUGE} {HUGE} 1 {ALL} none", f"{later.folder}/=a"
-    )
-    assert terms_after(lend, later)[1] == {
-        "least": 0,
-        "most": 1 << 20,
-        "priority": 3,
-        "strict": True,
-        "overhead": 0,
-    }
+    its = in_pages(least=7, most=9, overhead=3)
+    assert found == USUAL | its | {"priority": 8, "strict": False}
+    kept = f"terms 0 256 3 1 0 {HUGE} 300 290 7 {ALL} none"
+    os.unlink(f"{later.folder}/=a"), os.symlink(kept, f"{later.folder}/=a")
+    its = in_pages(least=0, most=256, overhead=0, memory=300, start=290)
+    others = {"priority": 3, "strict": True, "weight": 7}
+    assert terms_after(lend, later)[1] == USUAL | its | others
 
 
 def test_the_process_of_a_guest_that_was_removed_is_killed_where_it_stays(lend):
