@@ -6,12 +6,14 @@ from played import WAIT_ROOM, Played
 from tenants import AVAILABLE, FREE, eventually, go_on, process_of, status_of, stop
 from test_limits_that_change import files_of
 from test_strict import GIVEN, STRICT, Later
+from test_turns import connect
 from vhost_client import Client
 
 LOOSE = tuple(it for it in STRICT if it != "--strict")
 
-# The frames of a MiB, pages of a guest, and guests that may be leaving at once.
-FRAMES, ALL, MOST_GUESTS = 256, 128, 64
+# The frames of a MiB, pages of a guest, and guests that may be leaving at once: so few that all of
+# them are before the first is killed, as it doesn't leave in five seconds.
+FRAMES, ALL, MOST_GUESTS = 256, 128, 4
 
 # What a seat keeps of its clients: how many came, and what the host couldn't write. Times differ,
 # and what processes count themselves.
@@ -153,8 +155,27 @@ def test_a_guest_that_is_leaving_is_told_so_until_it_ends(lend, come):
     assert lender.counters()["lent"] == 0
 
 
+def test_a_client_that_waits_at_a_guest_that_is_removed_leaves_no_file(lend):
+    """The guest's client is at work, and another one waits for it to go."""
+    lender = lend(1, *LOOSE)
+    lender.guests()
+    files = files_of(lender.process.pid)
+    for name in ("a", "b", "c"):
+        client = Client(lender.add(name))
+        client.start()
+        lender.become(name, ready=1)
+        waits = connect(lender, name)
+        lender.demand(f"remove {name}")
+        assert waits.recv(1) == b""
+        client.leave(), waits.close()
+    eventually(
+        lambda: files_of(lender.process.pid) == files,
+        lambda: f"{files_of(lender.process.pid)} files, where there were {files}",
+    )
+
+
 def test_as_many_guests_as_there_are_seats_may_be_leaving(lend):
-    lender, played = lend(64, *LOOSE), []
+    lender, played = lend(64, *LOOSE, "--guests", str(MOST_GUESTS)), []
     for number in range(MOST_GUESTS):
         played.append(Played(lender, f"g{number}", pages=1))
         lender.demand(f"remove g{number}")
