@@ -11,8 +11,8 @@ from hosts import Raw, say
 from test_control import MIB, PAGE
 from waiting import PATIENCE, eventually
 
-# Decisions that a host keeps.
-MOST_DECISIONS = 512
+# Decisions that a host keeps; seconds by which two clocks differ, of which one has milliseconds.
+MOST_DECISIONS, SLIGHTLY = 512, 0.01
 
 
 def test_decisions_by_their_numbers(host, arrive):
@@ -46,6 +46,21 @@ def test_decisions_by_their_numbers(host, arrive):
         "next": log["next"],
         "lost": 0,
     }
+
+
+def test_when_an_event_was(host):
+    """Each has the time at which it is told, in seconds since 1970, whatever part of a second that
+    is; a decision has the time of its own."""
+    with Connection(host.control) as control:
+        events, last = control.follow(), time.time()
+        for number in range(5):
+            host.ask("budget", bytes=(100 + number) * MIB)
+            event = next(it for it in events if it["event"] == "decision")
+            now = time.time()
+            times = (event["decision"]["time"], event["time"])
+            assert last - SLIGHTLY <= times[0] <= times[1] + SLIGHTLY <= now + 2 * SLIGHTLY
+            last = now
+            time.sleep(0.21)
 
 
 def test_decisions_that_are_lost_are_counted(host):
