@@ -30,7 +30,8 @@ def test_a_watchdog_hears_of_a_host_for_which_nothing_is_due(program, folder, ma
 
 
 def test_a_manager_is_told_of_guests_their_memory_and_waits(program, folder, manager):
-    """In whole MiB: each of three guests holds half of one, as does one for which there is no room."""
+    """In whole MiB: each of three guests holds half of one; so does one for which there is no
+    room."""
     words = (str(folder), "--budget", "2", "--floor", "0", "--strict")
     host = manager.start(program, folder, *words, watchdog=WATCHDOG)
     manager.until("READY")

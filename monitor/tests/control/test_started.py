@@ -88,7 +88,8 @@ def test_what_the_command_line_says_is_before_the_file(starts, folder, key, word
 
 
 def test_each_key_of_the_host_is_tried():
-    """Each that a status shows, but for the budget and `strict`, of which a flag says more alone."""
+    """Each that a status shows, but for the budget and `strict`, of which a flag says more
+    alone."""
     shown = {it[0].removesuffix(" of [host]") for it in TAKEN if it[0].endswith(" of [host]")}
     assert shown - {"budget", "strict"} | {"period"} == set(FILE) == {it[0] for it in SAID}
     assert set(USUAL) == set(FILE) | {"strict"}

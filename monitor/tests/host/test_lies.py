@@ -305,7 +305,7 @@ USUAL = {"weight": 1} | dict.fromkeys(("limit", "user", "memory", "start"))
 
 
 def in_pages(**its):
-    """Returns terms that are so many pages, in bytes."""
+    """Returns terms in bytes, by their pages."""
     return {name: it * PAGE for name, it in its.items()}
 
 
