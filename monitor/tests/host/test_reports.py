@@ -6,9 +6,9 @@ import struct
 
 import pytest
 from bigvasta import __version__
-from played import NUMBERS, ORDER_LOOK, ORDER_TARGET, TELL_REPORT, VERSION, Message, Played
+from played import FIGURES, NUMBERS, ORDER_LOOK, ORDER_TARGET, TELL_REPORT, VERSION, Message, Played
 from tenants import AVAILABLE, FREE, eventually
-from test_channels import channel
+from test_channels import channel, length_heard
 from test_strict import GIVEN, STRICT
 from vhost_client import PAGE, REGIONS, SET_CONFIG
 
@@ -114,6 +114,59 @@ def test_pages_that_are_given_are_news_of_a_strict_guest_alone(lend, come, stric
         assert [its.ballooned for its in unasked(it)] == [MORE] * strict
         assert reported(it).ballooned == MORE
     lend(1, *STRICT, folder=lender.folder)
+
+
+@pytest.mark.parametrize("count", (FIGURES, FIGURES + 1, (1 << 32) - 1))
+def test_a_report_has_no_more_figures_than_there_is_room_for(lend, checked, count):
+    """Whatever a process says that it has."""
+    lender = lend(1, *STRICT, program=checked)
+    a = Played(lender, "a", pages=ALL)
+    a.report(figure_count=count, actual=ACTUAL)
+    eventually(lambda: lender.status()["guests"][0]["actual"] == ACTUAL * PAGE, lender.said)
+    assert lender.ask("a statistics") == "statistics 0" + FIGURES * " swap_in 0"
+    a.leave()
+
+
+def spoiled(message):
+    """Yields what isn't a message of this version: with a byte less or more, or of another one."""
+    whole = bytes(message)
+    yield whole[:-1]
+    yield whole + bytes(1)
+    for version in (VERSION - 1, VERSION + 1, VERSION << 8):
+        message.version = version
+        yield bytes(message)
+
+
+NO_MESSAGES = pytest.mark.parametrize("number", range(5))
+
+
+@NO_MESSAGES
+def test_a_process_that_says_what_is_no_message_is_heard_no_longer(lend, number):
+    lender = lend(1, *STRICT)
+    a = Played(lender, "a", pages=ALL)
+    its = Message(version=VERSION, kind=TELL_REPORT, holds=1, ready=1, pages=ALL, actual=ACTUAL)
+    a.channel.send(list(spoiled(its))[number])
+    eventually(lambda: not a.is_alive(), "its end of the channel isn't closed")
+    assert lender.status()["guests"][0]["actual"] == 0
+    a.listens.end(), a.channel.close()
+    lender.become("a", here=0, pages=0)
+
+
+@NO_MESSAGES
+def test_a_process_obeys_no_order_that_is_no_message(lend, come, number):
+    """It waits for another lender, and obeys that."""
+    lender = lend(1, *STRICT)
+    come(lender, "a", {FREE: 100})
+    lender.kill()
+    with channel() as it:
+        it.connect(f"{lender.folder}/.channels/a")
+        target = reported(it).target
+        it.send(list(spoiled(Message(version=VERSION, kind=ORDER_TARGET, target=TARGET)))[number])
+        eventually(lambda: length_heard(it) == 0)
+    with channel() as it:
+        it.connect(f"{lender.folder}/.channels/a")
+        assert reported(it).target == target
+    lend(1, *STRICT, folder=lender.folder).become("a", ready=1)
 
 
 # Bytes of a version with the 0 after it, and the signs that versions have.
