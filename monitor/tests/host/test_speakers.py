@@ -63,3 +63,25 @@ def test_words_of_a_process_take_no_line_of_what_the_host_says_of_its_guest(lend
     lender.become("a", here=0)
     said = lender.said()
     assert "a: further lines of this second are left out" in said and "gone a" in said, said
+
+
+class Deaf(Played):
+    """A guest's process that reads no order."""
+
+    def run(self):
+        """Does nothing."""
+
+
+def test_what_a_process_said_before_it_ended_is_heard_though_it_has_read_no_order(lend):
+    """The kernel says first that what it was told is lost."""
+    lender = lend(1, "--period", "50")
+    guest = Deaf(lender, "a")
+    looks = lender.counters()["looks"]
+    eventually(lambda: lender.counters()["looks"] > looks + 1)
+    stop(lender.process.pid)
+    eventually(lambda: status_of(lender.process.pid)["State"].startswith("T"))
+    guest.say(TELL_REMARK, b"the last words")
+    guest.leave()
+    go_on(lender.process.pid)
+    lender.become("a", here=0)
+    assert "a: the last words" in lender.said(), lender.said()
