@@ -7,11 +7,13 @@ import struct
 import pytest
 from vhost_client import (
     CHECK_DEVICE_STATE,
+    DEFLATE,
     FEATURES,
     GET_CONFIG,
     INFLATE,
     NO_FILE,
     PAGE,
+    RESET_DEVICE,
     SET_VRING_ENABLE,
     SET_VRING_KICK,
 )
@@ -24,6 +26,7 @@ from vhost_moves import (
     SAVE,
     SUM,
     WELL,
+    WRONG,
     arrive,
     ask,
     load,
@@ -88,6 +91,63 @@ def test_a_new_driver_after_a_load(ready, serve):
     other.go_on()
     assert other.counter("actual") == 0
     assert other.read(FIRST * PAGE, PAGE) == b"\xaa" * PAGE
+    stopped(other)
+    assert not any(saved(other)[HEAD:-SUM])
+
+
+def test_a_new_driver_after_another_one(ready):
+    """Nothing is in its balloon, of which the device is saved."""
+    client = ready()
+    with_pages(client, [FIRST], 1)
+    stopped(client)
+    client.go_on()
+    stopped(client)
+    data = saved(client)
+    assert len(data) > HEAD + SUM and not any(data[HEAD:-SUM])
+
+
+def test_a_device_is_saved_once_for_a_pipe(ready):
+    """What was asked for and answered isn't answered again."""
+    client = ready()
+    stopped(client)
+    data = saved(client)
+    for _ in range(2):
+        assert client.send(CHECK_DEVICE_STATE) == WRONG
+        assert "there is no state of a device" in client.why()
+    assert load(client, data)
+    assert client.send(CHECK_DEVICE_STATE) == WRONG
+
+
+def test_a_reset_forgets_a_device_that_was_loaded(ready, serve):
+    """Its target alone stays, as of another device (docs/LINUX.md, RESET_DEVICE)."""
+    client = ready()
+    with_pages(client, [FIRST], 7)
+    other, _ = arrive(client, serve)
+    other.accepted(RESET_DEVICE)
+    plain = serve()
+    plain.begin(PROTOCOL)
+    plain.backend.ask("target 7")
+    assert saved(other) == saved(plain)
+
+
+def test_a_device_that_comes_back(ready, serve):
+    """Where a guest was before it migrated nothing is left of its balloon as it was then."""
+    client = ready()
+    with_pages(client, [FIRST, FIRST + 2], 7)
+    other, bases = arrive(client, serve)
+    other.negotiate(protocol=PROTOCOL)
+    other.add_memory()
+    other.go_on(bases)
+    assert other.called(INFLATE) == 1
+    demand_served(other, DEFLATE, [FIRST])
+    with_pages(other, [FIRST + 5], 8)
+    bases, data = stopped(other), saved(other)
+    assert load(client, data) and saved(client) == data
+    moved_memory(other, client)
+    client.go_on(bases)
+    assert (client.counter("actual"), client.counter("target")) == (1, 8)
+    stopped(client)
+    assert saved(client)[HEAD:-SUM] == data[HEAD:-SUM]
 
 
 def test_a_driver_that_goes_on_at_index_0(ready, serve):
