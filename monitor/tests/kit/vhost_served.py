@@ -65,10 +65,10 @@ class Served(Client):
         """Returns how many files the backend has open."""
         return len(os.listdir(f"/proc/{self.backend.process.pid}/fd"))
 
-    def mappings(self):
-        """Returns how many of the guest's regions the backend has mapped."""
+    def mappings(self, of="region"):
+        """Returns how many of the guest's regions the backend has mapped, or of other memfds."""
         with open(f"/proc/{self.backend.process.pid}/maps", encoding="utf-8") as maps:
-            return sum("memfd:region" in it for it in maps)
+            return sum(f"memfd:{of}" in it for it in maps)
 
     def describe_all(self, number, size):
         """Writes descriptors that stand by themselves, and entries of which each names the one of

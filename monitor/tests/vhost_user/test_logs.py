@@ -90,7 +90,7 @@ def test_a_log_in_place_of_another(begin):
     assert log_base(client, other) == bytes(8)
     demand_served(client, INFLATE, [FIRST])
     assert (logged(file), logged(other)) == ([], [page_of_used(client, INFLATE)])
-    assert client.open_files() == files
+    assert (client.open_files(), client.mappings("log")) == (files, 1)
 
 
 def test_a_log_ends_with_its_session(serve):
@@ -105,7 +105,7 @@ def test_a_log_ends_with_its_session(serve):
     theirs, ours = os.pipe()
     assert ask(client, theirs, LOAD) == WELL
     client.begin(PROTOCOL)
-    assert client.open_files() == files
+    assert (client.open_files(), client.mappings("log")) == (files, 0)
     assert client.send(CHECK_DEVICE_STATE) == WRONG and "no state of a device" in client.why()
     client.start_by_events(protocol=PROTOCOL)
     set_logging(client, True)
