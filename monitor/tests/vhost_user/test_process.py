@@ -6,6 +6,7 @@ import resource
 import signal
 import socket
 import stat
+import struct
 import subprocess
 import tempfile
 import time
@@ -13,9 +14,32 @@ import time
 import pytest
 import linux_guest
 import linux_kit
-from vhost_client import GET_FEATURES, INFLATE, PAGE, PAGES_OF_REGION, SIZE, STATE_BYTES, Client
-from vhost_demands import FIRST, demand_served
+from vhost_client import (
+    ADD_MEM_REG,
+    FEATURES,
+    GET_FEATURES,
+    HAS_PROTOCOL,
+    INFLATE,
+    PAGE,
+    PAGES_OF_REGION,
+    QUEUES,
+    SET_FEATURES,
+    SET_MEM_TABLE,
+    SET_VRING_CALL,
+    SET_VRING_ERR,
+    SET_VRING_KICK,
+    SIZE,
+    STATE_BYTES,
+    Client,
+)
+from vhost_demands import FIRST, demand_served, word
+from vhost_logs import log_base, log_file
+from vhost_moves import LOAD, PROTOCOL, WELL, ask
 from waiting import PATIENCE, patience_from_now
+
+
+# Memory slots of a client, and of a table (docs/LINUX.md, "The protocol").
+SLOTS, TABLE = 32, 8
 
 
 def state_of(path):
@@ -147,6 +171,32 @@ def test_few_files_are_allowed(program, limit, is_few):
     assert (few in ran.stderr) == is_few, ran.stderr
 
 
+def test_a_client_may_have_all_its_files_where_few_are_allowed_at_first(serve, program, tmp_path):
+    """Its memory slots, with a table of others on its way; three events of each queue; its channel,
+    its log, and a pipe for the device's state."""
+    few = tmp_path / "few"
+    few.write_text(f'#!/bin/sh\nulimit -S -n 20\nexec {program} "$@"\n')
+    few.chmod(0o755)
+    client = serve(built=str(few))
+    client.begin(PROTOCOL)
+    file, event, log = client.files[0], os.eventfd(0, os.EFD_NONBLOCK), log_file()
+    client.accepted(SET_FEATURES, word(FEATURES | HAS_PROTOCOL))
+    for it in range(SLOTS):
+        body = struct.pack("<5Q", 0, it * PAGE, PAGE, it << 32, 0)
+        client.accepted(ADD_MEM_REG, body, [file])
+    for number in range(QUEUES):
+        for request in (SET_VRING_KICK, SET_VRING_CALL, SET_VRING_ERR):
+            client.accepted(request, word(number), [event])
+    assert log_base(client, log) == bytes(8)
+    theirs, ours = os.pipe()
+    assert ask(client, theirs, LOAD) == WELL
+    table = b"".join(struct.pack("<4Q", it * PAGE, PAGE, it << 32, 0) for it in range(TABLE))
+    client.accepted(SET_MEM_TABLE, struct.pack("<II", TABLE, 0) + table, TABLE * [file])
+    assert client.counter("end") == TABLE
+    for it in (event, log, ours):
+        os.close(it)
+
+
 def test_no_file_is_left_for_memory(serve):
     client = serve()
     client.negotiate()
@@ -177,6 +227,27 @@ def test_a_state_that_was_read_is_closed(serve_well):
     files = f"/proc/{client.backend.process.pid}/fd"
     assert state not in [os.readlink(f"{files}/{it}") for it in os.listdir(files)]
     client.connect()
+
+
+# Bytes of a line at most, with its end (say.c).
+MOST_LINE = 512
+
+
+@pytest.mark.parametrize("length", (MOST_LINE - 30, MOST_LINE, 2000))
+def test_a_line_that_is_too_long_is_cut(program, tmp_path, length):
+    """It is a whole line still, and says the more of its words the longer it may be."""
+    path = os.path.join(tmp_path, "")
+    path += "./" * ((length - len(path)) // 2)
+    ran = subprocess.run(
+        [program, f"{tmp_path}/socket", "--state", path],
+        stdin=subprocess.DEVNULL,
+        capture_output=True,
+        text=True,
+        timeout=PATIENCE,
+    )
+    whole = f"refused: {path}: Invalid argument\n"
+    assert ran.returncode == 2
+    assert ran.stderr == (whole if len(whole) < MOST_LINE else whole[: MOST_LINE - 2] + "\n")
 
 
 def test_a_link_in_the_place_of_a_state(serve_well):
@@ -226,6 +297,23 @@ def test_a_state_that_cannot_be_written(serve):
         0,
         [f"{state} isn't written: Is a directory", f"{state} is written again"],
     )
+
+
+# Bytes of a path at most, and of what a state's file is called while it is written.
+MOST_PATH, PART = 4095, len(".part")
+
+
+@pytest.mark.parametrize("more", (0, 1))
+def test_a_state_whose_path_has_no_room_for_its_part(serve, tmp_path, more):
+    """No file of another name is made in its place."""
+    room = MOST_PATH - PART - len(f"{tmp_path}/") + more
+    path = f"{tmp_path}/" + "./" * ((room - 200) // 2)
+    path += "s" * (MOST_PATH - PART + more - len(path))
+    client = serve("--state", path)
+    target(client, 5)
+    assert os.listdir(tmp_path) == ([] if more else [os.path.basename(path)])
+    assert client.close()[0] == 0
+    assert client.lines == ([f"{path} isn't written: File name too long"[:510]] if more else [])
 
 
 def test_a_state_that_the_disk_does_not_keep(serve, wrong_program, tmp_path):
