@@ -17,8 +17,24 @@ SIZES = (
     ("3G", 3 << 30),
     ("15T", 15 << 40),
     ("4K", PAGE),
+    # The largest: a page more is the number of pages that says that there is no bound.
+    ("17179869176K", (16 << 40) - 2 * PAGE),
 )
-NONE = ("6K", "16T", "17592186044416K", "1B", "1k", "1.5G", "0x1M", " 1M", "M", "", "9" * 40 + "M")
+NONE = (
+    "6K",
+    "16T",
+    "17179869180K",
+    "17179869184K",
+    "17592186044416K",
+    "1B",
+    "1k",
+    "1.5G",
+    "0x1M",
+    " 1M",
+    "M",
+    "",
+    "9" * 40 + "M",
+)
 
 
 def started(program, folder, *words):
