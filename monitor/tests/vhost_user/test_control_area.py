@@ -150,6 +150,20 @@ def test_what_is_no_command(serve, at, data):
     assert area(client) == before
 
 
+@pytest.mark.parametrize(
+    "at, data, words",
+    (
+        (13, bytes(4), "no control area: a write of 4 bytes at 13"),
+        (COMMAND_AT, struct.pack("<II", 2, 7), "command 7 of version 2 of the control area"),
+    ),
+)
+def test_what_is_said_of_what_is_no_command(serve, at, data, words):
+    client = serve()
+    client.start_by_events(protocol=QEMU_PROTOCOL)
+    assert write(client, at, data) == FAILED
+    assert words in client.why()
+
+
 # Of what a driver writes from `actual` up to byte 16: how many bytes, and what `actual` is then.
 OF_ACTUAL = ((4, 263), (12, 263), (2, 0))
 

@@ -35,6 +35,7 @@ from vhost_moves import (
     sum_of,
     with_pages,
 )
+from waiting import eventually
 
 
 def test_while_queues_run(ready):
@@ -291,6 +292,27 @@ def test_a_reader_that_goes(ready):
     assert client.send(CHECK_DEVICE_STATE) == WRONG
     client.go_on([0] * 4)
     demand_served(client, INFLATE, [FIRST])
+
+
+def has_said(client, words):
+    """Whether a client's backend has said this."""
+    with open(client.backend.log, encoding="latin-1") as log:
+        return words in log.read()
+
+
+def test_pipes_that_are_let_go_of_as_they_are_found(ready):
+    """One that nobody reads any longer, and the end of one that isn't for reading."""
+    client = ready()
+    stopped(client)
+    files, ends = client.open_files(), os.pipe()
+    os.close(ends[0])
+    assert ask(client, os.dup(ends[1]), SAVE) == WELL
+    eventually(lambda: has_said(client, "nobody takes the device's state"))
+    assert client.open_files() == files
+    assert ask(client, ends[1], LOAD) == WELL
+    assert client.send(CHECK_DEVICE_STATE) == WRONG
+    assert has_said(client, "the pipe with the device's state can't be read")
+    assert client.open_files() == files
 
 
 def test_files_that_are_no_pipe(ready):
