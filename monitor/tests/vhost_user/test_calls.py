@@ -13,12 +13,18 @@ from vhost_client import (
     DEFLATE,
     INFLATE,
     NO_FILE,
+    QEMU_PROTOCOL,
+    SET_PROTOCOL_FEATURES,
     SET_VRING_CALL,
     SET_VRING_ENABLE,
     SET_VRING_KICK,
 )
 from vhost_demands import FIRST, MOMENT, word
 from waiting import PATIENCE, eventually
+
+
+# The protocol feature by which a channel comes.
+BACKEND_REQ = 1 << 5
 
 
 def test_pipes_and_sockets_for_calls(start_by_events):
@@ -80,6 +86,18 @@ def test_a_queue_without_a_call_is_told_of_nothing(start_by_events):
         eventually(lambda: client.is_all_used(number), client.why)
     # The first thing that it is told is what comes after that.
     assert (client.backend.ask("target 5"), client.told()) == ("ok", None)
+
+
+def test_a_client_without_a_channel_is_told_of_nothing(serve_well):
+    """Neither of a used buffer, where the queue has no call, nor of a change."""
+    client = serve_well()
+    client.accepted(SET_PROTOCOL_FEATURES, word(QEMU_PROTOCOL & ~BACKEND_REQ))
+    client.begun = True
+    client.start_by_events()
+    client.accepted(SET_VRING_CALL, word(INFLATE | NO_FILE))
+    client.post_pages(INFLATE, [FIRST])
+    eventually(lambda: client.is_all_used(INFLATE), client.why)
+    assert client.backend.ask("target 5") == "ok"
 
 
 def test_one_event_for_the_kicks_of_two_queues(start_by_events):

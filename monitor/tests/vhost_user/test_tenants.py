@@ -20,6 +20,7 @@ from vhost_client import (
     PAGES_OF_REGION,
     QEMU_PROTOCOL,
     SET_BACKEND_REQ_FD,
+    SET_CONFIG,
     SET_VRING_CALL,
     SET_VRING_ENABLE,
     SET_VRING_ERR,
@@ -264,4 +265,17 @@ def test_lines_of_a_second(start_by_events):
     )
     assert said[:6] == [line] * 5 + [more]
     assert len(said) <= 6 * seconds
+    os.truncate(client.backend.log, 0)
+
+
+def test_lines_of_each_second(serve_well):
+    """The next second has its own lines."""
+    client = serve_well("--lines", "1")
+    client.start_by_events()
+    line, body = "no control area: a write of 1 bytes at 0\n", struct.pack("<IIIB", 0, 1, 1, 0)
+    for _ in range(3):
+        assert client.send(SET_CONFIG, body) == word(1)
+        time.sleep(1.05)
+    with open(client.backend.log, encoding="latin-1") as log:
+        assert list(log) == 3 * [line]
     os.truncate(client.backend.log, 0)
