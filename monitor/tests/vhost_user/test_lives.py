@@ -231,6 +231,18 @@ def test_a_reset_forgets_the_rings(start_by_events):
     assert (client.counter("status"), client.counter("actual")) == (15, 0)
 
 
+def goes_on_after_a_kill(client, state, bases, actual):
+    """Has another backend go on with a client's queues, and with its `actual`."""
+    client.counter("status")
+    client.restart("--state", state, killed=True)
+    client.connect()
+    client.negotiate(protocol=QEMU_PROTOCOL)
+    client.add_memory()
+    client.go_on(bases)
+    assert (client.counter("status"), client.counter("actual")) == (15, actual)
+    assert client.called(INFLATE) > 0
+
+
 def test_a_backend_that_is_killed_goes_on(serve_well):
     client = serve_well()
     state = client.file("state")
@@ -256,15 +268,10 @@ def test_a_backend_that_is_killed_goes_on(serve_well):
     assert client.used(INFLATE)[0] == 4
     assert client.holes() == [FIRST + it for it in range(4)]
     demand_served(client, INFLATE, [FIRST + 4])
-    # And again while no ring runs.
+    # And again with another `actual`, and while no ring runs.
+    client.accepted(SET_CONFIG, struct.pack("<IIII", 4, 4, 0, 3))
+    goes_on_after_a_kill(client, state, [client.used(number)[0] for number in range(4)], 3)
     bases = [client.stop_ring(number) for number in range(4)]
     client.accepted(SET_STATUS, word(0))
-    client.counter("status")
-    client.restart("--state", state, killed=True)
-    client.connect()
-    client.negotiate(protocol=QEMU_PROTOCOL)
-    client.add_memory()
-    client.go_on(bases)
-    assert (client.counter("status"), client.counter("actual")) == (15, 2)
-    assert client.called(INFLATE) > 0
+    goes_on_after_a_kill(client, state, bases, 3)
     demand_served(client, INFLATE, [FIRST + 5])

@@ -194,6 +194,22 @@ def test_a_device_of_which_no_driver_is_ready(serve):
     assert other.counter("actual") == 0
 
 
+# Where a device says whether its driver continues.
+CONTINUES_AT = 16
+
+
+def test_a_device_none_of_whose_queues_has_started(serve):
+    """It has features and memory, and no driver that continues; nor has one that loads it."""
+    client, other = serve(), serve()
+    for it in (client, other):
+        it.negotiate(protocol=PROTOCOL)
+        it.add_memory()
+    data = saved(client)
+    assert load(other, data) and len(data) > HEAD + SUM
+    for its in (data, saved(other)):
+        assert its[CONTINUES_AT : CONTINUES_AT + 4] == bytes(4)
+
+
 def test_a_stream_in_place_of_a_pipe(ready, serve):
     client = ready()
     with_pages(client, [FIRST], 3)
