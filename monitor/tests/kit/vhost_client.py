@@ -34,6 +34,9 @@ GET_MAX_MEM_SLOTS, ADD_MEM_REG, REM_MEM_REG, SET_STATUS, GET_STATUS = 36, 37, 38
 SET_DEVICE_STATE_FD, CHECK_DEVICE_STATE = 42, 43
 CONFIG_CHANGED, VRING_CALL = 2, 4
 
+# Flags of an answer, and of what a backend tells: the version, and that it is an answer.
+ANSWERS, TELLS = 1 | 4, 1
+
 # Protocol features: MQ, REPLY_ACK, BACKEND_REQ, CONFIG, RESET_DEVICE, INBAND_NOTIFICATIONS,
 # CONFIGURE_MEM_SLOTS, STATUS; and for a guest that migrates, which a lender's doesn't: LOG_SHMFD,
 # DEVICE_STATE.
@@ -129,7 +132,9 @@ class Client:
         head = stream.recv(12, socket.MSG_WAITALL)
         if len(head) < 12:
             return None
-        request, _, size = struct.unpack("<III", head)
+        request, flags, size = struct.unpack("<III", head)
+        if flags != (ANSWERS if stream is self.socket else TELLS):
+            raise AssertionError(f"message {request} comes with the flags {flags:x}")
         return request, stream.recv(size, socket.MSG_WAITALL) if size else b""
 
     def send(self, request, body=b"", files=(), flags=9):
@@ -139,6 +144,8 @@ class Client:
         if not flags & 8:
             return None
         answer = self.receive()
+        if answer and answer[0] != request:
+            raise AssertionError(f"message {request} is answered as {answer[0]}")
         return answer and answer[1]
 
     def accepted(self, request, body=b"", files=()):
@@ -353,6 +360,8 @@ class Client:
         request, body = self.receive(self.own)
         if body not in (b"", body[:4] + bytes(4)):
             raise AssertionError(f"the backend tells {body}")
+        if request not in (VRING_CALL, CONFIG_CHANGED):
+            raise AssertionError(f"the backend tells {request}")
         return struct.unpack("<I", body[:4])[0] if request == VRING_CALL else None
 
     def called(self, number, limit=PATIENCE):
