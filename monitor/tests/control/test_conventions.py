@@ -3,9 +3,11 @@ socket, and asked what it can."""
 
 import json
 import os
+import re
 import signal
 import socket
 import subprocess
+import time
 
 import linux_kit
 import pytest
@@ -54,7 +56,7 @@ def serve(client):
     (
         ["--socket-path", "{path}"],
         ["--socket-path={path}"],
-        ["--strict", "--socket-path={path}", "--lines", "5"],
+        ["--strict", "--socket-path={path}", "--lines", "2147483647"],
     ),
 )
 def test_by_a_path(backend, tmp_path_factory, words):
@@ -76,6 +78,27 @@ def test_by_a_socket_that_listens(backend, tmp_path_factory, option):
     serve(Client(path))
     assert it.end() == (0, "")
     assert os.path.exists(path), "the maker of the socket removes it"
+
+
+# How often is looked, and how many seconds apart, whether a process sleeps: one that never does is
+# ready to run each time, however busy the machine is.
+LOOKS, APART = 20, 0.02
+
+
+def state_of(process):
+    """Returns the letter of a process's state, a moment later (proc(5))."""
+    time.sleep(APART)
+    with open(f"/proc/{process}/stat", encoding="ascii") as its:
+        return its.read().rsplit(")", 1)[1].split()[0]
+
+
+def test_who_has_no_control_pipe_sleeps(backend, tmp_path):
+    """Its end isn't looked at again."""
+    it = Running(backend, f"--socket-path={tmp_path}/socket")
+    eventually(
+        lambda: all(state_of(it.process.pid) == "S" for _ in range(LOOKS)), "it never sleeps"
+    )
+    assert it.end() == (0, "")
 
 
 class Connected(Client):
@@ -149,6 +172,22 @@ def test_command_lines_that_are_none(backend, words):
     assert "vhost_user_balloon SOCKET | --socket-path SOCKET | --fd FD" in ran.stderr
 
 
+@pytest.mark.parametrize("kind", (socket.SOCK_DGRAM, socket.SOCK_SEQPACKET))
+def test_a_socket_that_is_no_stream(backend, kind):
+    ours, theirs = socket.socketpair(socket.AF_UNIX, kind)
+    with ours, theirs:
+        ran = subprocess.run(
+            [backend, f"--fd={theirs.fileno()}"],
+            capture_output=True,
+            text=True,
+            timeout=PATIENCE,
+            stdin=subprocess.DEVNULL,
+            pass_fds=[theirs.fileno()],
+        )
+    assert (ran.returncode, ran.stdout) == (2, "")
+    assert re.fullmatch(r"--fd: \d+ can't be taken", ran.stderr.splitlines()[0])
+
+
 # A command line, and what is said of it before the help.
 NAMED = (
     (["--nonsense"], "unrecognized option '--nonsense'"),
@@ -157,6 +196,9 @@ NAMED = (
     (["--s"], "option '--s' is ambiguous; possibilities: '--state' '--strict' '--socket-path'"),
     (["--fd", "x"], "--fd: x can't be taken"),
     (["--lines", "-1"], "--lines: -1 can't be taken"),
+    (["--lines", "2147483648"], "--lines: 2147483648 can't be taken"),
+    (["--layout", "0"], "--layout: 0 can't be taken"),
+    (["--layout", "4294967296"], "--layout: 4294967296 can't be taken"),
     (["--features", "g"], "--features: g can't be taken"),
     (["a", "b"], ""),
     ([], ""),

@@ -85,8 +85,8 @@ def test_what_is_not_to_be_logged(begin):
 def test_a_log_in_place_of_another(begin):
     client, file = begin()
     set_logging(client, True)
-    files = client.open_files()
-    other = log_file()
+    files, other = client.open_files(), log_file()
+    assert log_base(client, log_file(LOG_BYTES), offset=0) == bytes(8)
     assert log_base(client, other) == bytes(8)
     demand_served(client, INFLATE, [FIRST])
     assert (logged(file), logged(other)) == ([], [page_of_used(client, INFLATE)])
@@ -148,7 +148,7 @@ NO_LOGS = {
     "none at the end": ("has no bytes", LOG_BYTES, 0, LOG_BYTES),
     "a byte more": (LATER, LOG_BYTES, LOG_BYTES + 1, 0),
     "a page later": (LATER, LOG_BYTES, LOG_BYTES, PAGE),
-    "a byte after the end": (LATER, LOG_BYTES, 1, PAGE),
+    "a byte after the end": (f"of 1 bytes from {PAGE} on {LATER}", LOG_BYTES, 1, PAGE),
     "the largest": (LATER, LOG_BYTES, 2**63 - 1, 0),
     "an empty file": (LATER, 0, 8, 0),
     "within a page": ("begins within a page", LOG_BYTES, 1, 1),
