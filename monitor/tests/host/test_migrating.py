@@ -14,14 +14,18 @@ from test_strict import GIVEN
 from vhost_client import (
     ADD_MEM_REG,
     CHECK_DEVICE_STATE,
+    DEFLATE,
+    FEATURES,
     GET_CONFIG,
+    HAS_PROTOCOL,
     INFLATE,
     PAGE,
     REGIONS,
     SET_CONFIG,
+    SET_FEATURES,
     SET_LOG_BASE,
 )
-from vhost_demands import demand_served
+from vhost_demands import demand_served, word
 from vhost_logs import log_base, log_file, logged, page_of_used, set_logging
 from vhost_moves import (
     BADLY,
@@ -63,6 +67,22 @@ def test_what_the_device_writes_is_logged(migrating, lend, way):
         client.called(INFLATE)
     demand_served(client, INFLATE, GIVEN[1:2])
     assert logged(file) == [page_of_used(client, INFLATE)]
+
+
+def test_another_process_marks_the_used_rings_that_are_logged_alone(migrating, lend):
+    """Neither that of a queue that is stopped, nor any without the feature."""
+    lender, client = migrating()
+    file = log_file()
+    assert log_base(client, file) == bytes(8)
+    set_logging(client, True)
+    client.stop_ring(DEFLATE)
+    kill(lender, lend)
+    read_target(client)
+    assert logged(file) == [page_of_used(client, it) for it in range(4) if it != DEFLATE]
+    client.accepted(SET_FEATURES, word(FEATURES | HAS_PROTOCOL))
+    kill(lender, lend)
+    read_target(client)
+    assert logged(file) == []
 
 
 def test_another_program_knows_nothing_of_a_log(migrating):
