@@ -1,10 +1,23 @@
-"""The control area of a guest that isn't strict, as its client finds it under a lender
-(docs/LINUX.md, "The control area")."""
+"""The control area of a guest, strict or not, as its client finds it under a lender (docs/LINUX.md,
+"The control area")."""
 
+import fcntl
+import os
 import struct
 
-from test_strict import GIVEN
-from vhost_client import GET_CONFIG, INFLATE, SET_CONFIG, Client
+from test_held import FUTURE_WRITE
+from test_strict import GIVEN, STRICT
+from vhost_client import (
+    GET_CONFIG,
+    INFLATE,
+    PAGE,
+    PAGES_OF_REGION,
+    REGIONS,
+    REPORT,
+    SET_CONFIG,
+    WRITE,
+    Client,
+)
 from vhost_demands import demand_served
 from vhost_moves import FINE, OF_CLIENT, PROTOCOL, WRONG
 
@@ -39,4 +52,23 @@ def test_the_lender_has_control_of_a_guest_that_is_not_strict(lend):
     lender.tells("a: the lender alone has control")
     assert area(client) == its
     assert write(client, *ASK) == FINE
+    client.leave()
+
+
+def test_what_a_report_fails_to_discard_takes_nothing_of_what_is_given_up(lend):
+    """That counts pages in the balloon alone."""
+    lender = lend(1, *STRICT)
+    client = Client(lender.add("a"), lambda: lender.said()[-4:])
+    client.replace(1, os.memfd_create("region", os.MFD_CLOEXEC | os.MFD_ALLOW_SEALING))
+    client.begin(PROTOCOL)
+    client.start_by_events(protocol=PROTOCOL)
+    demand_served(client, INFLATE, GIVEN[:3])
+    assert struct.unpack_from("<I", area(client), GIVEN_AT) == (3,)
+    fcntl.fcntl(client.files[1], fcntl.F_ADD_SEALS, FUTURE_WRITE)
+    client.describe(REPORT, 0, REGIONS[1][0] + PAGES_OF_REGION // 2 * PAGE, PAGE, WRITE)
+    client.publish(REPORT, 0)
+    client.kick(REPORT)
+    assert client.called(REPORT) == 1
+    lender.tells("a: 1 pages can't be discarded")
+    assert struct.unpack_from("<I", area(client), GIVEN_AT) == (3,)
     client.leave()
