@@ -18,6 +18,8 @@ from vhost_client import (
     RESET_DEVICE,
     SET_CONFIG,
     SET_FEATURES,
+    SET_MEM_TABLE,
+    SET_OWNER,
     SET_STATUS,
     SET_VRING_ADDR,
     SET_VRING_ENABLE,
@@ -27,6 +29,7 @@ from vhost_client import (
     SIZE,
 )
 from vhost_demands import FIRST, demand_served, demand_unserved, word
+from waiting import eventually
 
 
 def test_status(serve_well):
@@ -188,6 +191,19 @@ def test_a_device_that_is_plugged_again(serve_well):
     demand_served(client, INFLATE, [FIRST])
     assert (client.backend.ask("target 3"), client.told()) == ("ok", None)
     os.close(fault)
+
+
+def test_a_session_without_protocol_features_ends_with_the_next(serve_well):
+    """As one of a client that has some: nothing of its memory stays."""
+    client = serve_well()
+    begins = ((SET_OWNER, b""), (SET_FEATURES, word(FEATURES)))
+    for _ in range(2):
+        for request, body in begins:
+            client.send(request, body, flags=1)
+        eventually(lambda: (client.counter("status"), client.mappings()) == (11, 0))
+        table = struct.pack("<IIQQQQ", 1, 0, REGIONS[0][0], PAGE, REGIONS[0][1], 0)
+        client.send(SET_MEM_TABLE, table, client.files[:1], flags=1)
+        eventually(lambda: client.mappings() == 1)
 
 
 def test_a_state_s_file_is_whole_at_each_moment(serve_well):

@@ -5,6 +5,7 @@ room left."""
 import ctypes
 import fcntl
 import os
+import signal
 import socket
 import struct
 import tempfile
@@ -14,6 +15,7 @@ import pytest
 from vhost_client import (
     ADD_MEM_REG,
     BUFFERS,
+    GET_STATUS,
     GET_VRING_BASE,
     INFLATE,
     PAGE,
@@ -268,14 +270,38 @@ def test_lines_of_a_second(start_by_events):
     os.truncate(client.backend.log, 0)
 
 
+# What a client writes in its own name that is no command, and the line about that; how many lines
+# of a second there are where nothing is said (packaging/etc/host.conf has the same), and the last.
+NO_COMMAND, NO_AREA = struct.pack("<IIIB", 0, 1, 1, 0), "no control area: a write of 1 bytes at 0\n"
+USUAL, LEFT_OUT = 20, "further lines of this second are left out\n"
+
+
 def test_lines_of_each_second(serve_well):
     """The next second has its own lines."""
     client = serve_well("--lines", "1")
     client.start_by_events()
-    line, body = "no control area: a write of 1 bytes at 0\n", struct.pack("<IIIB", 0, 1, 1, 0)
     for _ in range(3):
-        assert client.send(SET_CONFIG, body) == word(1)
+        assert client.send(SET_CONFIG, NO_COMMAND) == word(1)
         time.sleep(1.05)
     with open(client.backend.log, encoding="latin-1") as log:
-        assert list(log) == 3 * [line]
+        assert list(log) == 3 * [NO_AREA]
     os.truncate(client.backend.log, 0)
+
+
+def said_at_once(client):
+    """Returns what a backend says of more such writes than it has lines."""
+    client.start_by_events()
+    process = client.backend.process.pid
+    os.kill(process, signal.SIGSTOP)
+    for _ in range(USUAL + 5):
+        client.send(SET_CONFIG, NO_COMMAND, flags=1)
+    os.kill(process, signal.SIGCONT)
+    client.send(GET_STATUS)
+    with open(client.backend.log, encoding="latin-1") as log:
+        return list(log)
+
+
+def test_lines_of_a_second_where_no_option_says_how_many(serve):
+    """Now and then a second ends amid them."""
+    wanted = USUAL * [NO_AREA] + [LEFT_OUT]
+    assert any(said_at_once(serve()) == wanted for _ in range(3))
