@@ -119,6 +119,16 @@ def a_deflate_waits_for_another_guest(lender, come):
     used(other, DEFLATE, 1)
 
 
+def who_was_granted_may_give_again(lender, come):
+    """Another one, which was asked for nearly all that it can give, gets its part then, too."""
+    one, other = two_have_given(lender, come)
+    other.take(GIVEN[:40])
+    has_target(lender, "a", 95)
+    one.give(GIVEN[50:95])
+    used(other, DEFLATE, 1)
+    has_target(lender, "a", 50), has_target(lender, "b", 50)
+
+
 def a_target_waits_for_another_guest(lender, come):
     """It falls by what that one gives."""
     one, other = two_have_given(lender, come)
@@ -141,6 +151,7 @@ STORIES = (
     pages_are_taken_that_nobody_granted,
     a_deflate_is_held,
     a_deflate_waits_for_another_guest,
+    who_was_granted_may_give_again,
     a_target_waits_for_another_guest,
     statistics_are_waited_for,
 )
