@@ -6,6 +6,7 @@ import time
 
 import pytest
 from bigvasta.connection import Connection
+from played import Played
 from tenants import FREE, eventually, has_ended
 from test_strict import GIVEN, STRICT, Later
 from vhost_client import Client
@@ -104,6 +105,23 @@ def test_it_is_run_once_for_a_shortage_that_lasts(lend, come, command):
     lender.set_budget(156)
     wait_for(lender, 2, 0, True, "b")
     eventually(lambda: command.noted() == [wanted] * 2, command.noted)
+
+
+# Pages of a guest, and those that it waits for, which is all that is missing; and in MiB, as many
+# as they need, those that are missing and wanted, and the least budget.
+SIZES = ((512, 256, 1, 2), (600, 257, 2, 3), (513, 1, 1, 3))
+
+
+@pytest.mark.parametrize("pages, asks, missing, least", SIZES)
+def test_a_part_of_a_mib_counts_as_one(lend, command, pages, asks, missing, least):
+    lender = lend(1, *command.options())
+    lender.set_budget(pages - asks)
+    a = Played(lender, "a", pages=pages, ballooned=asks, target=asks)
+    a.deflates(asks)
+    path, user = os.environ["PATH"], os.getuid()
+    wanted = f"2 a {missing} LEAST_BUDGET={least} PATH={path} WANTED={missing} {user}"
+    eventually(lambda: command.noted() == [wanted], command.noted)
+    a.leave()
 
 
 # The priorities of two guests, who has given ten pages, and who gives first.
