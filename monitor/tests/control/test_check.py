@@ -12,7 +12,7 @@ from linux_kit import ROOT
 from test_config import WRONG, filled
 from waiting import PATIENCE, patience_from_now
 
-MIB = 1 << 20
+MIB, PAGE = 1 << 20, 4096
 
 
 def checked(program, file, *words):
@@ -116,6 +116,13 @@ def test_bytes_of_others_making(program, folder, file):
         1,
         [f"{file}: line 20: guest ?[2J?: a guest's name has 1 to 31 letters, digits, - and _"],
     )
+    # What is printed in ASCII stays, from the blank to the tilde, as far as there is room.
+    name = " ~!".join(("a", "z" * 80))
+    file.write_text(f"{filled(folder)}{name} = 5\n")
+    assert checked(program, file) == (
+        1,
+        [f"{file}: line 20: {name[:63]}: this section has no such key"],
+    )
     file.write_text(filled(folder, "budget = 480M", f"budget = {'9' * 40}M"))
     status, lines = checked(program, file)
     assert status == 1 and lines[0].startswith(f"{file}: line 4: budget: a size")
@@ -127,6 +134,18 @@ def test_a_file_that_is_read_by_a_request(configured, folder, file):
     assert configured.status()["budget"] == 400 * MIB
     ran = bigvasta(configured.control, "reload")
     assert (ran.returncode, ran.stdout, ran.stderr) == (0, "the configuration is read\n", "")
+
+
+def test_a_host_may_overdraw_as_much_as_its_budget(configured, folder, file):
+    """To a page."""
+    file.write_text(filled(folder, "budget = 480M", "budget = 400M\noverdraft = 400M"))
+    assert configured.ask("reload")["ok"]
+    its = configured.status()
+    assert (its["budget"], its["overdraft"]) == (400 * MIB, 400 * MIB)
+    assert configured.ask("budget", bytes=400 * MIB)["ok"]
+    with pytest.raises(Refused, match="an overdraft is no more than the budget"):
+        configured.ask("budget", bytes=400 * MIB - PAGE)
+    assert configured.status()["budget"] == 400 * MIB
 
 
 def test_a_request_waits_for_its_outcome(configured, folder, file):
