@@ -68,6 +68,19 @@ def test_a_name_is_a_name(host):
     assert notes(host) == []
 
 
+def test_the_longest_name_is_noted_whole(host):
+    """In the log, what a terminal would obey isn't: what is printed in ASCII stays, from the blank
+    to the tilde."""
+    raw, by = Raw(host.control), "a ~\x1f!\x7f".ljust(64, "z")
+    assert raw.answer(say(request="budget", bytes=300 * MIB, by=by))["ok"]
+    raw.close()
+    its = host.ask("changes")["changes"][-1]
+    assert (its["by"], its["process"], its["user"]) == (by, os.getpid(), os.getuid())
+    shown = by.replace("\x1f", "?").replace("\x7f", "?")
+    who = f"user {os.getuid()} ({shown}), process {os.getpid()}"
+    assert f"changed by {who}: budget: 480M -> 300M" in host.said()
+
+
 def test_what_is_refused_is_no_change(host):
     raw = Raw(host.control)
     for fields in ({"request": "guest", "name": "a", "most": 0}, {"request": "budget", "bytes": 1}):
