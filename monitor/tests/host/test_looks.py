@@ -4,7 +4,8 @@ process does that nobody looks at."""
 import os
 import time
 
-from played import Played
+import pytest
+from played import WAIT_ROOM, Listens, Played
 from tenants import FREE, PAGES, eventually, process_of
 from test_later_lender import QUICK
 from test_strict import STRICT
@@ -32,11 +33,33 @@ def test_what_is_held_at_most_and_above_the_budget(lend, come):
     assert counted() == (ALL * KIB, False, False)
     lender.set_budget(ALL - 1), look()
     assert counted() == (ALL * KIB, True, True)
+    status = lender.status()["host"]
+    # Each look counts as the seconds of a period: a tenth of one.
+    assert status["measures"]["above"] == pytest.approx(status["counters"]["above"] / 10)
     guest.leave()
     lender.become("a", held_kib=0), look()
     before, passed = (lender.counters()[it] for it in ("above", "peak_kib"))
     look()
     assert (lender.counters()["above"], passed) == (before, ALL * KIB)
+
+
+def test_who_waits_for_room_has_taken_nothing_whatever_it_holds(lend):
+    """A client's memory may be all there before it has room."""
+    lender = lend(1, *STRICT)
+    lender.set_budget(ALL)
+    b = Played(lender, "b", pages=ALL)
+    listens = Listens(lender.folder, "a")
+    lender.demand("add a strict=1 overhead=0")
+    its = {"ready": 0, "waits": WAIT_ROOM, "wait": 1, "wanted": ALL, "held_kib": KIB * ALL}
+    a = Played(lender, "a", listens=listens, **its)
+    lender.become("a", waits="room", held_kib=KIB * ALL)
+    looks = lender.counters()["looks"]
+    eventually(lambda: lender.counters()["looks"] > looks + 3)
+    its = lender.guests()["a"]
+    assert (its["cooperates"], its["lent"], its["asked"]) == (1, 0, 0)
+    assert not [it for it in lender.said() if "unasked" in it]
+    for it in a, b:
+        it.leave()
 
 
 def test_who_has_taken_pages_back_is_asked_for_none_for_a_while(lend, come):
