@@ -112,6 +112,7 @@ def test_memory_that_is_added_is_a_grant_and_no_guest_that_comes(adding):
     lender.set_budget(2 * PART + ALL)
     lender.become("a", lent=2 * PART)
     assert counts() == [grants + 1, admitted]
+    assert not [it for it in lender.said() if "added memory" in it]
 
 
 def test_all_is_decided_again_as_memory_is_to_be_added_and_as_it_is(adding):
