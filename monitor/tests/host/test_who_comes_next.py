@@ -8,6 +8,7 @@ from test_limits_that_change import files_of
 from test_strict import GIVEN, STRICT, Later
 from test_turns import connect
 from vhost_client import Client
+from waiting import PATIENCE
 
 LOOSE = tuple(it for it in STRICT if it != "--strict")
 
@@ -165,6 +166,7 @@ def test_a_client_that_waits_at_a_guest_that_is_removed_leaves_no_file(lend):
         client.start()
         lender.become(name, ready=1)
         waits = connect(lender, name)
+        waits.settimeout(PATIENCE)
         lender.demand(f"remove {name}")
         assert waits.recv(1) == b""
         client.leave(), waits.close()
