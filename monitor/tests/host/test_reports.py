@@ -6,7 +6,7 @@ import struct
 
 import pytest
 from bigvasta import __version__
-from played import FIGURES, NUMBERS, ORDER_LOOK, ORDER_TARGET, TELL_REPORT, VERSION, Message, Played
+from played import NUMBERS, ORDER_LOOK, ORDER_TARGET, TELL_REPORT, VERSION, Message, Played
 from tenants import AVAILABLE, FREE, eventually
 from test_channels import channel, length_heard
 from test_strict import GIVEN, STRICT
@@ -114,17 +114,6 @@ def test_pages_that_are_given_are_news_of_a_strict_guest_alone(lend, come, stric
         assert [its.ballooned for its in unasked(it)] == [MORE] * strict
         assert reported(it).ballooned == MORE
     lend(1, *STRICT, folder=lender.folder)
-
-
-@pytest.mark.parametrize("count", (FIGURES, FIGURES + 1, (1 << 32) - 1))
-def test_a_report_has_no_more_figures_than_there_is_room_for(lend, checked, count):
-    """Whatever a process says that it has."""
-    lender = lend(1, *STRICT, program=checked)
-    a = Played(lender, "a", pages=ALL)
-    a.report(figure_count=count, actual=ACTUAL)
-    eventually(lambda: lender.status()["guests"][0]["actual"] == ACTUAL * PAGE, lender.said)
-    assert lender.ask("a statistics") == "statistics 0" + FIGURES * " swap_in 0"
-    a.leave()
 
 
 def spoiled(message):
