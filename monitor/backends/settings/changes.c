@@ -258,7 +258,8 @@ const char *changes_keep_removal(struct changes *changes, const struct config *f
     static struct config next;
     config_copy(&next, changes_of(changes, lasting));
     struct config_guest *its = config_guest_of(&next, name);
-    bool is_marked = lasting == UNTIL_RESTART || config_guest_of((struct config *)file, name);
+    bool lasts = lasting == UNTIL_RESTART && config_guest_of(&changes->lasting, name);
+    bool is_marked = lasts || config_guest_of((struct config *)file, name);
     if (its)
         drop(&next, its);
     its = is_marked ? config_new_guest(&next, MOST_CHANGED_GUESTS, name) : NULL;
