@@ -129,19 +129,15 @@ static const char *change(const struct asked *asked, const struct guest_view *gu
     snprintf(name, sizeof name, "%s", guest->name);
     const char *fault = has_terms ? host_refuses(asked->host, name, &terms) : NULL;
     if (!fault && has_target)
-        fault = host_set_target(asked->host, name, field_pages(fields, "target"));
-    if (!fault && !has_terms && has_target)
-        note_target(asked, guest);
-    if (fault || !has_terms)
-        return fault;
-    fault = keep_terms(asked, name, &terms, false);
-    if (!fault)
+        fault = host_refuses_target(asked->host, name);
+    if (!fault && has_terms)
+        fault = keep_terms(asked, name, &terms, false);
+    if (!fault && has_terms)
         fault = unless_done(asked, host_set_terms(asked->host, name, &terms));
-    if (fault && has_target)
-        host_set_target(asked->host, name, guest->target);
-    else if (has_target)
-        note_target(asked, guest);
-    return fault;
+    if (fault || !has_target)
+        return fault;
+    note_target(asked, guest);
+    return host_set_target(asked->host, name, field_pages(fields, "target"));
 }
 
 /* The guest of this number, after what was done to it. */

@@ -1,5 +1,6 @@
 /* Who is served, and where: a socket for each guest of the host. */
 #include "places.h"
+#include "view.h"
 
 #include <stdlib.h>
 #include <sys/socket.h>
@@ -95,6 +96,19 @@ static bool name_seat(struct seat *seat, const char *name)
     return snprintf(seat->path, sizeof seat->path, "%s/%s", folder, name) < MOST_PATH &&
            snprintf(seat->later_path, sizeof seat->later_path, "/proc/self/fd/%d/%s",
                     seat->host->channels, name) < MOST_PATH;
+}
+
+const char *terms_fault(const struct guest_terms *terms, const char **term)
+{
+    *term = "least";
+    if (terms->least > terms->most)
+        return "its least is more than its most";
+    *term = "start";
+    if (terms->start == UINT32_MAX)
+        return NULL;
+    if (terms->start > terms->most)
+        return "its start is more than its most";
+    return terms->limit.kind == LIMIT_NONE ? "a start is for a guest that has a limit" : NULL;
 }
 
 const char *seat_fault(const struct host *host, const char *name)

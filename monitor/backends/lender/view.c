@@ -265,19 +265,6 @@ void host_set_step(struct host *host, uint32_t step)
 
 static const char nobody[] = "no guest has that name";
 
-const char *terms_fault(const struct guest_terms *terms, const char **term)
-{
-    *term = "least";
-    if (terms->least > terms->most)
-        return "its least is more than its most";
-    *term = "start";
-    if (terms->start == UINT32_MAX)
-        return NULL;
-    if (terms->start > terms->most)
-        return "its start is more than its most";
-    return terms->limit.kind == LIMIT_NONE ? "a start is for a guest that has a limit" : NULL;
-}
-
 const char *host_refuses(const struct host *host, const char *name, const struct guest_terms *terms)
 {
     const struct seat *seat = seat_of(host, name);
@@ -332,13 +319,20 @@ const char *host_set_terms(struct host *host, const char *name, const struct gue
     return NULL;
 }
 
+const char *host_refuses_target(const struct host *host, const char *name)
+{
+    const struct seat *seat = seat_of(host, name);
+    if (!seat)
+        return nobody;
+    return seat_is_taken(seat) ? NULL : "nobody is there";
+}
+
 const char *host_set_target(struct host *host, const char *name, uint32_t pages)
 {
     struct seat *seat = seat_of(host, name);
-    if (!seat)
-        return nobody;
-    if (!seat_is_taken(seat))
-        return "nobody is there";
+    const char *fault = host_refuses_target(host, name);
+    if (fault)
+        return fault;
     seat->by_hand = pages;
     seat_set_target(seat, pages);
     places_settle(host);

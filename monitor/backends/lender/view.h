@@ -184,7 +184,8 @@ const char *terms_fault(const struct guest_terms *terms, const char **term);
 /* Why a guest of this name, which there may be, can't have these terms; NULL: it can. */
 const char *host_refuses(const struct host *host, const char *name,
                          const struct guest_terms *terms);
-/* A target by hand: it stays while it serves. */
+/* Why no target can be set by hand; NULL: one can. It stays until all is decided again. */
+const char *host_refuses_target(const struct host *host, const char *name);
 const char *host_set_target(struct host *host, const char *name, uint32_t pages);
 
 /* An upgrade: the lender ends this turn as the program that is there now, where that runs; and a
