@@ -115,12 +115,13 @@ def numbers_of(said):
 # of these says.
 FOUND_IN = 10
 HAVE_MORE, WAITS = "have more than the budget", "waits for a deflate"
+GETS_MORE = "gets pages above the budget that others still give"
 WRONG = {
     "11": ("shift", WAITS),
     "12": ("shift", WAITS),
     "13": ("shift", HAVE_MORE),
     "14": ("shift", WAITS),
-    "15": ("shift", HAVE_MORE),
+    "15": ("shift", GETS_MORE),
     "16": ("shift", HAVE_MORE),
     "17": ("shift", WAITS),
     "18": ("shift", WAITS),
@@ -128,7 +129,7 @@ WRONG = {
     "20": ("shift", WAITS),
     "33": ("lost", WAITS),
     "34": ("lost", "hasn't heard its target"),
-    "35": ("overdraft", "gets pages above the budget that others still give"),
+    "35": ("overdraft", GETS_MORE),
     "36": ("floors", WAITS),
     "37": ("two-reboot", "waits for a new life"),
     "39": ("shift", HAVE_MORE),
