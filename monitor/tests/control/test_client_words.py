@@ -5,7 +5,7 @@ import json
 import types
 
 import pytest
-from bigvasta import picture
+from bigvasta import picture, watching
 from bigvasta.addresses import parse_address
 from bigvasta.commands import log, upgrade
 from bigvasta.picture import PLAIN, Shown
@@ -257,3 +257,43 @@ def test_what_an_upgrade_says_of_a_guest(
     assert upgrade.run(types.SimpleNamespace(control="", json=is_json)) == status
     said = capsys.readouterr().out
     assert json.loads(said) == its if is_json else said == f"host: 1 -> 2\na: {words}\n"
+
+
+class Screen:
+    """A screen whose keys come after these seconds each, and that notes for how many milliseconds
+    it is to wait for each."""
+
+    def __init__(self, keys):
+        self.keys, self.now, self.waits, self.looks = iter(keys), 100.0, [], []
+
+    def getmaxyx(self):
+        """Returns its size."""
+        return 24, 80
+
+    def timeout(self, milliseconds):
+        """Notes how long it waits."""
+        self.waits.append(milliseconds)
+
+    def getch(self):
+        """Waits for a key, and returns it; -1: none has come."""
+        seconds, key = next(self.keys)
+        self.now += seconds
+        return key
+
+
+def test_when_a_screen_looks_at_its_host(monkeypatch):
+    """Each two seconds, however many keys come meanwhile, and not while it is paused."""
+    pauses, ends = ord("p"), ord("q")
+    keys = ((0.5, -1), (1.5, -1), (3, -1), (0.25, pauses), (2, -1), (0, pauses), (2, -1), (0, ends))
+    screen = Screen(keys)
+    monkeypatch.setattr(watching.curses, "curs_set", lambda _: None)
+    monkeypatch.setattr(watching, "styles", dict)
+    monkeypatch.setattr(watching, "draw", lambda *_: None)
+    monkeypatch.setattr(watching, "picture", lambda *_: [])
+    monkeypatch.setattr(watching, "time", types.SimpleNamespace(monotonic=lambda: screen.now))
+    source = types.SimpleNamespace(
+        status={"guests": []}, fault="", look=lambda: screen.looks.append(screen.now)
+    )
+    watching.show(screen, source, 2.0)
+    assert screen.waits == [2000, 1500, 2000, 2000, 1750, 2000, 2000, 2000]
+    assert screen.looks == [102.0, 105.0, 109.25]
