@@ -1,16 +1,25 @@
 """Tests of each message of a client as vhost-user has it (QEMU's docs/interop/vhost-user.rst): its
 bytes, its files, and its protocol feature; and of messages that come in pieces."""
 
+import array
 import fcntl
 import re
 import select
+import socket
 import struct
 import termios
 
 import linux_kit
 import pytest
 import vhost_client
-from vhost_client import GET_FEATURES, INFLATE, MIGRATION, OFFERED, SET_PROTOCOL_FEATURES
+from vhost_client import (
+    GET_FEATURES,
+    INFLATE,
+    MIGRATION,
+    OFFERED,
+    SET_MEM_TABLE,
+    SET_PROTOCOL_FEATURES,
+)
 from vhost_demands import FIRST, demand_refused, word
 from waiting import PATIENCE, eventually
 
@@ -160,6 +169,17 @@ def test_messages_may_come_in_pieces(serve_well):
     client.start()
     client.post_pages(INFLATE, [FIRST])
     assert (client.told(), client.used(INFLATE)[0]) == (INFLATE, 1)
+
+
+def test_files_that_are_too_many_in_two_pieces(serve):
+    """Neither piece has more than the message may have."""
+    client, (_, size), (_, most) = serve(), *rule_of("SET_MEM_TABLE")[:2]
+    pieces, head = InPieces(client.socket), struct.pack("<III", SET_MEM_TABLE, 1, size)
+    for data, count in ((head, most), (bytes(size), 1)):
+        files = array.array("i", [client.files[0]] * count)
+        client.socket.sendmsg([data], [(socket.SOL_SOCKET, socket.SCM_RIGHTS, files)])
+        eventually(lambda: pieces.unread() == 0)
+    demand_refused(client, f"SET_MEM_TABLE has {most} files and more")
 
 
 def test_who_goes_before_it_has_read_its_answer_has_gone(serve_well):
