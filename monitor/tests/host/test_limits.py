@@ -9,6 +9,8 @@ import struct
 import time
 
 import pytest
+from bigvasta.connection import Connection
+from bigvasta.statuses import Refused
 from host_places import FIRST, SECOND, Cgroup, Mount, cgroups, run
 from tenants import FREE, begin_writer, eventually, go_on, stop, writer_of
 from test_strict import GIVEN, STRICT, used, waits_of
@@ -206,16 +208,14 @@ NO_MEMORY = {
 }
 # What is said of a path below a file, by whether cgroups are there.
 NO_FOLDER = ("no cgroup of memory", "Not a directory")
+NO_WORDS = "a path of 151 bytes at most, each of them a letter, a digit or a sign of ASCII"
 REFUSED = (
     ("limit=/x", NO_LIMIT),
     ("limit=tmpfs:x", NO_PATH),
     ("limit=tmpfs:/x/../y", NO_PATH),
     ("limit=tmpfs:/x/./y", NO_PATH),
     ("limit=cgroup:/x/", NO_PATH),
-    (
-        "limit=tmpfs:/" + "x" * 151,
-        "a path of 151 bytes at most, each of them a letter, a digit or a sign of ASCII",
-    ),
+    *((f"limit=tmpfs:/{it}", NO_WORDS) for it in (151 * "x", "a\x7f", "\x1f")),
     ("limit=cgroup:/etc", "no cgroup of memory"),
     ("limit=cgroup:/proc/self", "no cgroup of memory"),
     NO_MEMORY[cgroups()],
@@ -224,12 +224,21 @@ REFUSED = (
     ("limit=tmpfs:/dev/shm/x", "no mount of tmpfs"),
     # A name may begin with dots.
     *((f"limit=tmpfs:/dev/{it}/x", "no mount of tmpfs") for it in (".x", "..x", "...")),
-    ("limit=tmpfs:/" + "x" * 150, "no mount of tmpfs"),
+    *((f"limit=tmpfs:/{it}", "no mount of tmpfs") for it in (150 * "x", "!~")),
     (
         "strict=0 limit=tmpfs:/dev/shm",
         "a limit is for a strict guest, whose deflates wait until it is raised",
     ),
 )
+
+
+def test_a_path_with_a_blank_is_no_limit(lend):
+    """Lines have a blank before each term."""
+    lender = lend(1, *STRICT)
+    with Connection(f"{lender.folder}/.control") as control:
+        with pytest.raises(Refused, match=NO_WORDS):
+            control.ask("add", name="a", limit="tmpfs:/a b")
+    assert not lender.guests()
 
 
 @pytest.mark.parametrize("terms, why", REFUSED)
