@@ -219,6 +219,7 @@ def test_pages_return_once_whatever_a_process_says_besides(limited, lie):
     lender.become("a", cooperates=0)
     has_looked(lender)
     assert (lender.guests()["a"]["lent"], its.pages()) == (ALL, ALL)
+    assert sum("its limit stays" in it for it in lender.said()) == ("ballooned" in lie)
     a.report(pages=ALL + 1)
     eventually(lambda: ended_by(a.listens.child) == signal.SIGKILL)
     a.channel.close()
