@@ -4,7 +4,7 @@ numbers are worked out by hand."""
 import time
 
 import pytest
-from tenants import AVAILABLE, FREE, PAGES, PAGES_OF_ALL, eventually
+from tenants import AVAILABLE, FREE, PAGES, PAGES_OF_ALL, Guest, eventually
 from test_strict import GIVEN
 
 # A lender that looks often, without a floor or a reserve, and asks for all at once.
@@ -303,6 +303,24 @@ def test_steps_do_not_bind_above_the_budget(lend, come):
     begin = time.monotonic()
     eventually(lambda: lender.guests()["a"]["asked"] == 128)
     assert time.monotonic() - begin < 3
+
+
+def test_a_guest_that_takes_pages_has_none_free_before_it_tells_statistics(lend):
+    """It is known by that, and counts with all its memory."""
+    lender = lend(1, *QUICK[:-4], "--period", "6000", "--step", "0")
+    lender.demand("add a")
+    guest = Guest(lender, "a", {})
+    lender.become("a", ready=1, answers=0)
+    guest.answers = False
+    lender.demand("a target 20"), lender.become("a", asked=20)
+    guest.give(GIVEN[:20])
+    lender.become("a", ballooned=20, answers=0)
+    guest.take(GIVEN[:8])
+    lender.become("a", ballooned=12, taken=8, answers=1, spare=12)
+    lender.set_budget(100)
+    _, shares = eventually(lender.decisions)[-1]
+    assert (shares["a"]["pages"], shares["a"]["spare"], shares["a"]["by"]) == (128, 12, "pause")
+    guest.leave()
 
 
 def test_a_guest_that_took_pages_itself_is_left_alone_for_a_while(lend, come):
