@@ -9,6 +9,7 @@ from played import WAIT_ROOM, Listens, Played
 from tenants import FREE, PAGES, eventually, process_of
 from test_later_lender import QUICK
 from test_strict import STRICT
+from vhost_client import PAGE
 
 # Pages of a guest, KiB of a page, and the seconds for which nobody is asked who took pages back.
 ALL, KIB, PAUSE = 128, 4, 2
@@ -74,6 +75,25 @@ def test_who_has_taken_pages_back_is_asked_for_none_for_a_while(lend, come):
     lender.become("a", ballooned=0, taken=50, spare=0)
     lender.become("a", asked=50)
     assert time.monotonic() - begin >= PAUSE
+
+
+def test_what_a_guest_takes_unasked_and_what_an_earlier_lender_lent_is_not_granted(lend, come):
+    """It was granted all its pages as it came, and gave 50 of them."""
+    lender = lend(1, *STRICT)
+    granted = lambda it: it.status()["guests"][0]["counters"]["granted"] // PAGE
+    guest = come(lender, "a", {FREE: 100}, "overhead=0")
+    lender.set_budget(ALL - 50)
+    lender.become("a", asked=50)
+    guest.give([*range(PAGES, PAGES + 50)])
+    lender.become("a", ballooned=50, lent=ALL - 50)
+    assert granted(lender) == ALL
+    guest.fill()
+    lender.become("a", cooperates=0, lent=ALL)
+    assert granted(lender) == ALL
+    lender.kill()
+    later = lend(1, *STRICT, folder=lender.folder)
+    later.become("a", ready=1, lent=ALL)
+    assert granted(later) == 0
 
 
 def test_a_process_that_has_not_received_a_target_is_sent_it_at_each_look(lend):
