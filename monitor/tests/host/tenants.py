@@ -81,6 +81,7 @@ class Guest(threading.Thread):
         self.gone = False
         self.client = client(f"{lender.folder}/{name}", lambda: "", folder)
         self.ended, self.answers, self.lock = threading.Event(), True, threading.Lock()
+        self.client.turn = threading.Lock()
         self.client.start()
         self.tell()
         self.start()

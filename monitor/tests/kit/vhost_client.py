@@ -3,6 +3,7 @@ into its rings whatever is wanted. It kicks and is called by messages, as virtio
 as QEMU."""
 
 import array
+import contextlib
 import os
 import select
 import socket
@@ -87,6 +88,7 @@ class Client:
 
     def __init__(self, path, why=lambda: "", folder=None):
         self.why, self.path, self.socket = why, path, None
+        self.turn = contextlib.nullcontext()  # of whom of several threads sends
         self.connect()
         self.files = [memory_file(folder, f"region {it}") for it in range(len(self.regions))]
         for it in self.files:
@@ -140,10 +142,9 @@ class Client:
     def send(self, request, body=b"", files=(), flags=9):
         """Sends a message, and returns the body of the answer where one is wanted."""
         control = [(socket.SOL_SOCKET, socket.SCM_RIGHTS, array.array("i", files))] if files else []
-        self.socket.sendmsg([struct.pack("<III", request, flags, len(body)) + body], control)
-        if not flags & 8:
-            return None
-        answer = self.receive()
+        with self.turn:
+            self.socket.sendmsg([struct.pack("<III", request, flags, len(body)) + body], control)
+            answer = self.receive() if flags & 8 else None
         if answer and answer[0] != request:
             raise AssertionError(f"message {request} is answered as {answer[0]}")
         return answer and answer[1]
