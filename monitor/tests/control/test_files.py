@@ -47,7 +47,8 @@ def test_no_request_leaves_a_file_open(kept):
     for _ in range(3):
         ask_all(host)
     eventually(lambda: host.status()["control"]["clients"] == 1)
-    eventually(lambda: files(host) == before, lambda: f"{files(host)} files, and {before} before")
+    # Before, one that is closed in a moment may have been open still.
+    eventually(lambda: files(host) <= before, lambda: f"{files(host)} files, and {before} before")
 
 
 def test_each_request_is_asked():
