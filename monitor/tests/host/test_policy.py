@@ -53,6 +53,16 @@ def test_a_statistic_that_is_told_no_longer_does_not_count(lend, come):
         eventually(lambda wanted=tier: lender.status()["host"]["tier"] == wanted)
 
 
+def takes_ten_back(lender, other):
+    """Two guests have given all that they can, 50 pages each: `b` takes ten back, and is named."""
+    become(lender, {"a": 50, "b": 50})
+    lender.decisions()
+    other.take(GIVEN[:10])
+    become(lender, {"a": 50, "b": 40})
+    said, _ = lender.decisions()[0]
+    assert (said["why"], said["who"], said["short"]) == ("spare", "b", 10)
+
+
 def test_who_is_asked_for_more_than_it_can_spare_is_named(lend, come):
     """Not who is asked for all that it can: both have given that, and `b` takes ten of it back."""
     lender = lend(1, *QUICK)
@@ -65,12 +75,7 @@ def test_who_is_asked_for_more_than_it_can_spare_is_named(lend, come):
         lender.become(it.name_of, ballooned=50)
         it.figures |= {FREE: 0, AVAILABLE: 0}
         it.answers = True
-    become(lender, {"a": 50, "b": 50})
-    lender.decisions()
-    guests[1].take(GIVEN[:10])
-    become(lender, {"a": 50, "b": 40})
-    said, _ = lender.decisions()[0]
-    assert (said["why"], said["who"], said["short"]) == ("spare", "b", 10)
+    takes_ten_back(lender, guests[1])
 
 
 def test_page_cache_is_taken(lend, come):

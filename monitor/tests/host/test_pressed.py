@@ -7,7 +7,7 @@ import pytest
 from kept import structs
 from played import COUNTERS, Played
 from tenants import AVAILABLE, FREE, eventually
-from test_policy import QUICK, become
+from test_policy import QUICK, become, takes_ten_back
 from test_strict import GIVEN
 from vhost_client import PAGE, SET_CONFIG
 
@@ -72,12 +72,7 @@ def test_who_is_pressed_is_not_named_where_its_target_stays(lend, come):
         counts(lender, it, {FREE: 0, AVAILABLE: 0})
     counts(lender, guests[0], {KILLS: 8})
     lender.become("a", pressed=1)
-    become(lender, {"a": 50, "b": 50})
-    lender.decisions()
-    guests[1].take(GIVEN[:10])
-    become(lender, {"a": 50, "b": 40})
-    said, _ = lender.decisions()[0]
-    assert (said["why"], said["who"], said["short"]) == ("spare", "b", 10)
+    takes_ten_back(lender, guests[1])
 
 
 @pytest.mark.parametrize("tag", OTHERS.values(), ids=OTHERS)

@@ -146,7 +146,7 @@ class Client:
             self.socket.sendmsg([struct.pack("<III", request, flags, len(body)) + body], control)
             answer = self.receive() if flags & 8 else None
         if answer and answer[0] != request:
-            raise AssertionError(f"message {request} is answered as {answer[0]}")
+            raise AssertionError(f"message {request} has the answer to {answer[0]}")
         return answer and answer[1]
 
     def accepted(self, request, body=b"", files=()):
