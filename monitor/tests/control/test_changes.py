@@ -70,6 +70,17 @@ def test_a_guest_of_the_file_that_is_removed_stays_so(kept):
     assert terms(kept.again()) == wanted and wanted["web-1"]["most"] is None
 
 
+@pytest.mark.parametrize("name", ("web-1", "new"))
+def test_a_guest_that_is_removed_until_a_restart_stays_so_until_then(kept, name):
+    """Over each reload, whether it is a guest of the file or was added for good."""
+    assert kept.host.ask("add", name="new")["lasts"]
+    assert not kept.host.ask("remove", name=name, until_restart=True)["lasts"]
+    for _ in range(2):
+        assert set(terms(kept.host)) == {"web-1", "web-2", "new"} - {name}
+        assert kept.host.ask("reload")["ok"]
+    assert set(terms(kept.again())) == {"web-1", "web-2", "new"}
+
+
 def test_what_is_changed_until_a_restart(kept):
     before = kept.host.status()["budget"], terms(kept.host)
     until = {"until_restart": True}
