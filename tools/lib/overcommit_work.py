@@ -1,11 +1,13 @@
 """The jobs that measure-overcommit gives its guests."""
 
+import os
 import random
 import threading
 import time
 from typing import NamedTuple
 
 from linux_kit import Fault
+from linux_member import Member
 
 # MiB that a guest fills, of its disk and of what it reads of that, and that it compresses; how
 # often it reads; the longest that it keeps what it filled, and that it rests.
@@ -14,6 +16,18 @@ MOST_READS, MOST_KEEP, MOST_REST = 3, 2.0, 1.0
 
 # Seconds for which one job may last.
 LONGEST_JOB = 300
+
+
+def boot(town, folder, memories, disk=DISK):
+    """Boots guests of these sizes, whose disks stay open, so that their page cache does."""
+    path = os.path.join(folder, "disk")
+    with open(path, "wb") as file:
+        file.write(random.Random(0).randbytes(disk << 20))
+    for number, memory in enumerate(memories, 1):
+        member = Member(town.host, town.vmm, f"guest-{number}", memory, disk=path)
+        town.members.append(member)
+        member.boot()
+        member.guest.do("exec 3< /dev/ubda")
 
 
 class Stuck(Fault):
@@ -43,6 +57,11 @@ def jobs_of(seed, guest, count):
         )
         for _ in range(count)
     ]
+
+
+def jobs_in_step(seed, count):
+    """Returns jobs of which each guest has the same: all fill memory at the same time."""
+    return [it._replace(kind="fill", rests=0.0) for it in jobs_of(seed, "all guests", count)]
 
 
 class Work(threading.Thread):
