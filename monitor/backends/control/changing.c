@@ -104,8 +104,8 @@ static const char *keep_terms(const struct asked *asked, const char *name,
 /* What was kept is so no longer, as the host didn't do it. */
 static const char *unless_done(const struct asked *asked, const char *fault)
 {
-    if (fault && how_long(asked) == FOR_GOOD)
-        changes_undo(changes_of(asked));
+    if (fault)
+        changes_undo(changes_of(asked), how_long(asked));
     return fault;
 }
 

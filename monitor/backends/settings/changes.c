@@ -154,34 +154,35 @@ static const char *write_lasting(const struct changes *changes, const struct con
     return why;
 }
 
+static struct config *changes_of(struct changes *changes, enum lasting lasting)
+{
+    return lasting == FOR_GOOD ? &changes->lasting : &changes->passing;
+}
+
 /* Has the changes be these: of those that last, once they are written. */
 static const char *become(struct changes *changes, enum lasting lasting, const struct config *next)
 {
     static char fault[MOST_CHANGES_FAULT + 64];
-    if (lasting == UNTIL_RESTART) {
-        config_copy(&changes->passing, next);
-        return NULL;
-    }
-    const char *why = changes->folder >= 0 ? write_lasting(changes, next) : changes->fault;
+    const char *why = NULL;
+    if (lasting == FOR_GOOD)
+        why = changes->folder >= 0 ? write_lasting(changes, next) : changes->fault;
     if (why) {
         snprintf(fault, sizeof fault,
                  "it can't be kept: %s; --until-restart changes it all the same", why);
         return fault;
     }
-    config_copy(&changes->before, &changes->lasting);
-    config_copy(&changes->lasting, next);
+    config_copy(&changes->lasted, &changes->lasting);
+    config_copy(&changes->passed, &changes->passing);
+    config_copy(changes_of(changes, lasting), next);
     return NULL;
 }
 
-void changes_undo(struct changes *changes)
+void changes_undo(struct changes *changes, enum lasting lasting)
 {
-    if (changes->folder >= 0 && !write_lasting(changes, &changes->before))
-        config_copy(&changes->lasting, &changes->before);
-}
-
-static struct config *changes_of(struct changes *changes, enum lasting lasting)
-{
-    return lasting == FOR_GOOD ? &changes->lasting : &changes->passing;
+    if (lasting == FOR_GOOD && write_lasting(changes, &changes->lasted))
+        return;
+    config_copy(&changes->lasting, &changes->lasted);
+    config_copy(&changes->passing, &changes->passed);
 }
 
 const char *changes_keep_size(struct changes *changes, const struct config *file,

@@ -11,7 +11,7 @@ struct changes {
     int folder;                     /* its file; -1: nothing can be kept there */
     char fault[MOST_CHANGES_FAULT]; /* why not */
     struct config lasting, passing; /* what differs from the file, and from both */
-    struct config before;           /* what lasted before the last change */
+    struct config lasted, passed;   /* the same before the last change */
 };
 
 /* How long a change lasts. */
@@ -37,8 +37,8 @@ const char *changes_keep_terms(struct changes *changes, const struct config *fil
 const char *changes_keep_removal(struct changes *changes, const struct config *file,
                                  enum lasting lasting, const char *name);
 
-/* The last change that lasts couldn't be made after all. */
-void changes_undo(struct changes *changes);
+/* The last change couldn't be made after all. */
+void changes_undo(struct changes *changes, enum lasting lasting);
 
 /* Writes text into a file of a folder as a whole, or not at all: NULL, or why not. */
 const char *changes_write(int folder, const char *name, const char *text);

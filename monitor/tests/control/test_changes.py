@@ -273,6 +273,23 @@ def test_a_change_that_the_host_refuses_is_not_kept(kept):
     assert kept.changes.read_text() == text.replace("300M", "250M")
 
 
+def test_a_change_that_the_host_refuses_changes_no_other_one(kept):
+    """Nothing is left of it until a restart, and what was changed until then before is."""
+    host, terms_of = kept.host, kept.folder / "=web-1"
+    host.ask("guest", name="web-1", weight=5, until_restart=True)
+    (kept.folder / "new").mkdir()
+    terms_of.unlink()
+    terms_of.mkdir()
+    for request in ({"request": "add", "name": "new"}, {"request": "guest", "name": "web-1"}):
+        for until_restart in (True, False):
+            with pytest.raises(Refused, match="File exists|Is a directory|Address already in use"):
+                host.ask(**request, weight=2, until_restart=until_restart)
+    (kept.folder / "new").rmdir()
+    terms_of.rmdir()
+    host.ask("reload")
+    assert {name: its["weight"] for name, its in terms(host).items()} == {"web-1": 5, "web-2": 1}
+
+
 def test_an_upgrade_goes_on_with_what_was_changed(kept):
     wanted = changed(kept.host)
     kept.host.ask("upgrade")
