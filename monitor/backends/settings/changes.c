@@ -13,8 +13,8 @@
 #include <sys/stat.h>
 #include <unistd.h>
 
-/* Bytes of the file of changes. */
-enum { MOST_CHANGES = 256 << 10 };
+/* Bytes of the file of changes: all terms of a guest take no more than its part. */
+enum { PART_OF_GUEST = 512, MOST_CHANGES = PART_OF_GUEST * MOST_CHANGED_GUESTS };
 
 static const char file_name[] = "changes.conf",
                   file_begin[] =
@@ -51,7 +51,7 @@ static char *read_file(int folder, size_t *length, const char **why)
         return *why = errno == ENOENT ? NULL : strerror(errno), NULL;
     *why = fstat(file, &its) ? strerror(errno) : owner_fault(&its);
     if (!*why && (!S_ISREG(its.st_mode) || its.st_size > MOST_CHANGES))
-        *why = "no file of 256 KiB at most";
+        *why = "no file of 1 MiB at most";
     if (!*why && !(bytes = malloc(MOST_CHANGES)))
         *why = strerror(ENOMEM);
     ssize_t got = bytes ? read(file, bytes, MOST_CHANGES) : 0;

@@ -32,7 +32,7 @@ DAMAGED = {
     "name": (lambda text: text.replace(b"guest new", b"guest \xff"), "a guest's name"),
     "digits": (lambda text: text.replace(b"300M", b"9" * 40 + b"M"), "line 3: budget"),
     "zero": (lambda text: text.replace(b"300M", b"0M"), "line 3: budget"),
-    "large": (lambda text: text + b"#" * (1 << 20), "no file of 256 KiB at most"),
+    "large": (lambda text: text + b"#" * (1 << 20), "no file of 1 MiB at most"),
 }
 
 
@@ -52,7 +52,7 @@ def test_what_is_damaged_is_named_and_harms_nothing(kept, name):
 
 
 # Bytes of the file at most, and its last line.
-MOST, END = 256 << 10, b"# The end of what was changed.\n"
+MOST, END = 1 << 20, b"# The end of what was changed.\n"
 
 
 @pytest.mark.parametrize("size, budget", ((MOST, 300), (MOST + 1, 480)), ids=("most", "more"))
