@@ -80,7 +80,10 @@ def put_debian(tree, room):
         write(
             f"{debian}/control",
             "\n\n".join(
-                [paragraphs[0], *(f"{it}\n{UNPROVED}".rstrip("\n") for it in paragraphs[1:])]
+                [
+                    f"{it}\n{UNPROVED}".rstrip("\n") if "PROVED among" in it else it
+                    for it in paragraphs
+                ]
             )
             + "\n",
         )

@@ -210,8 +210,8 @@ systemctl disable --now bigvasta-host bigvasta-metrics
 """
 
 
-def readme_step():
-    """Returns the step that runs README's commands for a host, as they are there."""
+def readme_commands():
+    """Returns README's commands for a host, as they are there."""
     found = [
         it for it in re.findall(r"(?s)```sh\n(.*?)```", read("README.md")) if "bigvasta add" in it
     ]
@@ -219,13 +219,83 @@ def readme_step():
         raise Fault(
             f"README.md has {len(found)} blocks of commands with `bigvasta add`, and one is wanted"
         )
+    return found[0].replace("\\\n", " ").splitlines()
+
+
+def bare(command):
+    """Returns one of README's commands as root types it, without what a reader fills in."""
+    return command.removeprefix("sudo ").removesuffix(" ..")
+
+
+def readme_step():
+    """Returns the step that runs README's commands for a host."""
     script = [SUDO]
-    for command in found[0].replace("\\\n", " ").splitlines():
-        bare = command.removeprefix("sudo ").removesuffix(" ..")
-        instead = [text for begin, text in INSTEAD if bare.startswith(begin)]
+    for command in readme_commands():
+        instead = [text for begin, text in INSTEAD if bare(command).startswith(begin)]
         script.append(
-            instead[0].replace("{command}", bare).replace("{has_device}", HAS_DEVICE)
+            instead[0].replace("{command}", bare(command)).replace("{has_device}", HAS_DEVICE)
             if instead
             else command
         )
     return "README's commands for a host", "\n".join([*script, AFTER])
+
+
+# The package of QEMU's device, in a Debian whose QEMU is newer than its own.
+DEVICE_PACKAGE, DEVICE_PROGRAM = "qemu-bigvasta-balloon", f"{QEMU}-balloon"
+DEVICE_REFUSED = f"""
+if apt-get -q -y install /srv/released/{DEVICE_PACKAGE}_*.deb > /tmp/refused 2>&1; then false; fi
+grep -q 'Depends: qemu-system-x86 (< 1:10.1~)' /tmp/refused
+dpkg-deb -x /srv/released/{DEVICE_PACKAGE}_*.deb /tmp/device
+export QEMU_BALLOON_MODULE=/tmp/device/usr/lib/bigvasta/vhost-user-balloon.so
+status=0
+/tmp/device/usr/bin/{DEVICE_PROGRAM} --version 2> /tmp/refused || status=$?
+cat /tmp/refused
+test $status = 2
+grep -qx 'vhost-user-balloon was built for QEMU 10.0, and this is 1[0-9].[0-9]*' /tmp/refused
+rm -r /tmp/device
+"""
+DEVICE_INSTALLED = f"""
+apt-get -q -y purge 'qemu-system-*'
+apt-get -q -y --no-install-recommends install /srv/released/{DEVICE_PACKAGE}_*.deb
+{DEVICE_PROGRAM} --version | grep -q 'version 10.0.'
+man -w {DEVICE_PROGRAM}
+"""
+# The guest of README's line boots this kernel; the host wants 512 MiB of its 2048.
+GUEST_KERNEL, GUEST_FILES = "/root/vmlinuz", "/root/initramfs"
+DEVICE_RUNS = f"""
+systemctl start bigvasta-host
+rm -f /tmp/monitor && mkfifo /tmp/monitor
+exec 3<> /tmp/monitor
+{{command}} -display none -serial none -monitor stdio -kernel {GUEST_KERNEL} \\
+    -initrd {GUEST_FILES} -append rdinit=/init < /tmp/monitor > /tmp/balloon 2>&1 &
+until bigvasta guest web-1 --json | grep -q '"state": "ready"'; do kill -0 $!; sleep 1; done
+bigvasta guest web-1 target=512M
+until grep -q 'balloon: actual=1536' /tmp/balloon; do
+    kill -0 $!
+    echo info balloon >&3
+    sleep 1
+done
+echo quit >&3
+wait
+systemctl stop bigvasta-host
+rm {GUEST_KERNEL} {GUEST_FILES}
+"""
+
+
+def device_steps(archive):
+    """Returns the steps of the package of QEMU's device, where the newer QEMU is of this
+    archive."""
+    command = next(bare(it) for it in readme_commands() if it.startswith(QEMU))
+    command = command.replace(QEMU, DEVICE_PROGRAM, 1)
+    command = re.sub(r"-device \S+", "-device vhost-user-balloon-pci,chardev=balloon", command)
+    return (
+        ("a newer QEMU is refused, by its package and as it starts", DEVICE_REFUSED),
+        ("the QEMU of this Debian comes with the device's package", DEVICE_INSTALLED),
+        ("README's guest with the device, of Linux", DEVICE_RUNS.replace("{command}", command)),
+        (
+            "the device's package is purged, and the newer QEMU is back",
+            f"apt-get -q -y purge {DEVICE_PACKAGE} 'qemu-system-*' && apt-get -q -y"
+            f" --no-install-recommends install -t {archive} qemu-system-x86"
+            " && apt-get -q -y --purge autoremove",
+        ),
+    )

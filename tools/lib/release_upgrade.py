@@ -11,9 +11,10 @@ dpkg -i /{DAEMONS}/*.deb
 dpkg -S /usr/bin/vhost_user_balloon | grep -q ^bigvasta:
 """
 
-# All packages of today, or the one of a host alone: then the one that has its files no longer goes.
+# All packages of today but QEMU's device, or the one of a host alone: then the one that has its
+# files no longer goes.
 NEW_DAEMONS = """
-apt-get -q -y install /srv/released/*.deb
+apt-get -q -y install /srv/released/[!q]*.deb
 dpkg -S /usr/bin/vhost_user_balloon | grep -q ^bigvasta-host:
 vhost_user_balloon --version && vhost_user_host --version
 test ! -e /usr/share/man/man1/vhost_user_balloon.1

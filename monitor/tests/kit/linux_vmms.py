@@ -208,6 +208,21 @@ def can_create(program, device):
     return "pluggable device type" not in tried.stderr
 
 
+def boot_files(folder, suite=None):
+    """Returns the paths of a kernel of a Debian for QEMU, and of its first files, which are made in
+    a folder."""
+    files = fetch_kernel(suite)
+    kernel = one_of(files, "boot/vmlinuz-*", "usr/lib/modules/*/vmlinuz")
+    names = ("virtio/virtio*", "block/virtio_blk")
+    modules = [
+        it
+        for top in ("", "usr/")
+        for name in names
+        for it in glob.glob(f"{files}/{top}lib/modules/*/kernel/drivers/{name}.ko*")
+    ]
+    return kernel, make_initramfs(folder, busybox_of(files), modules)
+
+
 class Emulator:
     """QEMU, and a machine whose device isn't said. A class of it says which devices do (`devices`),
     whose QEMU is fetched where the one that is installed has none of them (`debian`), and what its
@@ -218,16 +233,7 @@ class Emulator:
 
     def __init__(self, folder, suite=None):
         self.program, self.device = self.find()
-        files = fetch_kernel(suite)
-        self.kernel = one_of(files, "boot/vmlinuz-*", "usr/lib/modules/*/vmlinuz")
-        names = ("virtio/virtio*", "block/virtio_blk")
-        modules = [
-            it
-            for top in ("", "usr/")
-            for name in names
-            for it in glob.glob(f"{files}/{top}lib/modules/*/kernel/drivers/{name}.ko*")
-        ]
-        self.initramfs = make_initramfs(folder, busybox_of(files), modules)
+        self.kernel, self.initramfs = boot_files(folder, suite)
 
     def find(self):
         """Returns the words that begin a command of a QEMU that has one of the devices, and
