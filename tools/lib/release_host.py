@@ -52,6 +52,7 @@ def stage_host(tree, installed, root):
     for daemon in daemons:
         copy(daemon, f"{root}/usr/bin/{os.path.basename(daemon)}", 0o755)
     put_client(f"{root}/usr", "lib/python3/dist-packages")
+    copy(f"{ROOT}/client/libvirt-hook", f"{root}/etc/libvirt/hooks/qemu.d/bigvasta", 0o755)
     put_pages(tree, PAGES, f"{root}/usr")
     for source, target in INSTALLED:
         copy(os.path.join(PACKAGING, source), f"{root}/{target}")
