@@ -99,10 +99,12 @@ static int take_hangup(void *context, int file)
     struct service *service = context;
     static struct config before;
     const struct author nobody = {0};
+    if (!process_took_reload(file))
+        return LOOP_GOES_ON;
     look(service);
     settings_see(&service->settings, &before);
-    if (process_took_reload(file) && !settings_reload(&service->settings))
-        settings_note(&service->settings, &before, &nobody);
+    settings_reload(&service->settings);
+    settings_note(&service->settings, &before, &nobody);
     return LOOP_GOES_ON;
 }
 

@@ -109,7 +109,8 @@ def test_what_a_file_changes_is_noted(program, folder):
         ("a", "most", "none", "7M"),
     ]
     assert notes(host) == wanted
-    file.write_text(file.read_text().replace("400M", "300M"))
+    (folder / "c").mkdir()  # where a guest's socket would be: all else is changed
+    file.write_text(file.read_text().replace("400M", "300M") + "[guest c]\n")
     host.process.send_signal(signal.SIGHUP)
     eventually(lambda: len(notes(host)) == 4)
     assert notes(host)[3] == (None, "budget", "400M", "300M")
