@@ -30,6 +30,18 @@ def boot(town, folder, memories, disk=DISK):
         member.guest.do("exec 3< /dev/ubda")
 
 
+def waits_of(town, before=None):
+    """Returns how many granted waits there were below each bound, or since such an answer."""
+    counts = town.host.status()["host"]["measures"]["waits"]["counts"]
+    return [now - then for now, then in zip(counts, before or [0] * len(counts))]
+
+
+def longest_of(town, counts):
+    """Returns the milliseconds that these waits were shorter than; infinite above the bounds."""
+    bounds = [*town.host.status()["host"]["measures"]["waits"]["bounds"], float("inf")]
+    return 1000 * max((bound for bound, count in zip(bounds, counts) if count), default=0)
+
+
 class Stuck(Fault):
     """A job that lasts too long."""
 
