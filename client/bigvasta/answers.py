@@ -79,7 +79,7 @@ HOST = {
         "guests budget overdraft floor held lent missing overdrawn waiting silent uncooperative",
     ),
     **fields(Maybe(is_count), "patience reserve pressed migrating wanted least_budget"),
-    **fields(Maybe(is_count), "most_budget lowest_budget keep"),
+    **fields(Maybe(is_count), "most_guests most_budget lowest_budget keep"),
     "short": Maybe(is_flag),
     "differs": Maybe(
         [{"guest": is_text_or_null, **fields(is_text, "key file now"), "lasts": is_flag}]

@@ -40,8 +40,9 @@ class Seen(NamedTuple):
         return (*columns, *self.fits(), pressed)
 
     def is_full(self):
-        """Returns whether there is no place for another guest."""
-        return len(self.status["guests"]) >= PLACES
+        """Returns whether there is no place for another guest; an older host doesn't say how many
+        there may be."""
+        return len(self.status["guests"]) >= self.status["host"].get("most_guests", PLACES)
 
     def fits(self):
         """Returns the column that says whether there is room for a guest, where that is asked."""

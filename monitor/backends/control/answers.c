@@ -142,22 +142,23 @@ json_t *answer_host(const struct control *control, const struct host *host)
     struct host_view view;
     host_see(host, &view);
     return json_pack(
-        "{s:s, s:s, s:i, s:o, s:o, s:o, s:o, s:o, s:o, s:o, s:s, s:o, s:o, s:o, s:o, "
+        "{s:s, s:s, s:i, s:i, s:o, s:o, s:o, s:o, s:o, s:o, s:o, s:s, s:o, s:o, s:o, s:o, "
         "s:o, s:o, s:o, s:i, s:i, "
         "s:i, s:i, s:i, s:b, s:f, "
         "s:o, s:s?, s:b, s:s?, s:o, s:o, s:o, s:o}",
-        "version", VB_VERSION, "folder", view.folder, "guests", (int)view.guests, "budget",
-        part_bytes(view.budget), "most_budget", part_bytes(view.most_budget), "keep",
-        part_bytes(view.keep), "lowest_budget", part_bytes(view.lowest_budget), "overdraft",
-        part_bytes(view.overdraft), "floor", part_bytes(view.floor), "reserve", count(view.reserve),
-        "tier", view.tier, "step", count(view.step), "held", kibibytes(view.held_kib), "lent",
-        part_bytes(view.lent), "missing", part_bytes(view.short_by), "wanted",
-        part_bytes(view.wanted), "least_budget", part_bytes(view.least_budget), "overdrawn",
-        part_bytes(view.overdrawn), "waiting", (int)view.waiting, "silent", (int)view.silent,
-        "uncooperative", (int)view.uncooperative, "pressed", (int)view.pressed, "migrating",
-        (int)view.migrating, "strict", view.strict, "period", (double)view.period / 1000,
-        "patience", count(view.patience), "on_short", view.on_short, "short", view.is_short,
-        "gives_first", view.gives_first, "counters", answer_host_counters(&view), "control",
+        "version", VB_VERSION, "folder", view.folder, "guests", (int)view.guests, "most_guests",
+        (int)view.most_guests, "budget", part_bytes(view.budget), "most_budget",
+        part_bytes(view.most_budget), "keep", part_bytes(view.keep), "lowest_budget",
+        part_bytes(view.lowest_budget), "overdraft", part_bytes(view.overdraft), "floor",
+        part_bytes(view.floor), "reserve", count(view.reserve), "tier", view.tier, "step",
+        count(view.step), "held", kibibytes(view.held_kib), "lent", part_bytes(view.lent),
+        "missing", part_bytes(view.short_by), "wanted", part_bytes(view.wanted), "least_budget",
+        part_bytes(view.least_budget), "overdrawn", part_bytes(view.overdrawn), "waiting",
+        (int)view.waiting, "silent", (int)view.silent, "uncooperative", (int)view.uncooperative,
+        "pressed", (int)view.pressed, "migrating", (int)view.migrating, "strict", view.strict,
+        "period", (double)view.period / 1000, "patience", count(view.patience), "on_short",
+        view.on_short, "short", view.is_short, "gives_first", view.gives_first, "counters",
+        answer_host_counters(&view), "control",
         answer_control_counters(&control->sockets[MAY_CHANGE].counters), "status",
         answer_control_counters(&control->sockets[MAY_LOOK].counters), "measures",
         answer_measures());

@@ -70,6 +70,7 @@ void host_see(const struct host *host, struct host_view *view)
     struct demand demand = policy_demand(host);
     *view = (struct host_view){.folder = host->folder,
                                .guests = host->count,
+                               .most_guests = host->most,
                                .budget = host->frames,
                                .most_budget = host->budget,
                                .keep = host->machine.keep,

@@ -118,7 +118,7 @@ struct guest_view {
 /* All of them together. */
 struct host_view {
     const char *folder;
-    unsigned guests; /* how many seats there are, taken or not */
+    unsigned guests, most_guests; /* how many seats there are, taken or not, and may be */
     uint32_t budget, overdraft, floor;
     uint32_t
         most_budget; /* what the operator says: the budget is less where the machine has no more

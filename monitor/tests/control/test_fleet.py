@@ -102,13 +102,20 @@ def test_which_has_room(capsys, hosts, shared, size, lacks, first):
 
 
 def test_a_host_that_has_no_place(capsys, folder, shared):
-    """64 guests are there, none of which has any memory."""
+    """Guests are there, none of which has any memory: as many as it may have, or as an older host
+    has, which doesn't say how many."""
     its = status([guest(f"g{it}", state="absent") for it in range(64)], budget=100)
     host = Fake(folder, lambda asked: (its,))
     words = (host.path, "--fits", "4K", "--library", shared)
     assert cells(capsys, *words)[1][1][-1] == "full"
     assert cells(capsys, *words)[1][-1][-2:] == ["no", "host"]
+    its["host"]["most_guests"] = 65
+    assert cells(capsys, *words)[1][1][-1] == "fits"
     its["guests"].pop()
+    assert cells(capsys, *words)[1][1][-1] == "fits"
+    its["host"]["most_guests"] = 63
+    assert cells(capsys, *words)[1][1][-1] == "full"
+    del its["host"]["most_guests"]
     assert cells(capsys, *words)[1][1][-1] == "fits"
     host.close()
 

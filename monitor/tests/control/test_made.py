@@ -71,7 +71,10 @@ GUEST = {
 }
 HOST = {
     **rows("text", "folder on_short gives_first tier"),
-    **rows("count", "guests reserve step waiting silent uncooperative pressed patience migrating"),
+    **rows(
+        "count", "guests most_guests reserve step waiting silent uncooperative pressed patience"
+    ),
+    **rows("count", "migrating"),
     **rows("pages", "budget most_budget lowest_budget keep overdraft floor lent short_by=missing"),
     **rows("pages", "wanted least_budget overdrawn"),
     **rows("kib", "held_kib=held peak_kib=counters.peak"),

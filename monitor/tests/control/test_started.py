@@ -87,6 +87,12 @@ def test_what_the_command_line_says_is_before_the_file(starts, folder, key, word
     assert starts(text, f"--{key.replace('_', '-')}", word).status()[key] == value
 
 
+@pytest.mark.parametrize("words, most", (((), 64), (("--guests", "7"), 7)))
+def test_how_many_guests_there_may_be(starts, folder, words, most):
+    text = f"[host]\nfolder = {folder}\nbudget = 480M\n"
+    assert starts(text, *words).status()["most_guests"] == most
+
+
 def test_each_key_of_the_host_is_tried():
     """Each that a status shows, but for the budget and `strict`, of which a flag says more
     alone."""
