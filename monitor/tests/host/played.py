@@ -137,8 +137,8 @@ class Played(threading.Thread):
         super().__init__(daemon=True)
         self.hears = hears
         self.lender, self.name_of, self.its = lender, name, {"holds": 1, "ready": 1, **its}
-        self.granted, self.told_to_leave, self.lock = 0, 0, threading.Lock()
-        self.targets = []
+        self.granted, self.admitted, self.told_to_leave = 0, 0, 0
+        self.targets, self.lock = [], threading.Lock()
         self.listens = listens or Listens(lender.folder, name)
         if not listens:
             lender.demand(f"add {name} strict=1")
@@ -183,6 +183,8 @@ class Played(threading.Thread):
             self.report(target=order.target)
         if order.kind == ORDER_GRANT:
             self.granted = order.wait
+        if order.kind == ORDER_ADMIT:
+            self.admitted = order.wait
         self.told_to_leave += order.kind == ORDER_LEAVE
 
     def deflates(self, pages):

@@ -12,6 +12,7 @@ from played import (
     ORDER_TARGET,
     TELL_REPORT,
     VERSION,
+    WAIT_ROOM,
     Message,
     Played,
 )
@@ -139,6 +140,14 @@ def a_target_waits_for_another_guest(lender, come):
     eventually(lambda: process["target_pages"] == 30)
 
 
+def memory_is_added(lender, come):
+    """Its process is told so, which has said once that it waits."""
+    guest = Played(lender, "a", pages=10)
+    guest.report(waits=WAIT_ROOM, wait=1, wanted=20)
+    eventually(lambda: guest.admitted == 1)
+    guest.leave()
+
+
 def statistics_are_waited_for(lender, come):
     """Who can be asked, and doesn't answer, is waited for until it is clear that it won't soon."""
     come(lender, "a", {FREE: 100}).answers = False
@@ -153,6 +162,7 @@ STORIES = (
     a_deflate_waits_for_another_guest,
     who_was_granted_may_give_again,
     a_target_waits_for_another_guest,
+    memory_is_added,
     statistics_are_waited_for,
 )
 
