@@ -218,7 +218,6 @@ static bool take_set(struct backend *backend)
         take_pages(balloon->ballooned, set, first, first + region->length / BALLOON_PAGE);
     }
     backend->ballooned = (uint32_t)vb_count_ballooned(balloon->ballooned, moved->words);
-    backend->undiscarded = 0;
     if (tells && !balloon->keeps_pages)
         discard_set(backend);
     return memcmp(balloon->ballooned, set, bytes) == 0;

@@ -5,6 +5,7 @@ import fcntl
 import os
 import struct
 
+import pytest
 from test_held import FUTURE_WRITE
 from test_strict import GIVEN, STRICT
 from vhost_client import (
@@ -19,7 +20,7 @@ from vhost_client import (
     Client,
 )
 from vhost_demands import demand_served
-from vhost_moves import FINE, OF_CLIENT, PROTOCOL, WRONG
+from vhost_moves import FINE, OF_CLIENT, PROTOCOL, WRONG, load, saved, stopped
 
 # Where the modes, and the pages that are given up, are; who has control; the commands.
 MODES_AT, GIVEN_AT, HAS_LENDER = 40, 208, 2
@@ -55,8 +56,10 @@ def test_the_lender_has_control_of_a_guest_that_is_not_strict(lend):
     client.leave()
 
 
-def test_what_a_report_fails_to_discard_takes_nothing_of_what_is_given_up(lend):
-    """That counts pages in the balloon alone."""
+@pytest.fixture
+def sealed(lend):
+    """Returns a lender, and a client whose balloon has three pages; none of its second region can
+    be discarded any longer."""
     lender = lend(1, *STRICT)
     client = Client(lender.add("a"), lambda: lender.said()[-4:])
     client.replace(1, os.memfd_create("region", os.MFD_CLOEXEC | os.MFD_ALLOW_SEALING))
@@ -65,10 +68,26 @@ def test_what_a_report_fails_to_discard_takes_nothing_of_what_is_given_up(lend):
     demand_served(client, INFLATE, GIVEN[:3])
     assert struct.unpack_from("<I", area(client), GIVEN_AT) == (3,)
     fcntl.fcntl(client.files[1], fcntl.F_ADD_SEALS, FUTURE_WRITE)
+    yield lender, client
+    client.leave()
+
+
+def test_what_a_report_fails_to_discard_takes_nothing_of_what_is_given_up(sealed):
+    """That counts pages in the balloon alone."""
+    lender, client = sealed
     client.describe(REPORT, 0, REGIONS[1][0] + PAGES_OF_REGION // 2 * PAGE, PAGE, WRITE)
     client.publish(REPORT, 0)
     client.kick(REPORT)
     assert client.called(REPORT) == 1
     lender.tells("a: 1 pages can't be discarded")
     assert struct.unpack_from("<I", area(client), GIVEN_AT) == (3,)
-    client.leave()
+
+
+def test_what_is_held_is_not_given_up_as_its_device_is_loaded_again(sealed):
+    _, client = sealed
+    demand_served(client, INFLATE, GIVEN[-1:])
+    bases = stopped(client)
+    assert load(client, saved(client))
+    client.go_on(bases)
+    assert client.called(INFLATE) == 1
+    assert struct.unpack_from("<I", area(client), GIVEN_AT) == (3,)
