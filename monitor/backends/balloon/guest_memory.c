@@ -278,6 +278,6 @@ uint64_t memory_pages(const struct guest_memory *memory)
 {
     uint64_t pages = 0;
     for (unsigned i = 0; i < memory->count; i++)
-        pages += (memory->regions[i].length + BALLOON_PAGE - 1) / BALLOON_PAGE;
+        pages += memory->regions[i].length / BALLOON_PAGE;
     return pages;
 }
