@@ -160,7 +160,7 @@ static enum outcome take_own(struct backend *backend, uint32_t offset, const uin
 /* Whether it is a write of the driver's fields alone, of which the client's own has none. */
 static bool is_of_driver(uint32_t offset, uint32_t size)
 {
-    return offset >= ACTUAL_AT && size <= NAME_AT && offset <= NAME_AT - size;
+    return offset >= ACTUAL_AT && (uint64_t)offset + size <= NAME_AT;
 }
 
 enum outcome set_config(struct backend *backend, struct message *message)
