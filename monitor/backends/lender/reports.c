@@ -66,10 +66,8 @@ static void turn_away(struct seat *seat, enum refusal why, uint64_t pages)
 /* What it has is admitted: no refusal before counts any longer. */
 static void note_admission(struct seat *seat)
 {
-    if (seat->refused || seat_pages(seat) == 0)
-        return;
-    seat->refused_for = REFUSED_NOTHING;
-    seat->refused_by = 0;
+    if (!seat->refused && seat_pages(seat) > 0)
+        seat->refused_for = REFUSED_NOTHING;
 }
 
 /* Whether it is to start with more than its client brings. */
