@@ -238,7 +238,6 @@ void seat_take_over(struct seat *seat)
         mark_seat(seat);
         return;
     }
-    seat_clear(seat);
     seat->here = seat->adopts = true;
     seat->heard_at = loop_now();
     seat->adopts_until = loop_now() + TOLD_IN;
