@@ -19,7 +19,8 @@ from played import (
 from tenants import FREE, eventually, process_of, read_target
 from test_channels import channel
 from test_strict import GIVEN, STRICT, used
-from vhost_client import DEFLATE, INFLATE, PAGE
+from vhost_client import DEFLATE, INFLATE, PAGE, Client
+from vhost_demands import demand_served
 
 # A host that looks at its guests once a minute; how often a story is told again that has lasted
 # longer, as the machine is busy; and the seconds in which all that was said is heard.
@@ -301,6 +302,23 @@ def test_who_is_off_its_target_is_reminded_until_it_is_silent(lend):
             return
         lender.close()
     raise AssertionError(f"after how many questions each is reminded: {after}")
+
+
+def test_who_comes_late_is_reminded_of_its_target(lend):
+    """However often nobody was there who could be asked before."""
+    for _ in range(TRIES):
+        lender = lend(1, *TWICE)
+        looks = lambda of=lender: of.counters()["looks"]
+        lender.demand("add a"), eventually(lambda its=looks: its() > SILENT_AFTER)
+        client = Client(f"{lender.folder}/a")
+        client.start_by_events()
+        demand_served(client, INFLATE, GIVEN[:3])
+        end = looks() + SILENT_AFTER
+        eventually(lambda its=looks, end=end: its() > end)
+        if lender.status()["guests"][0]["counters"]["told"] > 0:
+            return client.leave()
+        client.leave(), lender.close()
+    raise AssertionError("it isn't reminded")
 
 
 def test_a_driver_is_told_its_target_again_where_its_balloon_stays(unasked):
