@@ -180,7 +180,7 @@ class Played(threading.Thread):
         if order.kind == ORDER_TARGET:
             self.targets.append(order.target)
         if order.kind == ORDER_TARGET and self.hears:
-            self.report(target=order.target)
+            self.its["target"] = order.target
         if order.kind == ORDER_GRANT:
             self.granted = order.wait
         if order.kind == ORDER_ADMIT:

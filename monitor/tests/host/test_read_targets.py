@@ -86,6 +86,16 @@ def test_a_driver_that_reads_no_target_has_a_moment(play):
     assert not a.is_granted()
 
 
+def test_a_driver_has_a_moment_for_each_target(play):
+    """Also where its process has heard that as it reports next."""
+    a = play(hears=True)
+    for given in OF_REQUEST, 2 * OF_REQUEST:
+        begin = time.monotonic()
+        a.report(ballooned=given)
+        a.lender.become("a", asked=given, lent=ALL - given)
+        assert time.monotonic() - begin >= LINGERS - 0.5
+
+
 @pytest.mark.parametrize("reads", (True, False), ids=("reads", "doesn't"))
 def test_a_process_tells_what_its_driver_has_read(lend, come, reads):
     """What was lent ahead stays lent until the driver of a guest that reads targets has read the
