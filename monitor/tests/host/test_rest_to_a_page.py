@@ -10,8 +10,8 @@ from tenants import AVAILABLE, FREE, PAGE, eventually
 ALL, LITTLE, HELD, SPARE = 1024, 4, 2000, 100
 
 # Milliseconds of a period, periods after which a guest rests that stays as it is, and in how many
-# it is asked once then.
-PERIOD, RESTS_AFTER, ASKED_ONCE_IN = 100, 10, 5
+# it is asked once then; how often that is tried.
+PERIOD, RESTS_AFTER, ASKED_ONCE_IN, TRIES = 100, 10, 5, 3
 WORDS = ("--strict", "--floor", "0", "--reserve", "0", "--step", "0", "--period", str(PERIOD))
 
 # The tag of what a kernel takes back in the background (Linux 6.12).
@@ -21,7 +21,7 @@ RECLAIMS = 14
 class Still(Played):
     """A process that tells the statistics of a guest each time that it is asked for them."""
 
-    asked, told, silent = 0, 0, False
+    asked, told, silent, looks = 0, 0, False, ""
     figures = {FREE: 7, AVAILABLE: SPARE, RECLAIMS: 1}
 
     def tell(self, **changed):
@@ -38,6 +38,7 @@ class Still(Played):
         self.tell(**changed)
 
     def obey(self, order):
+        self.looks += str(order.asks) if order.kind == ORDER_LOOK else ""
         if order.kind == ORDER_LOOK and order.asks:
             self.asked += 1
             if not self.silent:
@@ -125,6 +126,16 @@ def test_what_leaves_a_guest_at_rest(still):
 def test_what_moves_a_guest_at_rest(still, its):
     asked, count = changed(*still, **its)
     assert asked >= count - 1, (asked, count)
+
+
+def test_who_stays_as_it_is_rests_from_the_tenth_period_on(still):
+    """Amid each period before, it is ordered to look, which asks for nothing."""
+    lender, guest = still
+    for number in range(1, 1 + TRIES):
+        guest.looks = ""
+        changed(lender, guest, figures={RECLAIMS: 1 + number})
+        rests(lender, guest)
+        assert not guest.looks.startswith("10" * (RESTS_AFTER + 1)), guest.looks
 
 
 def obeys(lender, guest, target):
