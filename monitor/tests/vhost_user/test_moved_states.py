@@ -38,12 +38,16 @@ from vhost_moves import (
 from waiting import eventually
 
 
-def test_while_queues_run(ready):
+@pytest.mark.parametrize("last", range(4))
+def test_while_a_queue_runs(ready, last):
     client = ready()
+    for number in {*range(4)} - {last}:
+        client.stop_ring(number)
     for direction in (SAVE, LOAD):
         assert ask(client, os.pipe()[direction == SAVE], direction) == BADLY
     assert "while queues run" in client.why()
-    demand_served(client, INFLATE, [FIRST])
+    client.stop_ring(last)
+    assert saved(client)
 
 
 def test_queues_that_start_before_the_state_has_come(ready):
