@@ -70,10 +70,12 @@ def test_it_comes_with_its_start_where_another_one_gives(small, come):
     lender.become("a", pages=ALL, lent=START, ballooned=WITHOUT)
 
 
-def test_it_has_more_memory_than_the_host(small):
+@pytest.mark.parametrize("start", (START, ALL))
+def test_all_that_the_host_has_is_its_start(small, start):
+    """Less than its memory, or as much."""
     lender, its, begin = small
-    begin(START, Client, start=START).hand_over_memory()
-    lender.become("a", pages=ALL, lent=START, limit=OVERHEAD + START)
+    begin(start, Client, start=start).hand_over_memory()
+    lender.become("a", pages=ALL, lent=start, limit=OVERHEAD + start)
 
 
 def test_it_is_lent_more_once_its_driver_is_there(small):
