@@ -253,8 +253,7 @@ static bool can_be_shown(const char *folder)
 static bool can_offer(uint64_t features)
 {
     VbDevice device;
-    VbSettings settings = {.memory_end = 2ull * BALLOON_PAGE, .offered = features};
-    return vb_new(&device, settings) == VB_OK ||
+    return vb_new(&device, (VbSettings){.offered = features}) == VB_OK ||
            refuse("the device can't offer the features 0x%llx", (unsigned long long)features);
 }
 
