@@ -88,7 +88,7 @@ static int read_now(int file, uint64_t *number)
 {
     struct iovec part = {number, sizeof *number};
     ssize_t got = preadv2(file, &part, 1, -1, RWF_NOWAIT);
-    return got > 0 ? 1 : got < 0 && would_wait() ? 0 : -1;
+    return got > 0 ? 1 : would_wait() ? 0 : -1;
 }
 
 /* Whether a file is an eventfd: one of no sort, which takes a number that changes nothing. */
