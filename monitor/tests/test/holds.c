@@ -204,6 +204,21 @@ static void what_is_refused(void)
     free_memory(&guest);
 }
 
+/* One that names no page takes none out of the set, and needs no second one. */
+static void one_of_no_page_is_given_back(void)
+{
+    static struct guest guest;
+    static uint64_t set[2 * SET_WORDS];
+    start_with_ten(&guest, set);
+    guest.balloon.deflating = NULL;
+    name_pages(&guest, VB_DEFLATE, (const uint32_t[]){9999999}, 1);
+    EXPECT(balloon_notify(&guest.balloon, VB_DEFLATE).held);
+    struct balloon_result result = balloon_give_deflate(&guest.balloon);
+    EXPECT(result.code == VB_OK && result.marked == 0 && count_of(&guest) == 10 &&
+           used_index(&guest, VB_DEFLATE) == 1);
+    free_memory(&guest);
+}
+
 /* A saved balloon resumes with what it holds. */
 static void it_is_saved(void)
 {
@@ -234,5 +249,6 @@ void test_holds(void)
     RUN(a_reset_forgets_it());
     RUN(a_stopped_queue_forgets_it());
     RUN(what_is_refused());
+    RUN(one_of_no_page_is_given_back());
     RUN(it_is_saved());
 }
