@@ -76,15 +76,17 @@ print(open("/proc/self/status").read(), file=open("{log}", "w"))
 """
 
 
-def test_it_blocks_no_signal(lend, come, command, checked):
-    """Though the host does, which waits for them in its loop."""
+def test_it_blocks_no_signal_and_has_its_own_session(lend, come, command, checked):
+    """Though the host does, which waits for them in its loop; those of the host's terminal don't
+    reach it."""
     with open(command.path, "w", encoding="ascii") as file:
         file.write(STATUS.format(log=command.log))
     lender = lend(1, *command.options(), program=checked)
     two(lender, come)
     lender.set_budget(156)
-    found = eventually(lambda: [it.split() for it in command.noted() if it.startswith("SigBlk:")])
-    assert found == [["SigBlk:", 16 * "0"]]
+    noted = lambda: dict(it.split(":\t", 1) for it in command.noted() if ":\t" in it)
+    assert eventually(lambda: noted().get("SigBlk")) == 16 * "0"
+    assert int(noted()["NSsid"]) != os.getsid(lender.process.pid)
 
 
 def test_it_is_run_once_for_a_shortage_that_lasts(lend, come, command):
