@@ -18,14 +18,14 @@ LEVELS = (
 )
 
 
-def begin(program, folder, text):
-    """Begins a host whose standard error is the journal's, by this configuration."""
+def begin(program, folder, text, *options):
+    """Begins a host whose standard error is the journal's, by this configuration and options."""
     path = folder / "log"
     path.write_bytes(b"")
     (folder / "host.conf").write_text(text)
     its = os.stat(path)
     stream = {"JOURNAL_STREAM": f"{its.st_dev}:{its.st_ino}"}
-    host = Host(program, folder, "--config", f"{folder}/host.conf", environment=stream)
+    host = Host(program, folder, "--config", f"{folder}/host.conf", *options, environment=stream)
     host.lines.next(patience_from_now())
     return host
 
@@ -39,11 +39,13 @@ def break_a_rule(host):
     eventually(lambda: host.guest("a")["state"] == "absent")
 
 
+@pytest.mark.parametrize("by_file", (True, False), ids=("file", "option"))
 @pytest.mark.parametrize("level, begins", LEVELS)
-def test_levels_in_the_journal(program, folder, level, begins):
+def test_levels_in_the_journal(program, folder, level, begins, by_file):
     file = folder / "host.conf"
-    good = f"[host]\nfolder = {folder}\nbudget = 480M\n[log]\nlevel = {level}\n[guest a]\n"
-    host = begin(program, folder, good)
+    key, words = (f"level = {level}\n", ()) if by_file else ("", ("--log-level", level))
+    good = f"[host]\nfolder = {folder}\nbudget = 480M\n[log]\n{key}[guest a]\n"
+    host = begin(program, folder, good, *words)
     file.write_text(good.replace("480M", "480"))
     host.process.send_signal(signal.SIGHUP)
     eventually(lambda: len(host.said()) == 2)
