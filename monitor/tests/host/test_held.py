@@ -139,9 +139,9 @@ def named(lender, pages):
     eventually(lambda: words in lender.said(), lender.said)
 
 
-def discard_outside(file, pages=PAGES_OF_REGION):
-    """Gives up these pages of what a file holds after its first slot."""
-    place = (ctypes.c_long(it * PAGE) for it in (PAGES_OF_REGION, pages))
+def discard_outside(file, pages=PAGES_OF_REGION, first=PAGES_OF_REGION):
+    """Gives up these pages of what a file holds, from the end of its first slot on."""
+    place = (ctypes.c_long(it * PAGE) for it in (first, pages))
     assert ctypes.CDLL(None).fallocate(file, PUNCHES_HOLE, *place) == 0
 
 
@@ -258,6 +258,19 @@ def test_what_a_removed_slot_holds_counts_as_targets_are_decided(full):
     lender.set_budget(ALL - 10)
     lender.become("a", target=10)
     assert [its["a"]["pages"] for _, its in lender.decisions()][-1:] == [ALL]
+
+
+# Pages of two slots, and those between them: more than the second one has are before it.
+FIRST, SECOND = 40, 20
+BETWEEN = PAGES_OF_REGION - FIRST
+
+
+def test_what_a_file_has_between_two_slots_is_outside(full):
+    lender, a = full
+    hand_over(a, FIRST, SECOND)
+    lender.become("a", pages=FIRST + SECOND, lent=ALL)
+    discard_outside(a.client.files[0], BETWEEN, FIRST)
+    lender.become("a", lent=ALL - BETWEEN, cooperates=1)
 
 
 # Pages of a slot that comes back, of which the first ones are holes.
