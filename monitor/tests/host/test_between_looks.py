@@ -243,7 +243,7 @@ def test_a_target_that_is_read_is_told_unasked(unasked):
     for target in 20, 30, 10:
         it.send(bytes(Message(version=VERSION, kind=ORDER_TARGET, target=target)))
         read, _ = report_that(it, lambda its, pages=target: its.obeyed == pages + 1)
-        assert read.number == 0
+        assert (read.number, read.asked) == (0, 0)
 
 
 def test_a_deflate_that_is_held_is_told_at_once(unasked):
