@@ -121,13 +121,14 @@ static int take_end(void *seat, int file)
     return LOOP_GOES_ON;
 }
 
-/* Reads a message of a guest's process, unless that has ended meanwhile: poll(2) says whether more
- * have come. Once this turn's time for messages is over, the next turn begins with this guest. */
+/* Reads a message of a guest's process: poll(2) says whether more have come. Once this turn's time
+ * for messages is over, the next turn begins with this guest. */
 static int take_messages(void *context, int file)
 {
     struct seat *seat = context;
     struct host *host = seat->host;
-    if (file != seat->channel || host->reads_next)
+    (void)file;
+    if (host->reads_next)
         return LOOP_GOES_ON;
     if (loop_seconds() - host->loop.woke_at < reading_seconds)
         seat->read += seat_read(seat, 1);
