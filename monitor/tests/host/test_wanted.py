@@ -158,3 +158,15 @@ def test_nobody_waits_for_what_was_to_be_added_to_a_guest_that_has_gone(adding, 
     act(lender, guest)
     eventually(lambda: demand(lender) == (0, left + ALL), lambda: demand(lender))
     assert lender.guests()["a"]["lent"] == left
+
+
+def test_a_deflate_after_another_one_ends_the_wait_of_that(lend):
+    """Its process tells of both, and of nothing between."""
+    lender = lend(1, *STRICT)
+    lender.set_budget(ALL - GAVE)
+    a = Played(lender, "a", pages=ALL, ballooned=GAVE, target=GAVE)
+    for pages in 5, 6:
+        a.deflates(pages)
+        lender.become("a", waits="deflate")
+    eventually(lambda: lender.status()["host"]["measures"]["ungranted"]["withdrawn"] == 1)
+    a.leave()
