@@ -205,16 +205,19 @@ bool memory_holds(const struct guest_memory *memory, uint64_t guest, uint64_t le
     return true;
 }
 
-void memory_discard(const struct guest_memory *memory, uint64_t guest, uint64_t length)
+uint64_t memory_discard(const struct guest_memory *memory, uint64_t guest, uint64_t length)
 {
+    uint64_t held = 0;
     for (unsigned i = 0; i < memory->count; i++) {
         const struct balloon_region *region = &memory->regions[i];
         uint64_t first = guest > region->guest ? guest : region->guest;
         uint64_t end = guest + length, last = region->guest + region->length;
         end = end < last ? end : last;
-        if (first < end && region->page_size <= BALLOON_PAGE)
-            balloon_discard_bytes(region, first - region->guest, end - first);
+        if (first < end && region->page_size <= BALLOON_PAGE &&
+            balloon_discard_bytes(region, first - region->guest, end - first))
+            held += (end - first) / BALLOON_PAGE;
     }
+    return held;
 }
 
 bool memory_word(const struct guest_memory *memory, uint64_t guest, uint16_t *word)

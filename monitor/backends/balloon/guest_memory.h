@@ -47,8 +47,9 @@ bool memory_map(struct guest_memory *memory, const struct region_place *places, 
  * be sealed; NULL where it can't be mapped, or doesn't have them. */
 uint8_t *file_map(int file, uint64_t bytes, uint64_t offset);
 
-/* Discards pages of the guest, as far as they are memory of small pages. */
-void memory_discard(const struct guest_memory *memory, uint64_t guest, uint64_t length);
+/* Discards pages of the guest, as far as they are memory of small pages; how many couldn't be, at
+ * most. */
+uint64_t memory_discard(const struct guest_memory *memory, uint64_t guest, uint64_t length);
 
 /* The guest's address of an address in the client; false where it lies in no region. */
 bool memory_of_user(const struct guest_memory *memory, uint64_t user, uint64_t *address);

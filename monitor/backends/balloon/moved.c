@@ -173,19 +173,22 @@ bool moved_load(struct backend *backend, const uint8_t *bytes, size_t length)
     return true;
 }
 
-/* Gives up what is in the balloon: a page may have been sent before it went there. */
-static void discard_set(struct backend *backend)
+/* Gives up what is in the balloon: a page may have been sent before it went there. How many pages
+ * couldn't be discarded, at most. */
+static uint64_t discard_set(const struct backend *backend)
 {
     const struct balloon *balloon = &backend->balloon;
-    uint64_t end = balloon->ballooned_words * WORD_BITS, page = 0;
+    uint64_t end = balloon->ballooned_words * WORD_BITS, page = 0, held = 0;
     while (page < end) {
         uint64_t first = page;
         while (page < end && balloon->ballooned[page / WORD_BITS] >> page % WORD_BITS & 1)
             page++;
         if (page > first)
-            memory_discard(&backend->memory, first * BALLOON_PAGE, (page - first) * BALLOON_PAGE);
+            held += memory_discard(&backend->memory, first * BALLOON_PAGE,
+                                   (page - first) * BALLOON_PAGE);
         page++;
     }
+    return held;
 }
 
 /* Takes the pages from `first` to before `end` of one set into another. */
@@ -219,7 +222,7 @@ static bool take_set(struct backend *backend)
     }
     backend->ballooned = (uint32_t)vb_count_ballooned(balloon->ballooned, moved->words);
     if (tells && !balloon->keeps_pages)
-        discard_set(backend);
+        backend->undiscarded = (uint32_t)discard_set(backend);
     return memcmp(balloon->ballooned, set, bytes) == 0;
 }
 

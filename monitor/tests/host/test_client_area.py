@@ -20,7 +20,7 @@ from vhost_client import (
     Client,
 )
 from vhost_demands import demand_served
-from vhost_moves import FINE, OF_CLIENT, PROTOCOL, WRONG, load, saved, stopped
+from vhost_moves import FINE, OF_CLIENT, PROTOCOL, WRONG, load, moved_memory, saved, stopped
 
 # Where the modes, and the pages that are given up, are; who has control; the commands.
 MODES_AT, GIVEN_AT, HAS_LENDER = 40, 208, 2
@@ -70,6 +70,25 @@ def sealed(lend):
     fcntl.fcntl(client.files[1], fcntl.F_ADD_SEALS, FUTURE_WRITE)
     yield lender, client
     client.leave()
+
+
+def test_what_fails_to_be_discarded_as_a_device_is_loaded_is_not_given_up(sealed):
+    """Another process of the guest finds as much."""
+    lender, client = sealed
+    demand_served(client, INFLATE, GIVEN[-1:])
+    bases = stopped(client)
+    other = Client(lender.add("b"), lambda: lender.said()[-4:])
+    other.replace(1, os.memfd_create("region", os.MFD_CLOEXEC | os.MFD_ALLOW_SEALING))
+    other.begin(PROTOCOL)
+    assert load(other, saved(client))
+    moved_memory(client, other)
+    other.negotiate(protocol=PROTOCOL)
+    other.add_memory()
+    fcntl.fcntl(other.files[1], fcntl.F_ADD_SEALS, FUTURE_WRITE)
+    other.go_on(bases)
+    assert other.called(INFLATE) == 1
+    assert struct.unpack_from("<I", area(other), GIVEN_AT) == (3,)
+    other.leave()
 
 
 def test_what_a_report_fails_to_discard_takes_nothing_of_what_is_given_up(sealed):
