@@ -107,6 +107,12 @@ def test_a_domain_that_is_refused(host, hook, domain, line):
     assert hook("release end", **domain) == 0 and names(host) == []
 
 
+def test_without_its_words():
+    """It says what it is, and does nothing."""
+    ran = subprocess.run([f"{CLIENT}/libvirt-hook", "web-1"], capture_output=True, text=True)
+    assert ran.returncode == 1 and ran.stderr.startswith("libvirt's hook for Bigvasta: ")
+
+
 def test_without_a_host(hook):
     hook.environment["BIGVASTA_CONTROL"] = "/nowhere"
     assert hook("prepare begin", guest()) == 3
