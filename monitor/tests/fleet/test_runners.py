@@ -153,7 +153,8 @@ def take_all(server, words):
 def test_a_scheduler_without_workers(shared, tmp_path):
     with Machines(tmp_path, "local") as machines:
         address = machines.scheduler("127.0.0.1", free_port())
-        said = run(*SMALL, "--library", shared, "--scheduler", address, status=3)
+        words = *SMALL, "--library", shared, "--scheduler", address
+        said = run(*words, status=3, limit=PATIENCE + 60)  # a minute goes by without a worker
         assert said == f"bigvasta: --scheduler: no worker comes to {address}\n"
 
 
