@@ -39,10 +39,22 @@ static bool admit(struct backend *backend)
     return true;
 }
 
-/* The hook for a driver that restarts: what is in the balloon has to be lent before. */
+void lent_note_held(struct lent *lent)
+{
+    uint32_t pages;
+    if (lent->notes.held_pages == 0 || balloon_held_deflate(&lent->backend.balloon, &pages))
+        return;
+    lent->notes.held_pages = 0;
+    lent->news = true;
+}
+
+/* The hook for a driver that restarts: what is in the balloon has to be lent before. It asks for
+ * that alone. */
 static bool empties(struct backend *backend)
 {
-    return lent_await((struct lent *)backend, WAIT_RESET, backend->ballooned);
+    struct lent *lent = (struct lent *)backend;
+    lent_note_held(lent);
+    return lent_await(lent, WAIT_RESET, backend->ballooned);
 }
 
 /* The hook that answers a client: once, whatever process does. */

@@ -47,6 +47,9 @@ enum { ENDS_ANEW = 75 };
  * closed. */
 int lent_run(const struct options *options, struct kept *kept);
 
+/* Notes whether the deflate that was held still is: not where its queue was stopped. */
+void lent_note_held(struct lent *lent);
+
 /* ---- awaited.c */
 
 /* The pages that count in its balloon; and what of it waits for grants. */

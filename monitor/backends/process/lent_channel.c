@@ -118,10 +118,8 @@ bool lent_note(struct lent *lent)
         lent->notes.ballooned_then = backend->ballooned;
         lent->notes.taken_since = taken;
     }
-    uint32_t pages;
     awaited_note(lent);
-    if (lent->notes.held_pages > 0 && !balloon_held_deflate(&backend->balloon, &pages))
-        lent->notes.held_pages = 0, lent->news = true; /* its queue was stopped */
+    lent_note_held(lent);
     lent->news |= backend->options->holds && backend->ballooned != lent->notes.ballooned_before;
     lent->notes.ballooned_before = backend->ballooned;
     lent->news |= heard || taken || ready != lent->notes.ready_then ||

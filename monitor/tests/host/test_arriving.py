@@ -19,7 +19,9 @@ from vhost_client import (
     PAGE,
     PAGES_OF_REGION,
     REM_MEM_REG,
+    RESET_DEVICE,
     SET_FEATURES,
+    SET_OWNER,
 )
 from vhost_demands import demand_served, word
 from vhost_logs import log_base, log_file, set_logging
@@ -241,6 +243,22 @@ def test_a_guest_that_migrates_takes_no_pages(migrating):
     client.accepted(SET_FEATURES, word(FEATURES | HAS_PROTOCOL))
     eventually(lambda: client.used(DEFLATE)[0] == 2)
     lender.become("a", ballooned=59, waits="nothing")
+
+
+@pytest.mark.parametrize("message", (RESET_DEVICE, SET_OWNER))
+def test_a_guest_that_migrates_may_reset_its_device(migrating, message):
+    """Its deflate, which is granted and waits for the migration's end, is forgotten by that."""
+    lender, client = migrating()
+    with_pages(lender, client, GIVEN[:60])
+    assert log_base(client, log_file()) == bytes(8)
+    lender.set_budget(ALL - 60)
+    client.post_pages(DEFLATE, GIVEN[:1])
+    lender.become("a", waits="deflate")
+    set_logging(client, True)
+    lender.set_budget(ALL)
+    lender.become("a", lent=ALL)
+    client.accepted(message)
+    lender.become("a", ready=0, ballooned=0, waits="nothing")
 
 
 def test_a_deflate_that_waited_is_granted_where_the_guest_arrives(migrating, crowded):
