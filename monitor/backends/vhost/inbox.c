@@ -50,15 +50,20 @@ enum stream_state inbox_take(int socket, struct inbox *inbox, size_t *came)
 
 enum stream_state inbox_read(int socket, struct inbox *inbox)
 {
+    const struct files *files = &inbox->message.files;
     enum stream_state state = STREAM_WHOLE;
     size_t came;
     while (state == STREAM_WHOLE && !inbox_is_whole(inbox)) {
+        bool lost = files->lost;
         /* The process before may have ended as it had read the head alone. */
         if (inbox->got == HEAD && inbox->message.size > MOST_BODY)
             return STREAM_WRONG;
         state = inbox_take(socket, inbox, &came);
         if (state == STREAM_WHOLE)
             note(inbox, came);
+        /* Files without room stay open: no more of them come than with one read. */
+        if (state == STREAM_WHOLE && lost && files->beside.header.msg_controllen > 0)
+            return STREAM_WRONG;
     }
     return state;
 }

@@ -172,6 +172,18 @@ def test_the_most_files_of_a_message_in_parts(serve, files, words):
         assert (client.counter("end"), client.close()) == (8, (0, ""))
 
 
+def test_more_files_with_each_part_of_a_message(serve, event):
+    """It is refused before it is whole, as each would leave files open."""
+    client = serve()
+    client.accepted(SET_PROTOCOL_FEATURES, word(OFFERED))
+    before, parts = client.open_files(), message(SET_MEM_TABLE, bytes(40))
+    for at in range(2):
+        put(client, parts[at : at + 1], [event] * 8), is_read(client)
+    assert client.open_files() == before + 16
+    put(client, parts[2:3], [event] * 8)
+    demand_refused(client, "the client's bytes are no message")
+
+
 def test_files_of_the_first_of_two_in_one_write(client):
     put(client, message(SET_BACKEND_REQ_FD) + GETS, [client.theirs.fileno()])
     is_accepted(client, SET_BACKEND_REQ_FD)
