@@ -59,7 +59,7 @@ bool read_features(const char *word, void *at)
 bool read_lines(const char *word, void *at)
 {
     uint64_t lines;
-    bool read = read_number(word, 10, UINT32_MAX / 2, &lines);
+    bool read = read_number(word, 10, MOST_SAID, &lines);
     *(unsigned *)at = read ? (unsigned)lines : *(unsigned *)at;
     return read;
 }

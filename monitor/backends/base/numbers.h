@@ -23,6 +23,9 @@ enum { MUST_TELL_HOST = 1 };
  * and VERSION_1. */
 #define USUAL_FEATURES UINT64_C(0x100000027)
 
+/* The most lines of a second that an option says. */
+enum { MOST_SAID = INT32_MAX };
+
 /* Words of options (options.h): features into a uint64_t; how many lines are said of a client in a
  * second, into an unsigned; the number of a layout, into a uint64_t; any word. */
 bool read_features(const char *word, void *at);

@@ -2,6 +2,8 @@
 #include "measures.h"
 #include "places.h"
 
+#include "../base/numbers.h"
+
 #include <inttypes.h>
 #include <limits.h>
 #include <signal.h>
@@ -39,7 +41,7 @@ static unsigned make_words(const struct seat *seat, char numbers[3][MOST_NUMBER]
     const struct host *host = seat->host;
     unsigned count = 0;
     snprintf(numbers[0], MOST_NUMBER, "%llx", (unsigned long long)host->features);
-    snprintf(numbers[1], MOST_NUMBER, "%u", most_lines);
+    snprintf(numbers[1], MOST_NUMBER, "%u", most_lines < MOST_SAID ? most_lines : MOST_SAID);
     snprintf(numbers[2], MOST_NUMBER, "%u", seat->terms.user);
     const char *const always[] = {host->program, "--lent",  "--features",
                                   numbers[0],    "--lines", numbers[1]};

@@ -7,7 +7,7 @@ import signal
 import socket
 
 import pytest
-from hosts import Host
+from hosts import Answering, Host
 
 MIB = 1 << 20
 
@@ -389,6 +389,16 @@ def test_as_many_guests_as_there_can_be(program, folder, file):
     host = Host(program, folder, "--config", str(file))
     host.lines.next(patience_from_now())
     assert (host.status()["guests"], host.end()) == (64, 0)
+
+
+def test_a_guest_is_served_where_its_lines_have_no_bound(program, folder, file):
+    file.write_text(filled(folder, "lines = 2000", "lines = 4294967294"))
+    host = Host(program, folder, "--config", str(file))
+    host.lines.next(patience_from_now())
+    guest = Answering(host, "web-1")
+    eventually(lambda: host.guest("web-1")["state"] == "ready")
+    guest.leave()
+    assert (host.end(), [it for it in host.said() if "can't be taken" in it]) == (0, [])
 
 
 def test_the_command_line_is_before_the_file(program, folder, file):
