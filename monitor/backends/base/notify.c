@@ -48,6 +48,11 @@ void notify_keep(const char *name, int file)
         sd_pid_notify_with_fds(0, 0, strcat(words, name), &file, 1);
 }
 
+void notify_forget(const char *name)
+{
+    sd_notifyf(0, "FDSTOREREMOVE=1\nFDNAME=%s", name);
+}
+
 /* Files are moved up first, so that none is written over. */
 void notify_hand_on(const int *files, const char *const *names, unsigned count)
 {

@@ -15,8 +15,10 @@ void notify_reloads(void);
 void notify_ends(void);
 void notify_lives(const char *status);
 
-/* Keeps a socket for the next process of this service, by a name. */
+/* Keeps a socket for the next process of this service, by a name; and no longer those that were
+ * kept by it. */
 void notify_keep(const char *name, int file);
+void notify_forget(const char *name);
 
 /* A listening socket of this name, that was handed over by the service manager or kept by the
  * process before; -1: none. */

@@ -33,7 +33,8 @@ struct control_options {
     const char *path; /* of the socket */
     mode_t mode;
     gid_t group;  /* (gid_t)-1: the group of the process */
-    int listener; /* a socket that listens there already; -1: none */
+    int listener; /* a socket that listens already, which is taken where it is as the others say;
+                     -1: none */
     bool stays;   /* the socket is for another process once this one has ended */
 };
 

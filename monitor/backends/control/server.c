@@ -43,7 +43,10 @@ static bool wait_for(const struct control_socket *its, int operation, int file, 
 static bool open_socket(struct control_socket *its)
 {
     const struct control_options *options = its->options;
-    its->listener = options->listener >= 0 ? options->listener : socket_listen(options);
+    bool is_kept = socket_is_kept(options);
+    its->listener = is_kept ? options->listener : socket_listen(options);
+    if (!is_kept && options->listener >= 0)
+        file_close(options->listener);
     if (its->listener >= 0 && wait_for(its, EPOLL_CTL_ADD, its->listener, EPOLLIN, LISTENER))
         return true;
     return say_fault("%s: %s", options->path, strerror(errno));

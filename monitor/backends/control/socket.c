@@ -3,6 +3,7 @@
 #include "../base/process.h"
 
 #include <errno.h>
+#include <stdio.h>
 #include <string.h>
 #include <sys/socket.h>
 #include <sys/stat.h>
@@ -28,6 +29,37 @@ static bool bind_to(int listener, const struct control_options *options)
         (options->group != (gid_t)-1 && chown(options->path, (uid_t)-1, options->group)))
         return false;
     return chmod(options->path, options->mode) == 0;
+}
+
+/* The group of what this process makes beside a path, where none is said. */
+static gid_t group_beside(const char *path)
+{
+    char folder[sizeof((struct sockaddr_un *)0)->sun_path];
+    struct stat its;
+    const char *end = strrchr(path, '/');
+    snprintf(folder, sizeof folder, "%.*s", end ? (int)(end - path) + 1 : 1, end ? path : ".");
+    return !stat(folder, &its) && its.st_mode & S_ISGID ? its.st_gid : getegid();
+}
+
+/* Whether a socket has this path. */
+static bool is_at(int listener, const char *path)
+{
+    struct sockaddr_un its = {.sun_family = AF_UNSPEC};
+    socklen_t size = sizeof its;
+    return !getsockname(listener, (struct sockaddr *)&its, &size) &&
+           !strncmp(its.sun_path, path, sizeof its.sun_path);
+}
+
+bool socket_is_kept(const struct control_options *options)
+{
+    enum { RIGHTS = 0777 };
+    struct stat its;
+    if (options->listener < 0 || !is_at(options->listener, options->path) ||
+        lstat(options->path, &its) || !S_ISSOCK(its.st_mode))
+        return false;
+    bool is_own = its.st_uid == geteuid(), is_said = options->group != (gid_t)-1;
+    gid_t group = is_said ? options->group : group_beside(options->path);
+    return !is_own || ((its.st_mode & RIGHTS) == options->mode && its.st_gid == group);
 }
 
 int socket_listen(const struct control_options *options)

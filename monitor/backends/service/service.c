@@ -157,6 +157,15 @@ static int64_t words_every(void)
     return getenv("NOTIFY_SOCKET") ? STATUS_EVERY : 0;
 }
 
+/* Has the service manager keep a control socket, in place of the one that it has handed over. */
+static void keep_socket(const struct service *service, enum control_rights rights)
+{
+    int handed = service->sockets[rights].listener, its = service->control.sockets[rights].listener;
+    if (handed >= 0 && handed != its)
+        notify_forget(control_socket_word(rights));
+    notify_keep(control_socket_word(rights), its);
+}
+
 bool service_begin(struct service *service, struct host *host, const char *folder)
 {
     struct settings *settings = &service->settings;
@@ -169,7 +178,7 @@ bool service_begin(struct service *service, struct host *host, const char *folde
         !control_open(&service->control, service->sockets) || !settings_apply(settings, host))
         return false;
     for (unsigned i = 0; i < CONTROL_SOCKETS; i++)
-        notify_keep(control_socket_word(i), service->control.sockets[i].listener);
+        keep_socket(service, i);
     service->every = words_every();
     service->control.settings = settings;
     host->service = (struct loop_part){service, waits, turn};

@@ -36,6 +36,11 @@ os.execv(sys.argv[2], sys.argv[2:])
 STATUS_EVERY = 5
 
 
+def same(one, other):
+    """Whether two files are the same socket."""
+    return os.fstat(one).st_ino == os.fstat(other).st_ino
+
+
 class Manager:
     """A service manager for one service."""
 
@@ -59,7 +64,10 @@ class Manager:
             files = array.array("i")
             files.frombytes(its)
             assert told.get("FDSTORE") == "1" and len(files) == 1
+            assert told["FDNAME"] not in self.kept or same(self.kept[told["FDNAME"]], files[0])
             self.kept[told["FDNAME"]] = files[0]
+        if "FDSTOREREMOVE" in told:
+            os.close(self.kept.pop(told["FDNAME"]))
         return told
 
     def until(self, name):
