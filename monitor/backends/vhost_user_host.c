@@ -197,7 +197,7 @@ static enum command_line read_words(struct host *host, struct service *service, 
         {"period", .read = read_period, .at = &host->period},
         {"cost", .read = read_number_of, .at = &host->cost},
         {"features", .read = read_features, .at = &host->features},
-        {"lines", .read = read_lines, .at = &most_lines},
+        {"lines", .read = read_lines, .at = &service->settings.lines},
         {"program", .read = read_word, .at = &host->program},
         {"strict", .flag = &host->strict},
         {"strict-pages", .flag = &host->strict_pages},
@@ -218,6 +218,7 @@ static enum command_line read_words(struct host *host, struct service *service, 
     enum command_line line = options_read(count, words, rows, &host->folder);
     if (service->checks)
         return line;
+    settings_take(&service->settings);
     take_config(host, &service->settings.config);
     if (line == LINE_READ)
         settings_recall(&service->settings, host);

@@ -1,6 +1,5 @@
 #include "service.h"
 
-#include "../base/levels.h"
 #include "../base/notify.h"
 #include "../base/process.h"
 #include "../base/say.h"
@@ -55,12 +54,7 @@ bool read_socket_group(const char *word, void *at)
 
 bool read_log_level(const char *word, void *at)
 {
-    uint32_t level;
-    bool read = config_level(word, &level);
-    (void)at;
-    if (read)
-        say_level((int)level);
-    return read;
+    return config_level(word, at);
 }
 
 /* A word for the service manager. */

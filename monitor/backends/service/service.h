@@ -17,8 +17,7 @@ struct service {
 };
 
 /* The options of a service, as rows of a table (options.h). A configuration is read at once, and
- * its faults are said. Options that come after
- * --config are before what the file says. */
+ * its faults are said. */
 #define SOCKET_OPTIONS(its, rights, word)                                                          \
     {word, .read = read_socket_path, .at = (its)->settings.sockets[rights].path},                  \
         {word "-mode", .read = read_socket_mode, .at = &(its)->settings.sockets[rights].mode},     \
@@ -31,7 +30,7 @@ struct service {
         {"check", .read = read_word, .at = &(its)->checks},                                        \
         SOCKET_OPTIONS(its, MAY_CHANGE, "control"), SOCKET_OPTIONS(its, MAY_LOOK, "status"),       \
     {                                                                                              \
-        "log-level", .read = read_log_level                                                        \
+        "log-level", .read = read_log_level, .at = &(its)->settings.level                          \
     }
 
 bool read_config(const char *word, void *at);

@@ -11,46 +11,53 @@
 #include <stdio.h>
 #include <string.h>
 
-/* Bytes of a fault in an answer. */
-enum { MOST_FAULT = 256 };
+/* Bytes of a fault in an answer; the mode of a control socket of which nothing is said. */
+enum { MOST_FAULT = 256, USUAL_MODE = 0660 };
 
 void settings_defaults(struct settings *settings)
 {
     config_clear(&settings->config);
+    settings->level = settings->lines = UINT32_MAX;
     for (unsigned i = 0; i < CONTROL_SOCKETS; i++)
-        settings->sockets[i].mode = 0660;
+        settings->sockets[i].mode = UINT32_MAX;
 }
 
-/* What the file says of a control socket. */
+/* What the file says of a control socket, where nothing else does. */
 static void take_socket(const struct config_socket *its, struct config_socket *socket)
 {
-    if (its->path[0])
+    if (!socket->path[0])
         strcpy(socket->path, its->path);
-    if (its->group[0])
+    if (!socket->group[0])
         strcpy(socket->group, its->group);
-    if (its->mode != UINT32_MAX)
-        socket->mode = its->mode;
+    if (socket->mode == UINT32_MAX)
+        socket->mode = its->mode != UINT32_MAX ? its->mode : USUAL_MODE;
 }
 
-/* What the file says of the control sockets and of what is said. */
-static void take_config(struct settings *settings)
+/* How much is said from now on, where that is said. */
+static void speak(struct settings *settings, uint32_t level, uint32_t lines)
+{
+    if (lines != UINT32_MAX)
+        most_lines = lines;
+    if (level != UINT32_MAX)
+        settings->level = level;
+    say_level((int)settings->level);
+}
+
+void settings_take(struct settings *settings)
 {
     const struct config *config = &settings->config;
+    uint32_t level = settings->level, lines = settings->lines;
     for (unsigned i = 0; i < CONTROL_SOCKETS; i++)
         take_socket(&config->fixed.sockets[i], &settings->sockets[i]);
-    if (config->lines != UINT32_MAX)
-        most_lines = config->lines;
-    if (config->level != UINT32_MAX)
-        say_level((int)config->level);
+    settings->level = LEVEL_INFO;
+    speak(settings, config->level, config->lines);
+    speak(settings, level, lines);
 }
 
 bool settings_read(struct settings *settings, const char *file)
 {
     settings->file = file;
-    bool good = config_read(file, &settings->config);
-    if (good)
-        take_config(settings);
-    return good;
+    return config_read(file, &settings->config);
 }
 
 /* The first fault that is said while the configuration is read. */
@@ -90,7 +97,7 @@ static void take_again(struct settings *settings)
         return;
     }
     config_copy(&settings->config, &config), config_copy(&whole, &config);
-    take_config(settings);
+    speak(settings, config.level, config.lines);
     changes_put_over(&settings->changes, &whole);
     apply_sizes(settings->file, settings->host, &whole);
     apply_guests(settings->file, &whole, &config, settings->host);
@@ -149,10 +156,14 @@ void settings_see(const struct settings *settings, struct config *seen)
     apply_see(settings->host, all);
     memcpy(all->fixed.sockets, settings->sockets, sizeof settings->sockets);
     all->lines = most_lines;
-    all->level = said->level != UINT32_MAX ? said->level : LEVEL_INFO;
+    all->level = settings->level;
     all->says |= UINT32_C(1) << KEY_CONTROL_SOCKET | UINT32_C(1) << KEY_CONTROL_MODE |
                  UINT32_C(1) << KEY_STATUS_SOCKET | UINT32_C(1) << KEY_STATUS_MODE |
                  UINT32_C(1) << KEY_LEVEL | UINT32_C(1) << KEY_LINES | said->says;
+    if (settings->sockets[MAY_CHANGE].group[0])
+        all->says |= UINT32_C(1) << KEY_CONTROL_GROUP;
+    if (settings->sockets[MAY_LOOK].group[0])
+        all->says |= UINT32_C(1) << KEY_STATUS_GROUP;
 }
 
 char *settings_text(const struct settings *settings)

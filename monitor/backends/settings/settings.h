@@ -12,15 +12,20 @@ struct settings {
     struct changes changes;
     struct audit audit;
     struct config_socket sockets[CONTROL_SOCKETS]; /* as they are */
+    uint32_t level;                                /* of what is said, as it is */
+    unsigned lines; /* of the command line; UINT32_MAX: it doesn't say how many */
     struct host *host;
 };
 
 /* As nothing was read yet. */
 void settings_defaults(struct settings *settings);
 
-/* Reads a configuration, and takes what it says of the control sockets and of what is said; false
- * where it can't, and each fault is said. */
+/* Reads a configuration; false where it can't, and each fault is said. */
 bool settings_read(struct settings *settings, const char *file);
+
+/* Takes what it says of the control sockets and of what is said, where the command line doesn't say
+ * that. */
+void settings_take(struct settings *settings);
 
 /* Takes what was changed of the host, before all that was said of it. */
 void settings_recall(struct settings *settings, struct host *host);

@@ -401,23 +401,43 @@ def test_a_guest_is_served_where_its_lines_have_no_bound(program, folder, file):
     assert (host.end(), [it for it in host.said() if "can't be taken" in it]) == (0, [])
 
 
-def test_the_command_line_is_before_the_file(program, folder, file):
-    it = Host(
-        program,
-        folder,
-        "--config",
-        str(file),
-        "--budget",
-        "100",
-        "--floor",
-        "1",
-        "--control-mode",
-        "0640",
-    )
+# Options, and the lines of a configuration by which all is as with them.
+OPTIONS = {
+    "--budget 100": "budget = 100M",
+    "--floor 1": "floor = 1M",
+    "--control-mode 0640": "mode = 0640",
+    "--control {folder}/.two": "socket = {folder}/.two",
+    "--status-group {group}": "group = {group}",
+    "--log-level notice": "level = notice",
+    "--lines 7": "lines = 7",
+}
+
+
+@pytest.mark.parametrize("is_first", (False, True), ids=("after", "first"))
+def test_the_command_line_is_before_the_file(program, folder, file, is_first):
+    """Wherever it names the file; until that is read again, but for what stays as the host runs."""
+    filled_in = {"folder": folder, "group": group_name()}
+    options, by_file = " ".join(OPTIONS).format(**filled_in).split(), ("--config", str(file))
+    it = Host(program, folder, *(options + [*by_file] if is_first else [*by_file, *options]))
     it.lines.next(patience_from_now())
+    it.control = f"{folder}/.two"
     assert [it.status()[name] for name in ("budget", "floor")] == [100 * MIB, MIB]
     assert os.stat(it.control).st_mode & 0o777 == 0o640
-    assert it.end() == 0
+    lines = it.ask("config")["config"].splitlines()
+    assert {line.format(**filled_in) for line in OPTIONS.values()} <= {*lines}, lines
+    assert len([line for line in lines if line.startswith("group = ")]) == 2, "of both sockets"
+    # The socket of the file is another host's.
+    with socket.socket(socket.AF_UNIX) as another:
+        another.bind(f"{folder}/.control")
+        assert it.ask("reload")["ok"]
+        assert {change["key"] for change in it.ask("changes")["changes"]} == {
+            "budget",
+            "floor",
+            "level",
+            "lines",
+        }
+        assert it.end() == 0
+        assert sorted(it for it in os.listdir(folder) if it in (".control", ".two")) == [".control"]
 
 
 @pytest.mark.parametrize("old, new, said", WRONG)
