@@ -297,6 +297,9 @@ bool is_name(const char *name);
 /* The seat of this name, or NULL. */
 struct seat *seat_of(const struct host *host, const char *name);
 
+/* Whether the socket of this name has a path that is short enough in a folder. */
+bool seat_has_path(const char *folder, const char *name);
+
 /* Why no seat of this name can be made; NULL: one can. */
 const char *seat_fault(const struct host *host, const char *name);
 

@@ -149,6 +149,11 @@ bool limits_meet(const struct guest_limit *one, const struct guest_limit *other)
     return is_in(one->path, other->path) || is_in(other->path, one->path);
 }
 
+bool limits_collide(const struct guest_limit *one, const struct guest_limit *other)
+{
+    return limits_meet(one, other) || limits_are_one(one, other);
+}
+
 bool limits_are_one(const struct guest_limit *one, const struct guest_limit *other)
 {
     struct stat first, second;

@@ -32,6 +32,9 @@ const char *limit_fault(const struct guest_limit *limit);
 bool limits_meet(const struct guest_limit *one, const struct guest_limit *other);
 bool limits_are_one(const struct guest_limit *one, const struct guest_limit *other);
 
+/* Whether two guests can't have these: either of both. */
+bool limits_collide(const struct guest_limit *one, const struct guest_limit *other);
+
 /* What a writer is asked, and what it answers with the same number: 0 or an errno, and the kernel's
  * words where it has some. */
 struct limit_request {

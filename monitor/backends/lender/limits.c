@@ -185,9 +185,7 @@ const char *limit_refusal(const struct host *host, const char *name,
     const char *fault = limit_fault(limit);
     for (unsigned i = 0; i < host->count && !fault; i++) {
         const struct seat *seat = host->seats[i];
-        bool is_its =
-            limits_meet(&seat->terms.limit, limit) || limits_are_one(&seat->terms.limit, limit);
-        if (is_its && strcmp(seat->name, name) != 0)
+        if (limits_collide(&seat->terms.limit, limit) && strcmp(seat->name, name) != 0)
             fault = "the limit is another guest's";
     }
     return fault;

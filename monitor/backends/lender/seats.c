@@ -111,6 +111,11 @@ const char *terms_fault(const struct guest_terms *terms, const char **term)
     return terms->limit.kind == LIMIT_NONE ? "a start is for a guest that has a limit" : NULL;
 }
 
+bool seat_has_path(const char *folder, const char *name)
+{
+    return strlen(folder) + strlen("/") + strlen(name) < MOST_PATH;
+}
+
 const char *seat_fault(const struct host *host, const char *name)
 {
     static char full[64];

@@ -3,6 +3,7 @@
 #include "../base/say.h"
 #include "../lender/host.h"
 
+#include <errno.h>
 #include <stdio.h>
 #include <string.h>
 
@@ -38,21 +39,65 @@ bool apply_guests(const char *file, const struct config *config, const struct co
     return good;
 }
 
+/* How many guests there are with those of a configuration: others stay. */
+static unsigned count_with(const struct config *config, const struct host *host)
+{
+    unsigned count = config->count;
+    for (unsigned i = 0; i < host->count; i++)
+        count += !config_guest_of((struct config *)config, host->seats[i]->name);
+    return count;
+}
+
+/* Whether the host takes the sizes of a configuration, with its own where that says none. */
+static bool sizes_fit(const char *file, const struct config *config, const struct host *host)
+{
+    uint32_t budget = config->budget != UINT32_MAX ? config->budget : host->budget;
+    uint32_t overdraft =
+        config->overdraft != UINT32_MAX ? config->overdraft : host->lends.overdraft;
+    return overdraft == UINT32_MAX || overdraft <= budget ||
+           say_fault("%s: overdraft: more than the budget that was set", file);
+}
+
+/* Whether a guest's limit, which it hasn't yet, is that of one before it in a configuration, too:
+ * those that the host has are compared as it is asked. */
+static bool shares_limit(const struct config *config, const struct host *host, unsigned number)
+{
+    const struct config_guest *guest = &config->guests[number];
+    const struct seat *seat = seat_of(host, guest->name);
+    const struct guest_limit *limit = &guest->terms.limit;
+    if (seat && limits_meet(&seat->terms.limit, limit))
+        return false;
+    for (unsigned i = 0; i < number; i++)
+        if (limits_collide(&config->guests[i].terms.limit, limit))
+            return true;
+    return false;
+}
+
+/* Why the host can't have a guest of a configuration; NULL: it can. */
+static const char *guest_fault(const struct config *config, const struct host *host,
+                               unsigned number)
+{
+    const struct config_guest *guest = &config->guests[number];
+    struct guest_terms terms = terms_of(guest, usually_strict(config, host));
+    const char *fault = host_refuses(host, guest->name, &terms),
+               *folder = host->folder ? host->folder : config->fixed.folder;
+    if (!fault && shares_limit(config, host, number))
+        fault = "the limit is another guest's";
+    return fault || seat_has_path(folder, guest->name) ? fault : strerror(ENAMETOOLONG);
+}
+
 bool apply_fits(const char *file, const struct config *config, const struct host *host)
 {
+    unsigned count = count_with(config, host);
     bool good =
-        config->count <= host->most ||
+        count <= host->most ||
         say_fault("%s: %u guests, with what was changed, and the host may have %u: --guests", file,
-                  config->count, host->most);
-    bool strict = usually_strict(config, host);
-    if (config->overdraft != UINT32_MAX && config->overdraft > config->budget)
-        good = say_fault("%s: overdraft: more than the budget that was set", file);
+                  count, host->most);
+    good &= sizes_fit(file, config, host);
     for (unsigned i = 0; i < config->count; i++) {
-        const struct config_guest *guest = &config->guests[i];
-        struct guest_terms terms = terms_of(guest, strict);
-        const char *fault = host_refuses(host, guest->name, &terms);
+        const char *fault = guest_fault(config, host, i);
         if (fault)
-            say_fault("%s: guest %s: %s", file, guest->name, fault);
+            say_fault("%s: guest %s: %s", file, config->guests[i].name, fault);
         good &= !fault;
     }
     return good;

@@ -137,6 +137,10 @@ bool settings_check(const struct settings *settings, const char *file, const str
         return false;
     changes_open(&changes, settings->state, false);
     changes_put_over(&changes, &config);
+    if (host->budget > 0 && !config_says(changes.lasting.says, KEY_BUDGET))
+        config.budget = host->budget;
+    if (host->lends.overdraft != UINT32_MAX)
+        config.overdraft = host->lends.overdraft;
     return is_enough(file, &config, host) && apply_fits(file, &config, host);
 }
 

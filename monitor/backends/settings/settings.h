@@ -30,7 +30,7 @@ void settings_take(struct settings *settings);
 /* Takes what was changed of the host, before all that was said of it. */
 void settings_recall(struct settings *settings, struct host *host);
 
-/* Whether a host could start by this file, where its folder and its budget are said before; else
+/* Whether a host could start by this file, with the options that it has of the command line; else
  * each fault is said. */
 bool settings_check(const struct settings *settings, const char *file, const struct host *host);
 

@@ -8,6 +8,7 @@ import pytest
 from bigvasta.statuses import Refused
 from hosts import Host
 from installed import bigvasta
+from keeping import tmpfs
 from linux_kit import ROOT
 from test_config import WRONG, filled
 from waiting import PATIENCE, patience_from_now
@@ -162,6 +163,73 @@ def test_a_request_waits_for_its_outcome(configured, folder, file):
     file.write_text(filled(folder, "period = 100", "period = 200"))
     with pytest.raises(Refused, match="period of .host. can't change while the host runs"):
         configured.ask("reload")
+
+
+# Options of a host, a line of its file and what comes in its place, by which the new file and the
+# options don't fit each other; what is said of that, and whether a check can know it, too.
+TOGETHER = {
+    "overdraft": (
+        ("--overdraft", "100M"),
+        "budget = 480M",
+        "budget = 50M",
+        "overdraft: more than the budget that was set",
+        True,
+    ),
+    "budget": (
+        ("--budget", "40M"),
+        "budget = 480M\n",
+        "overdraft = 50M\n",
+        "overdraft: more than the budget that was set",
+        True,
+    ),
+    "path": ((), "[guest web-2]", f"[guest {'n' * 31}]", "File name too long", True),
+    "guests": (
+        ("--guests", "2"),
+        "[guest web-2]",
+        "[guest web-3]",
+        "3 guests, with what was changed, and the host may have 2: --guests",
+        False,
+    ),
+}
+
+
+@pytest.mark.parametrize("what", TOGETHER)
+def test_what_does_not_fit_together_changes_nothing(program, folder, what):
+    """All of the old configuration stays, and a host that starts finds what a check says."""
+    options, old, new, said, is_known = TOGETHER[what]
+    deep = folder / "d".ljust(80 - len(str(folder)), "d")
+    deep.mkdir()
+    file = deep / "host.conf"
+    first = filled(deep, *((old, "") if what == "budget" else ()))
+    file.write_text(first)
+    host = Host(program, deep, "--config", str(file), *options)
+    assert host.lines.next(patience_from_now()) == "ready", host.said()
+    before = host.ask("config")["config"]
+    file.write_text(filled(deep, old, new).replace("floor = 8M", "floor = 3M"))
+    with pytest.raises(Refused, match=re.escape(said)):
+        host.ask("reload")
+    assert (host.ask("config")["config"], host.ask("changes")["changes"]) == (before, [])
+    assert host.end() == 0
+    status, lines = checked(program, file, *options)
+    assert (status, bool(lines)) == (is_known, is_known) and (not lines or said in lines[0])
+    host = Host(program, deep, "--config", str(file), *options)
+    assert not is_known or host.process.wait(PATIENCE) == 2
+    host.end()
+
+
+@pytest.mark.skipif(not tmpfs(), reason="no tmpfs is there")
+def test_a_limit_is_one_guests_with_what_was_changed(kept):
+    text = kept.file.read_text().replace("480M", "480M\nstrict = yes")
+    kept.file.write_text(text)
+    assert kept.host.ask("reload")["ok"]
+    kept.host.ask("guest", name="web-2", limit=f"tmpfs:{tmpfs()}")
+    kept.file.write_text(text.replace("[guest web-1]", f"[guest web-1]\nlimit = tmpfs:{tmpfs()}"))
+    said = "the limit is another guest's"
+    status, lines = checked(kept.program, kept.file, "--state", str(kept.state))
+    assert (status, lines) == (1, [f"{kept.file}: guest web-2: {said}"])
+    with pytest.raises(Refused, match=said):
+        kept.host.ask("reload")
+    kept.file.write_text(text)
 
 
 def test_a_host_without_a_file_reads_none(host):
