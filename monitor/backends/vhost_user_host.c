@@ -70,8 +70,6 @@
 #include "service/service.h"
 #include "settings/config_words.h"
 
-#include <signal.h>
-#include <sys/pidfd.h>
 #include <unistd.h>
 
 enum {
@@ -84,9 +82,6 @@ enum {
     FILES_OF_LENDER = 32,
     FILES_OF_SEAT = 4
 };
-
-/* Milliseconds in which guests' processes end that are told to. */
-enum { LEAVES_IN = 1000 };
 
 /* A size, or a number of mebibytes, as pages. */
 static bool read_mebibytes(const char *word, void *at)
@@ -266,24 +261,6 @@ static bool can_seat(void)
                   VB_HOST_VERSION);
 }
 
-/* Ends all guests' processes, which have a moment for it. */
-static void end_all(struct host *host)
-{
-    int64_t end = loop_now() + LEAVES_IN;
-    while (host->count > 0 && !seat_remove(host, host->seats[0]))
-        continue;
-    for (unsigned i = 0; i < host->leaving_count; i++) {
-        struct seat *seat = host->leaving[i];
-        struct pollfd its = {seat->process_file >= 0 ? seat->process_file : seat->channel, POLLIN,
-                             0};
-        int64_t left = end - loop_now();
-        if (seat->process_file < 0 || poll(&its, 1, left > 0 ? (int)left : 0) > 0)
-            continue;
-        complain("%s doesn't end, and is killed", seat->name);
-        pidfd_send_signal(seat->process_file, SIGKILL, NULL, 0);
-    }
-}
-
 /* Becomes the program that is there now, which takes guests over as they are; comes back with a
  * status where that can't run after all. */
 static int become(const struct host *host, const struct service *service, char **words)
@@ -333,10 +310,8 @@ int main(int count, char **words)
     fputs("ready\n", host.answers.out);
     answers_send(&host.answers);
     host_run(&host);
-    if (host.upgrades)
-        return become(&host, &service, words);
-    service_end(&service);
-    if (!host.leaves)
-        end_all(&host), folder_leave(&host);
-    return 0;
+    if (!host.upgrades)
+        service_end(&service);
+    host_end(&host);
+    return host.upgrades ? become(&host, &service, words) : 0;
 }

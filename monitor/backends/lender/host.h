@@ -311,6 +311,10 @@ const char *seat_add(struct host *host, const char *name, const struct guest_ter
   * can't. */
 const char *seat_remove(struct host *host, struct seat *seat);
 
+/* The lender ends: with all guests' service, unless they live on as it leaves or upgrades. The
+ * processes of those that were removed end in any case: no later lender knows of them. */
+void host_end(struct host *host);
+
 /* Resets a seat to its unconnected state. */
 void seat_clear(struct seat *seat);
 

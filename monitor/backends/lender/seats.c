@@ -2,14 +2,16 @@
 #include "places.h"
 #include "view.h"
 
+#include <signal.h>
 #include <stdlib.h>
+#include <sys/pidfd.h>
 #include <sys/socket.h>
 #include <sys/un.h>
 #include <sys/wait.h>
 #include <unistd.h>
 
-/* Milliseconds in which the process of a guest that was removed ends. */
-enum { ENDS_IN = 5000 };
+/* Milliseconds in which the process of a guest that was removed ends; and where the lender ends. */
+enum { ENDS_IN = 5000, LEAVES_IN = 1000 };
 
 bool seat_is_taken(const struct seat *seat)
 {
@@ -221,6 +223,42 @@ const char *seat_remove(struct host *host, struct seat *seat)
     seat->leaves_until = loop_now() + ENDS_IN;
     host->leaving[host->leaving_count++] = seat;
     return NULL;
+}
+
+/* Waits until a guest's process has ended, or until then; whether it has. */
+static bool has_ended(const struct seat *seat, int64_t end)
+{
+    struct pollfd its = {seat->process_file, POLLIN, 0};
+    int64_t left = end - loop_now();
+    bool ended = poll(&its, 1, left > 0 ? (int)left : 0) > 0;
+    if (ended)
+        waitpid(seat->process, NULL, WNOHANG);
+    return ended;
+}
+
+/* Ends the processes of guests that were removed, which have a moment for it: a later lender knows
+ * nothing of them. */
+static void end_leaving(const struct host *host)
+{
+    int64_t end = loop_now() + LEAVES_IN;
+    for (unsigned i = 0; i < host->leaving_count; i++) {
+        const struct seat *seat = host->leaving[i];
+        if (seat->process_file < 0 || has_ended(seat, end))
+            continue;
+        complain("%s doesn't end, and is killed", seat->name);
+        pidfd_send_signal(seat->process_file, SIGKILL, NULL, 0);
+        has_ended(seat, loop_now() + LEAVES_IN);
+    }
+}
+
+void host_end(struct host *host)
+{
+    bool live_on = host->leaves || host->upgrades;
+    while (!live_on && host->count > 0 && !seat_remove(host, host->seats[0]))
+        continue;
+    end_leaving(host);
+    if (!live_on)
+        folder_leave(host);
 }
 
 /* ---- what its places say */

@@ -35,6 +35,12 @@ def leave(lender):
     lender.process.stdin.close(), lender.process.stdout.close()
 
 
+def upgrade(lender):
+    """It becomes the program that is there."""
+    with Connection(f"{lender.folder}/.control") as control:
+        control.ask("upgrade")
+
+
 WAYS = (leave, lambda lender: lender.kill())
 
 

@@ -11,6 +11,8 @@ import pytest
 from played import TELL_REPORT, VERSION, Listens, Message, Played
 from tenants import FREE, eventually, go_on, process_of, status_of, stop
 from test_held import LOOKED, OUTSIDE, Larger, OneFile, remove_slot
+from test_later_lender import leave, upgrade
+from test_lies import ended_by
 from test_strict import GIVEN, STRICT, Later, lent, used
 from vhost_client import DEFLATE, Client
 from waiting import PATIENCE
@@ -131,4 +133,16 @@ def test_a_process_reports_no_more_than_the_folder_keeps(lend):
         words = "refused a: its process reports pages that nobody has granted"
         eventually(lambda: lender.hear() or words in lender.said(), lender.said)
         lender.become("a", here=0, lent=0)
+    a.channel.close()
+
+
+@pytest.mark.parametrize("end", (leave, upgrade))
+def test_a_process_that_was_to_end_is_killed_as_its_lender_goes(lend, end):
+    """Who was removed is in no later lender's hands."""
+    lender = lend(1, *STRICT)
+    a = Played(lender, "a", pages=ALL)
+    lender.demand("remove a")
+    end(lender)
+    eventually(lambda: ended_by(a.listens.child) == signal.SIGKILL)
+    assert "a doesn't end, and is killed" in lender.said(), lender.said()
     a.channel.close()
