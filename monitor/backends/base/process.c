@@ -10,11 +10,13 @@
 #include <stdlib.h>
 #include <string.h>
 #include <sys/auxv.h>
+#include <sys/pidfd.h>
 #include <sys/resource.h>
 #include <sys/signalfd.h>
 #include <sys/socket.h>
 #include <sys/stat.h>
 #include <sys/syscall.h>
+#include <sys/wait.h>
 #include <unistd.h>
 
 bool process_is_shut;
@@ -92,6 +94,21 @@ void process_allow_files(unsigned wanted)
     if (setrlimit(RLIMIT_NOFILE, &limit) || limit.rlim_cur < wanted)
         complain("%u files may be wanted, and %llu may be open (RLIMIT_NOFILE)", wanted,
                  (unsigned long long)limit.rlim_cur);
+}
+
+bool process_await(pid_t child, int milliseconds, int *status)
+{
+    int file = pidfd_open(child, 0), ready = -1;
+    struct pollfd its = {file, POLLIN, 0};
+    while (file >= 0 && (ready = poll(&its, 1, milliseconds)) < 0 && errno == EINTR)
+        continue;
+    if (ready != 1) {
+        kill(child, SIGKILL);
+        poll(&its, 1, REST);
+    }
+    if (file >= 0)
+        file_close(file);
+    return waitpid(child, status, ready == 1 ? 0 : WNOHANG) == child;
 }
 
 int process_end(void)

@@ -23,6 +23,10 @@ int file_of_output(void);
 /* Lets the process open this many files, and says where the machine doesn't (RLIMIT_NOFILE). */
 void process_allow_files(unsigned wanted);
 
+/* Waits until a child has ended, for `milliseconds` at most: then it is killed. Whether it has
+ * ended, and with which status. */
+bool process_await(pid_t child, int milliseconds, int *status);
+
 /* A file that has something to read once the process is to end, by SIGTERM, SIGINT or SIGHUP; -1,
  * which is said, where there can't be one. */
 int process_end(void);

@@ -9,8 +9,12 @@
 
 extern char **environ;
 
-/* Why a program that is there now doesn't run; NULL: it does. It says its version meanwhile. */
-static const char *fault_of(const char *path)
+/* Milliseconds in which both programs say their versions: the service manager wants a word of the
+ * lender before it has waited twice as long. */
+enum { SAYS_IN = 4000 };
+
+/* Why a program that is there now doesn't run; NULL: it does. It says its version until then. */
+static const char *fault_of(const char *path, int64_t until)
 {
     char *words[] = {(char *)path, "--version", NULL};
     posix_spawn_file_actions_t actions;
@@ -24,17 +28,19 @@ static const char *fault_of(const char *path)
     posix_spawn_file_actions_destroy(&actions);
     if (code != 0)
         return strerror(code);
-    bool runs =
-        waitpid(process, &status, 0) == process && WIFEXITED(status) && WEXITSTATUS(status) == 0;
+    int64_t left = until - loop_now();
+    bool runs = process_await(process, left > 0 ? (int)left : 0, &status) && WIFEXITED(status) &&
+                WEXITSTATUS(status) == 0;
     return runs ? NULL : "it doesn't say its version";
 }
 
 const char *host_upgrade(struct host *host)
 {
     static char words[MOST_WORDS];
+    int64_t until = loop_now() + SAYS_IN;
     const char *const programs[] = {host->itself, host->program};
     for (unsigned i = 0; i < sizeof programs / sizeof programs[0]; i++) {
-        const char *fault = fault_of(programs[i]);
+        const char *fault = fault_of(programs[i], until);
         if (!fault)
             continue;
         snprintf(words, sizeof words, "%s: %s", programs[i], fault);

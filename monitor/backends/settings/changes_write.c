@@ -6,11 +6,8 @@
 
 #include <errno.h>
 #include <fcntl.h>
-#include <poll.h>
-#include <signal.h>
 #include <stdio.h>
 #include <string.h>
-#include <sys/pidfd.h>
 #include <sys/stat.h>
 #include <sys/wait.h>
 #include <unistd.h>
@@ -53,17 +50,8 @@ static int write_whole(int folder, const char *name, const char *text)
 /* How the process has ended, which is killed where it takes too long; 0 or an errno. */
 static int outcome(pid_t child)
 {
-    int file = pidfd_open(child, 0), status = 0;
-    struct pollfd its = {file, POLLIN, 0};
-    int ready = -1;
-    while (file >= 0 && (ready = poll(&its, 1, WRITES_IN)) < 0 && errno == EINTR)
-        continue;
-    bool ends = ready == 1;
-    if (!ends)
-        kill(child, SIGKILL);
-    if (file >= 0)
-        file_close(file);
-    bool is_known = waitpid(child, &status, ends ? 0 : WNOHANG) == child && WIFEXITED(status);
+    int status = 0;
+    bool is_known = process_await(child, WRITES_IN, &status) && WIFEXITED(status);
     return is_known ? WEXITSTATUS(status) : ETIMEDOUT;
 }
 

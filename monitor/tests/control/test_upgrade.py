@@ -81,7 +81,10 @@ def test_one_command_upgrades_the_host_and_its_guests(program, folder, tmp_path)
     assert host.end() == 0
 
 
-@pytest.mark.parametrize("end", ("exit 1", "kill -9 $$"), ids=("status", "signal"))
+ENDS = {"status": "exit 1", "signal": "kill -9 $$", "never": "exec sleep 600"}
+
+
+@pytest.mark.parametrize("end", ENDS.values(), ids=ENDS)
 def test_a_program_that_does_not_run_upgrades_nothing(program, folder, tmp_path, end):
     installed = tmp_path / "installed"
     host = begin(install(program, installed), folder)
