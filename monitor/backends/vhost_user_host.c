@@ -188,7 +188,7 @@ static enum command_line read_words(struct host *host, struct service *service, 
         {"reserve", .read = read_percent, .at = &host->reserve},
         {"overdraft", .read = read_pages, .at = &host->lends.overdraft},
         {"patience", .read = read_patience, .at = &host->patience},
-        {"on-short", .read = read_word, .at = &host->on_short},
+        {"on-short", .read = read_shown_word, .at = &host->on_short},
         {"period", .read = read_period, .at = &host->period},
         {"cost", .read = read_number_of, .at = &host->cost},
         {"features", .read = read_features, .at = &host->features},
@@ -242,7 +242,7 @@ static bool find_program(struct host *host)
 /* Whether the folder can be shown; else says so. */
 static bool can_be_shown(const char *folder)
 {
-    return control_names(folder) || say_fault("the path of the folder isn't UTF-8");
+    return word_is_shown(folder) || say_fault("the path of the folder isn't UTF-8");
 }
 
 /* Whether a device can offer these features. */

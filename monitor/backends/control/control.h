@@ -99,9 +99,6 @@ struct control {
 /* The word for a socket by what its clients may do: control or status. */
 const char *control_socket_word(enum control_rights rights);
 
-/* Whether an answer can name this path, which has to be UTF-8. */
-bool control_names(const char *path);
-
 /* Makes the sockets; false where it can't, which is said. The options stay. */
 bool control_open(struct control *control, const struct control_options options[CONTROL_SOCKETS]);
 

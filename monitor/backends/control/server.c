@@ -25,13 +25,6 @@ const char *control_socket_word(enum control_rights rights)
     return words[rights];
 }
 
-bool control_names(const char *path)
-{
-    json_t *name = json_string(path);
-    json_decref(name);
-    return name != NULL;
-}
-
 /* Waits for these events of a file, which has a place at a socket. */
 static bool wait_for(const struct control_socket *its, int operation, int file, uint32_t events,
                      unsigned place)

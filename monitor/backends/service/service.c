@@ -37,6 +37,11 @@ bool read_config(const char *word, void *at)
     return settings_read(at, word);
 }
 
+bool read_shown_word(const char *word, void *at)
+{
+    return word_is_shown(word) && read_word(word, at);
+}
+
 bool read_socket_path(const char *word, void *at)
 {
     return !word_read(WORD_PATH, word, at);

@@ -26,7 +26,7 @@ struct service {
     }
 #define SERVICE_OPTIONS(its)                                                                       \
     {"config", .read = read_config, .at = &(its)->settings},                                       \
-        {"state", .read = read_word, .at = &(its)->settings.state},                                \
+        {"state", .read = read_shown_word, .at = &(its)->settings.state},                          \
         {"check", .read = read_word, .at = &(its)->checks},                                        \
         SOCKET_OPTIONS(its, MAY_CHANGE, "control"), SOCKET_OPTIONS(its, MAY_LOOK, "status"),       \
     {                                                                                              \
@@ -34,6 +34,7 @@ struct service {
     }
 
 bool read_config(const char *word, void *at);
+bool read_shown_word(const char *word, void *at);
 bool read_socket_path(const char *word, void *at);
 bool read_socket_mode(const char *word, void *at);
 bool read_socket_group(const char *word, void *at);

@@ -5,6 +5,7 @@
 #include "../base/numbers.h"
 
 #include <grp.h>
+#include <jansson.h>
 #include <stdlib.h>
 #include <string.h>
 
@@ -18,6 +19,13 @@
 
 /* What a size is. */
 #define A_SIZE "a number with K, M, G or T, in pages of 4K, under 16T"
+
+bool word_is_shown(const char *word)
+{
+    json_t *shown = json_string(word);
+    json_decref(shown);
+    return shown != NULL;
+}
 
 bool word_is_name(const char *name)
 {
@@ -96,6 +104,8 @@ const char *word_read(enum word_kind kind, const char *word, void *at)
 {
     switch (kind) {
     case WORD_PATH:
+        if (!word_is_shown(word))
+            return "a path in UTF-8";
         return read_text(word, word[0] == '/', at) ? NULL
                                                    : "a path from / on, of 127 bytes at most";
     case WORD_GROUP:

@@ -29,6 +29,9 @@ enum word_kind {
 /* Reads a word; NULL, or what should be there: then nothing has changed. */
 const char *word_read(enum word_kind kind, const char *word, void *at);
 
+/* Whether an answer of a control socket can have this word, which has to be UTF-8. */
+bool word_is_shown(const char *word);
+
 /* Whether a guest may have this name. */
 bool word_is_name(const char *name);
 

@@ -129,6 +129,20 @@ def test_bytes_of_others_making(program, folder, file):
     assert status == 1 and lines[0].startswith(f"{file}: line 4: budget: a size")
 
 
+def test_paths_are_in_utf_8(program, folder, file):
+    """An answer has them, and is UTF-8."""
+    good = filled(folder).replace("floor = 8M ", "on_short = /bin/true").encode()
+    for number, key in (3, b"folder"), (5, b"on_short"), (9, b"socket"):
+        file.write_bytes(re.sub(rb"(?m)^(%s = \S+)" % key, lambda it: it[1] + b"\xff", good))
+        said = f"{file}: line {number}: {key.decode()}: a path in UTF-8"
+        assert checked(program, file) == (1, [said])
+    for name in "--state", "--on-short", "--control", "--status":
+        words = (str(folder), "--budget", "480", name, b"/tmp/\xff")
+        ran = subprocess.run([program, *words], capture_output=True, timeout=PATIENCE)
+        said = ran.stderr.splitlines()[0]
+        assert (ran.returncode, said) == (2, b"%s: /tmp/\xff can't be taken" % name.encode())
+
+
 def test_a_file_that_is_read_by_a_request(configured, folder, file):
     file.write_text(filled(folder, "budget = 480M", "budget = 400M"))
     assert configured.ask("reload") == {"version": 1, "ok": True}
