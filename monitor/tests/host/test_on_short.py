@@ -1,11 +1,13 @@
 """A shortage that lasts: the operator's command is run for it once. Guests have 128 pages."""
 
 import os
+import re
 import stat
 import time
 
 import pytest
 from bigvasta.connection import Connection
+from linux_kit import ROOT
 from played import Played
 from tenants import FREE, eventually, has_ended
 from test_strict import GIVEN, STRICT, Later
@@ -107,6 +109,12 @@ def test_it_is_run_once_for_a_shortage_that_lasts(lend, come, command):
     lender.set_budget(156)
     wait_for(lender, 2, 0, True, "b")
     eventually(lambda: command.noted() == [wanted] * 2, command.noted)
+
+
+def test_the_page_names_what_it_is_told():
+    with open(f"{ROOT}/docs/man/bigvasta-host.conf.5", encoding="utf-8") as page:
+        its = re.search(r"Its environment has (.*)", page.read())[1]
+    assert {*re.findall(r"[A-Z]+_?[A-Z]{3,}", its)} == {"WANTED", "LEAST_BUDGET"}
 
 
 # Pages of a guest, and those that it waits for, which is all that is missing; and in MiB, as many
