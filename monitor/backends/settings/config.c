@@ -157,6 +157,16 @@ static void take_section(struct reader *reader, const char *line)
         guest_of(reader, name);
 }
 
+/* What a line begins with, as the parser reads it: without blanks, and the first one without a mark
+ * of its bytes' order. */
+static const char *beginning(const struct reader *reader, const char *line)
+{
+    static const char mark[] = "\xef\xbb\xbf";
+    if (reader->line == 1 && !strncmp(line, mark, strlen(mark)))
+        line += strlen(mark);
+    return line + strspn(line, " \t");
+}
+
 /* The next line for the parser, which doesn't count them itself. One that it can't take is a fault,
  * and empty. */
 static char *next_line(char *bytes, int room, void *context)
@@ -174,8 +184,8 @@ static char *next_line(char *bytes, int room, void *context)
     bytes[whole ? length : 1] = 0;
     if (!whole)
         fault(reader, "", "a line has 189 bytes at most, and none of them is 0");
-    else if (line[0] == '[')
-        take_section(reader, bytes);
+    else if (beginning(reader, bytes)[0] == '[')
+        take_section(reader, beginning(reader, bytes));
     return bytes;
 }
 

@@ -391,6 +391,22 @@ def test_as_many_guests_as_there_can_be(program, folder, file):
     assert (host.status()["guests"], host.end()) == (64, 0)
 
 
+@pytest.mark.parametrize("before", ("", " ", "\t ", "\ufeff"), ids=ascii)
+def test_a_section_may_begin_after_blanks(program, folder, file, before):
+    """Or after the mark that some editors begin a file with: a guest of no keys is there, too."""
+    file.write_text(f"{before}[guest web-0]\n{before.strip(chr(0xFEFF))}{filled(folder)}")
+    host = Host(program, folder, "--config", str(file))
+    host.lines.next(patience_from_now())
+    names = [it["name"] for it in host.ask("status")["guests"]]
+    assert (names, host.end()) == (["web-0", "web-1", "web-2"], 0)
+    file.write_text(f"{before}[hosts]\n{filled(folder)}")
+    host = Host(program, folder, "--config", str(file))
+    assert host.process.wait(PATIENCE) == 2
+    said = f"{file}: line 1: the sections are [host], [control], [status], [log] and [guest NAME]"
+    assert said in host.said()
+    host.end()
+
+
 def test_a_guest_is_served_where_its_lines_have_no_bound(program, folder, file):
     file.write_text(filled(folder, "lines = 2000", "lines = 4294967294"))
     host = Host(program, folder, "--config", str(file))
