@@ -65,6 +65,7 @@
  * --leave: signals end the lender alone, as the line `leave` does: a service that restarts takes
  * its guests over.
  */
+#include "base/notify.h"
 #include "base/options.h"
 #include "lender/host.h"
 #include "service/service.h"
@@ -307,6 +308,7 @@ int main(int count, char **words)
     host.end = process_end();
     if (host.end < 0 || !machine_begin(&host))
         return 2;
+    notify_ready();
     fputs("ready\n", host.answers.out);
     answers_send(&host.answers);
     host_run(&host);

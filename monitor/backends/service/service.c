@@ -181,7 +181,6 @@ bool service_begin(struct service *service, struct host *host, const char *folde
     service->every = words_every();
     service->control.settings = settings;
     host->service = (struct loop_part){service, waits, turn};
-    notify_ready();
     return true;
 }
 

@@ -44,8 +44,7 @@ bool read_log_level(const char *word, void *at);
 void service_defaults(struct service *service);
 
 /* Opens the control sockets of a host whose folder this is, adds the guests of the configuration,
- * and takes part in the host's loop; false where it can't, which is said. Then the service manager
- * is told that the host is ready. */
+ * and takes part in the host's loop; false where it can't, which is said. */
 bool service_begin(struct service *service, struct host *host, const char *folder);
 
 /* The process is to become another program of the host: that one finds the control sockets where

@@ -3,6 +3,7 @@
 import threading
 import time
 
+import pytest
 from hosts import Answering
 from test_service import manager
 from vhost_client import PAGE, Client
@@ -27,6 +28,17 @@ def test_a_watchdog_hears_of_a_host_for_which_nothing_is_due(program, folder, ma
         manager.until("WATCHDOG")
     assert 0.6 < time.monotonic() - begin < PATIENCE
     assert host.end() == 0
+
+
+def test_a_host_that_does_not_start_is_not_ready(program, folder, manager):
+    """As it can't read what the machine leaves, which it looks at last."""
+    words = (str(folder), "--budget", "480", "--keep", "10", "--machine", str(folder))
+    host = manager.start(program, folder, *words)
+    assert host.process.wait(PATIENCE) == 2
+    manager.socket.setblocking(False)
+    with pytest.raises(BlockingIOError):
+        manager.until("READY")
+    host.end()
 
 
 def test_a_manager_is_told_of_guests_their_memory_and_waits(program, folder, manager):
