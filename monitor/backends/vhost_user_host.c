@@ -69,7 +69,7 @@
 #include "base/options.h"
 #include "lender/host.h"
 #include "service/service.h"
-#include "settings/config_words.h"
+#include "settings/config_keys.h"
 
 #include <unistd.h>
 
@@ -162,6 +162,30 @@ static void take_config(struct host *host, const struct config *config)
         host->period = config->fixed.period > 0 ? config->fixed.period : PERIOD;
 }
 
+/* What is so of keys of which a file says nothing: as the command line says, or as usual. */
+static void note_usual(const struct host *host, struct config *usual)
+{
+    static struct config none;
+    static struct host without;
+    config_clear(&none);
+    without = *host;
+    take_config(&without, &none);
+    usual->keep = without.machine.keep, usual->lowest_budget = without.machine.lowest;
+    usual->overdraft = without.lends.overdraft, usual->floor = without.floor;
+    usual->patience = without.patience, usual->reserve = without.reserve;
+    usual->step = without.step, usual->strict = without.strict;
+    usual->says |=
+        UINT32_C(1) << KEY_KEEP | UINT32_C(1) << KEY_LOWEST_BUDGET | UINT32_C(1) << KEY_OVERDRAFT |
+        UINT32_C(1) << KEY_FLOOR | UINT32_C(1) << KEY_PATIENCE | UINT32_C(1) << KEY_RESERVE |
+        UINT32_C(1) << KEY_STEP | UINT32_C(1) << KEY_STRICT | UINT32_C(1) << KEY_ON_SHORT;
+    if (without.on_short && strlen(without.on_short) < MOST_CONFIG_WORD)
+        strcpy(usual->on_short, without.on_short);
+    if (without.budget == 0)
+        return;
+    usual->budget = without.budget;
+    usual->says |= UINT32_C(1) << KEY_BUDGET;
+}
+
 static const char help[] =
     "vhost_user_host FOLDER --budget MIB [--guests N] [--keep MIB] [--lowest-budget MIB] "
     "[--machine FOLDER] "
@@ -215,6 +239,7 @@ static enum command_line read_words(struct host *host, struct service *service, 
     if (service->checks)
         return line;
     settings_take(&service->settings);
+    note_usual(host, &service->settings.usual);
     take_config(host, &service->settings.config);
     if (line == LINE_READ)
         settings_recall(&service->settings, host);

@@ -59,10 +59,13 @@ void *key_value(const struct key *key, void *whole)
     return (char *)whole + key->at;
 }
 
-/* Bytes of a value that is no text: no text can change. */
+/* Bytes of a value. */
 static size_t size_of(const struct key *key)
 {
     switch (key->kind) {
+    case WORD_PATH:
+    case WORD_GROUP:
+        return MOST_CONFIG_WORD;
     case WORD_LIMIT:
         return sizeof(struct guest_limit);
     case WORD_BOOLEAN:

@@ -16,7 +16,7 @@ enum { MOST_FAULT = 256, USUAL_MODE = 0660 };
 
 void settings_defaults(struct settings *settings)
 {
-    config_clear(&settings->config);
+    config_clear(&settings->config), config_clear(&settings->usual);
     settings->level = settings->lines = UINT32_MAX;
     for (unsigned i = 0; i < CONTROL_SOCKETS; i++)
         settings->sockets[i].mode = UINT32_MAX;
@@ -49,6 +49,9 @@ void settings_take(struct settings *settings)
     uint32_t level = settings->level, lines = settings->lines;
     for (unsigned i = 0; i < CONTROL_SOCKETS; i++)
         take_socket(&config->fixed.sockets[i], &settings->sockets[i]);
+    settings->usual.level = level != UINT32_MAX ? level : LEVEL_INFO;
+    settings->usual.lines = lines != UINT32_MAX ? lines : most_lines;
+    settings->usual.says |= UINT32_C(1) << KEY_LEVEL | UINT32_C(1) << KEY_LINES;
     settings->level = LEVEL_INFO;
     speak(settings, config->level, config->lines);
     speak(settings, level, lines);
@@ -75,13 +78,36 @@ static void keep_first(enum saying saying, const char *words)
     say_through = keep_first;
 }
 
+/* What is to be by a file that is read again: what it says; what is so without a file of what the
+ * old one said and it doesn't; and what was changed beside it. */
+static void put_whole(const struct settings *settings, const struct config *config,
+                      struct config *whole)
+{
+    const struct config *usual = &settings->usual;
+    uint32_t gone = settings->config.says & ~config->says & usual->says;
+    config_copy(whole, config);
+    for (unsigned i = 0; i < CONFIG_KEYS; i++)
+        if (config_says(gone, i))
+            key_copy(&config_keys[i], whole, usual);
+    whole->says |= gone;
+    changes_put_over(&settings->changes, whole);
+}
+
+static bool lacks_budget(const char *file)
+{
+    return say_fault("%s: budget of [host]: it isn't said: what all guests may hold together, as "
+                     "budget = 8G",
+                     file);
+}
+
 /* Whether a configuration can take the place of the old one; else says why not. */
 static bool can_replace(const struct settings *settings, const struct config *config)
 {
     const char *section, *key;
     static struct config whole;
-    config_copy(&whole, config);
-    changes_put_over(&settings->changes, &whole);
+    put_whole(settings, config, &whole);
+    if (settings->config.budget != UINT32_MAX && whole.budget == UINT32_MAX)
+        return lacks_budget(settings->file);
     if (!apply_fits(settings->file, &whole, settings->host))
         return false;
     return config_stays(&settings->config, config, &section, &key) ||
@@ -96,9 +122,9 @@ static void take_again(struct settings *settings)
         say_fault("%s: the old configuration stays", settings->file);
         return;
     }
-    config_copy(&settings->config, &config), config_copy(&whole, &config);
-    speak(settings, config.level, config.lines);
-    changes_put_over(&settings->changes, &whole);
+    put_whole(settings, &config, &whole);
+    config_copy(&settings->config, &config);
+    speak(settings, whole.level, whole.lines);
     apply_sizes(settings->file, settings->host, &whole);
     apply_guests(settings->file, &whole, &config, settings->host);
     say_news("%s: read again", settings->file);
@@ -122,11 +148,7 @@ static bool is_enough(const char *file, const struct config *config, const struc
 {
     bool good = host->folder || config->fixed.folder[0] ||
                 say_fault("%s: folder of [host]: it isn't said: where the sockets are", file);
-    return (host->budget > 0 || config->budget != UINT32_MAX ||
-            say_fault("%s: budget of [host]: it isn't said: what all guests may hold together, as "
-                      "budget = 8G",
-                      file)) &&
-           good;
+    return (host->budget > 0 || config->budget != UINT32_MAX || lacks_budget(file)) && good;
 }
 
 bool settings_check(const struct settings *settings, const char *file, const struct host *host)

@@ -9,6 +9,7 @@ struct settings {
     const char *file;     /* of the configuration; NULL: none */
     const char *state;    /* the folder of what was changed; NULL: none */
     struct config config; /* what the file says */
+    struct config usual;  /* what is so of the keys of the host's of which it says nothing */
     struct changes changes;
     struct audit audit;
     struct config_socket sockets[CONTROL_SOCKETS]; /* as they are */

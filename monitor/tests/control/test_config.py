@@ -7,6 +7,7 @@ import signal
 import socket
 
 import pytest
+from bigvasta.statuses import Refused
 from hosts import Answering, Host
 
 MIB = 1 << 20
@@ -526,6 +527,43 @@ def test_a_file_that_is_read_anew(configured, folder, file):
     # A guest that the file doesn't name any longer stays: a reload ends nobody's service.
     assert [it["name"] for it in configured.ask("status")["guests"]] == ["web-1", "web-2", "web-3"]
     assert configured.status()["floor"] == 0
+
+
+# Keys that change while a host runs.
+KEYS = """keep = 1M
+lowest_budget = 40M
+floor = 3M
+reserve = 7
+overdraft = 2M
+strict = yes
+step = 7
+patience = 7
+on_short = /bin/true
+
+[log]
+level = notice
+lines = 7
+"""
+
+
+@pytest.mark.parametrize("options", ((), ("--reserve", "9", "--on-short", "/bin/false")))
+def test_a_key_that_is_taken_out_is_as_without_it(program, folder, file, options):
+    """As the command line says, or as usual; no host is without a budget."""
+    bare = f"[host]\nfolder = {folder}\nbudget = 480M\n"
+    file.write_text(bare)
+    host = Host(program, folder, "--config", str(file), *options)
+    host.lines.next(patience_from_now())
+    before = host.ask("config")["config"]
+    file.write_text(bare + KEYS)
+    assert host.ask("reload")["ok"]
+    assert {*KEYS.splitlines()} <= {*host.ask("config")["config"].splitlines()}
+    file.write_text(bare)
+    assert host.ask("reload")["ok"]
+    assert host.ask("config")["config"] == before
+    file.write_text(bare.replace("budget = 480M", "floor = 3M"))
+    with pytest.raises(Refused, match="budget of .host.: it isn't said"):
+        host.ask("reload")
+    assert (host.ask("config")["config"], host.end()) == (before, 0)
 
 
 def test_guests_are_as_strict_as_the_file_says(program, folder, file):
