@@ -2,10 +2,12 @@
 
 #include "config_text.h"
 
+#include "../base/loop.h"
 #include "../base/say.h"
 
 #include <errno.h>
 #include <fcntl.h>
+#include <poll.h>
 #include <stdio.h>
 #include <stdlib.h>
 #include <string.h>
@@ -15,6 +17,9 @@
 
 /* Bytes of the file of changes: all terms of a guest take no more than its part. */
 enum { PART_OF_GUEST = 512, MOST_CHANGES = PART_OF_GUEST * MOST_CHANGED_GUESTS };
+
+/* Milliseconds in which a process ends whose lender was killed, and between two looks for that. */
+enum { ENDS_IN = 2000, APART = 10 };
 
 static const char file_name[] = "changes.conf",
                   file_begin[] =
@@ -64,6 +69,19 @@ static char *read_file(int folder, size_t *length, const char **why)
     return *why ? NULL : bytes;
 }
 
+/* Takes the folder's lock; false with errno where another host has it. The process that writes has
+ * it a moment longer than a lender that was killed amid that. */
+static bool lock_folder(int folder)
+{
+    int64_t until = loop_now() + ENDS_IN;
+    while (flock(folder, LOCK_EX | LOCK_NB)) {
+        if (errno != EWOULDBLOCK || loop_now() >= until)
+            return false;
+        poll(NULL, 0, APART);
+    }
+    return true;
+}
+
 /* Opens the folder; NULL, or why it can't be the lender's. */
 static const char *open_folder(struct changes *changes, bool locks)
 {
@@ -72,7 +90,7 @@ static const char *open_folder(struct changes *changes, bool locks)
     if (changes->folder < 0 || fstat(changes->folder, &its))
         return strerror(errno);
     const char *why = owner_fault(&its);
-    if (why || !locks || !flock(changes->folder, LOCK_EX | LOCK_NB))
+    if (why || !locks || lock_folder(changes->folder))
         return why;
     return errno == EWOULDBLOCK ? "it is another host's" : strerror(errno);
 }

@@ -6,8 +6,10 @@
 
 #include <errno.h>
 #include <fcntl.h>
+#include <signal.h>
 #include <stdio.h>
 #include <string.h>
+#include <sys/prctl.h>
 #include <sys/stat.h>
 #include <sys/wait.h>
 #include <unistd.h>
@@ -57,8 +59,11 @@ static int outcome(pid_t child)
 
 const char *changes_write(int folder, const char *name, const char *text)
 {
-    pid_t child = fork();
+    pid_t lender = getpid(), child = fork();
     if (child == 0) {
+        /* It has the folder's lock, too, which the next lender waits for. */
+        if (prctl(PR_SET_PDEATHSIG, SIGKILL) || getppid() != lender)
+            _exit(ESRCH);
         dup2(folder, STDIN_FILENO);
         close_range(STDIN_FILENO + 1, ~0U, 0);
         _exit(write_whole(STDIN_FILENO, name, text));

@@ -3,10 +3,12 @@ taken, and harms nothing."""
 
 import os
 import shutil
+import signal
+import time
 
 import pytest
 from bigvasta.statuses import Refused
-from hosts import Host
+from hosts import Host, Raw, say
 from keeping import MIB, terms
 from waiting import patience_from_now
 
@@ -136,3 +138,38 @@ def test_two_hosts_do_not_share_a_folder(kept, program, folder):
     assert host.lines.next(patience_from_now()) == "ready"
     assert any("it is another host's" in it for it in host.said())
     assert host.end() == 0
+
+
+def stopped_writer(process):
+    """Stops a child of a process that has no files but those that it writes, if one is caught;
+    returns its number, or None."""
+    try:
+        with open(f"/proc/{process}/task/{process}/children", encoding="ascii") as children:
+            (found,) = map(int, children.read().split())
+        os.kill(found, signal.SIGSTOP)
+        with open(f"/proc/{found}/stat", encoding="ascii") as its:
+            state = its.read().rsplit(")", 1)[1].split()[0]
+        if state == "T" and len(os.listdir(f"/proc/{found}/fd")) <= 2:
+            return found
+        os.kill(found, signal.SIGCONT)
+    except (ValueError, ProcessLookupError, FileNotFoundError):
+        pass
+    return None
+
+
+def test_a_lender_that_is_killed_amid_a_write_leaves_what_was_changed(kept):
+    """Though the process that writes stands still: it has the lock of the folder, too."""
+    kept.host.ask("budget", bytes=300 * MIB)
+    raw, end, stopped = Raw(kept.host.control), patience_from_now(), None
+    while not stopped:
+        assert time.monotonic() < end, "no process that writes is caught"
+        raw.socket.sendall(say(request="floor", bytes=MIB) + b"\n")
+        for _ in range(200):
+            stopped = stopped or stopped_writer(kept.host.process.pid)
+        assert stopped or raw.lines.readline()
+    kept.host.process.kill()
+    assert kept.host.end() == -signal.SIGKILL
+    raw.close()
+    host = kept.start()
+    assert host.status()["budget"] == 300 * MIB, host.said()
+    assert host.ask("budget", bytes=MIB)["lasts"]
