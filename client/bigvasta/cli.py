@@ -1,7 +1,6 @@
 """The command line: one subcommand a module of `commands`."""
 
 import argparse
-import os
 import sys
 
 from bigvasta import __version__
@@ -9,7 +8,7 @@ from bigvasta.commands import MODULES
 from bigvasta.connection import CONTROL, STATUS
 from bigvasta.statuses import DONE, TABLE, Fault, Refused, Usage
 from bigvasta.subcommands import Subcommands
-from bigvasta.words import plain
+from bigvasta.words import open_streams, plain, silence
 
 
 def parser():
@@ -50,6 +49,7 @@ def about(asked, fault):
 
 def main(words):
     """Runs the command line; returns the exit status."""
+    open_streams()
     asked = parser().parse_args(words)
     if "control" in asked:
         asked.control = asked.control or (CONTROL if asked.changes(asked) else STATUS)
@@ -62,6 +62,5 @@ def main(words):
     except KeyboardInterrupt:
         return DONE
     except BrokenPipeError:
-        # Who read the output has gone: Python would say so once more as it ends.
-        os.dup2(os.open(os.devnull, os.O_WRONLY), sys.stdout.fileno())
+        silence()  # who read the output has gone
         return DONE

@@ -8,7 +8,7 @@ TABLE = """exit statuses:
   1  the host refused, and nothing has changed; of plan --check: the replay differs
   2  the command line is wrong
   3  no host answers: it isn't running, or its socket may not be opened
-  4  the host's answer isn't understood, or it went away amid an answer
+  4  the host's answer isn't understood or can't be written, or it went away amid an answer
   5  in part: of upgrade, a guest's process stays as it was; of fleet, a host doesn't answer"""
 
 

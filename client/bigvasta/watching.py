@@ -3,11 +3,13 @@
 import curses
 import json
 import locale
+import sys
 import time
 
 from bigvasta.connection import Connection
 from bigvasta.picture import BLOCKS, PLAIN, SORTS, Shown, picture
 from bigvasta.source import Source
+from bigvasta.statuses import Usage
 from bigvasta.words import plain, say
 
 ESCAPE = 27
@@ -64,9 +66,17 @@ def obey(key, shown, guests):
     return shown
 
 
+def hide_cursor():
+    """Hides the cursor, where the terminal can."""
+    try:
+        curses.curs_set(0)
+    except curses.error:
+        pass  # as vt100
+
+
 def show(screen, source, interval):
     """Shows the host until a key ends it."""
-    curses.curs_set(0)
+    hide_cursor()
     looks = styles()
     is_utf8 = "UTF" in locale.nl_langinfo(locale.CODESET).upper()
     shown, look = Shown(blocks=BLOCKS if is_utf8 else PLAIN), time.monotonic()
@@ -81,12 +91,24 @@ def show(screen, source, interval):
                 source.look()
 
 
+def take_locale():
+    """Takes the user's locale: where this machine has none of its name, the picture is in ASCII."""
+    try:
+        locale.setlocale(locale.LC_ALL, "")
+    except locale.Error:
+        pass
+
+
 def watch(path, interval):
     """Shows the host in the terminal."""
-    locale.setlocale(locale.LC_ALL, "")
+    if not (sys.stdin.isatty() and sys.stdout.isatty()):
+        raise Usage("watch wants a terminal: --json prints a line at each look instead")
+    take_locale()
     source = Source(path)
     source.ask()
     try:
         curses.wrapper(show, source, interval)
+    except curses.error as fault:
+        raise Usage(f"watch can't be shown by this terminal: {fault}") from None
     finally:
         source.close()

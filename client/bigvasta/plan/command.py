@@ -23,7 +23,7 @@ from bigvasta.plan import (
 from bigvasta.plan.lender import Terms
 from bigvasta.sizes import PAGE, parse_size
 from bigvasta.statuses import DONE, REFUSED, Usage
-from bigvasta.words import say
+from bigvasta.words import say, write
 
 MOST_GUESTS, LEAST_HOURS, MOST_HOURS, MOST_STEPS = 1000000, 0.01, 24 * 31, 1000
 MOST_HOSTS, MOST_PLACES, MOST_PROMISE, MOST_PROCESSES = 100000, 1000, 100, 1024
@@ -79,8 +79,7 @@ def demand_make(asked):
 def run_make(asked):
     """Prints a day."""
     demand_make(asked)
-    for line in making.make(asked.make, asked.seed, asked.hours):
-        print(line)
+    write(f"{line}\n" for line in making.make(asked.make, asked.seed, asked.hours))
 
 
 def terms_of(asked, frames, least):

@@ -308,3 +308,37 @@ def test_a_reader_that_goes_ends_it(host):
         timeout=PATIENCE,
     )
     assert ran.stderr == ""
+
+
+FULL = "bigvasta: standard output: No space left on device\n"
+NO_TERMINAL = "bigvasta: watch wants a terminal: --json prints a line at each look instead\n"
+
+# What a shell has run, with streams that are closed, full or no terminal; its exit status; and what
+# is said on standard error. Standard output has nothing.
+STREAMS = (
+    ("status >&-", 0, ""),
+    ("status >/dev/full", 4, FULL),
+    ("status --json >/dev/full", 4, FULL),
+    ("budget 400M >/dev/full", 4, FULL),
+    ("watch --json >/dev/full", 4, FULL),
+    ("status 2>&- >/dev/full", 4, ""),
+    ("status --control /none 2>&-", 3, ""),
+    ("budget 400M <&- >&- 2>&-", 0, ""),
+    ("watch", 2, NO_TERMINAL),
+    ("watch <&-", 2, NO_TERMINAL),
+)
+
+
+@pytest.mark.parametrize(("words", "status", "said"), STREAMS)
+def test_streams_that_are_closed_or_full(host, words, status, said):
+    host.ask("budget", bytes=480 * MIB)
+    ran = subprocess.run(
+        ["/bin/sh", "-c", f"exec /usr/bin/python3 -B -m bigvasta {words}"],
+        stdin=subprocess.DEVNULL,
+        capture_output=True,
+        text=True,
+        env={**os.environ, "PYTHONPATH": CLIENT, "BIGVASTA_CONTROL": host.control},
+        timeout=PATIENCE,
+    )
+    assert (ran.returncode, ran.stdout, ran.stderr) == (status, "", said)
+    assert host.status()["budget"] == (400 if "400M" in words else 480) * MIB

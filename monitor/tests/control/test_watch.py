@@ -22,7 +22,7 @@ class Terminal:
     """A terminal of 100 columns and 14 lines with a server of its own, in which the client program
     runs."""
 
-    def __init__(self, folder, control, *words, locale="C.UTF-8"):
+    def __init__(self, folder, control, *words, locale="C.UTF-8", kind="screen-256color"):
         self.socket = f"{folder}/.tmux"
         # No daemon, so that it ends with this process, however this one ends.
         self.server = subprocess.Popen(
@@ -45,6 +45,7 @@ class Terminal:
             "env",
             f"PYTHONPATH={CLIENT}",
             f"LC_ALL={locale}",
+            f"TERM={kind}",
             "/usr/bin/python3",
             "-B",
             "-m",
@@ -163,11 +164,17 @@ def test_guests_keys_and_sizes(host, arrive, terminal):
     shows(terminal, "ended with 0")
 
 
-def test_a_terminal_without_utf8(host, opened):
-    terminal = opened(host.control, locale="C")
+# A locale without UTF-8, one that this machine doesn't have, and a terminal that can't hide its
+# cursor.
+POOR = ({"locale": "C"}, {"locale": "xx_YY.UTF-8"}, {"locale": "C", "kind": "vt100"})
+
+
+@pytest.mark.parametrize("options", POOR)
+def test_a_terminal_without_utf8(host, opened, options):
+    terminal = opened(host.control, **options)
     shows(terminal, "# held  = of it spare  . lent  | left by the target   q quit  s sort  p pause")
     terminal.key("C-c")
-    shows(terminal, "ended with 0")
+    shows(terminal, "ended with 0..")  # of vt100 the last line stays
 
 
 def test_a_host_that_goes_and_comes_back(program, folder, opened):
@@ -185,6 +192,12 @@ def test_a_host_that_goes_and_comes_back(program, folder, opened):
     terminal.key("q")
     shows(terminal, "ended with 0")
     assert host.end() == 0
+
+
+def test_a_terminal_that_is_not_known(host, opened):
+    terminal = opened(host.control, kind="none-of-those")
+    shows(terminal, "bigvasta: watch can't be shown by this terminal: setupterm: ..")
+    shows(terminal, "ended with 2")
 
 
 def test_no_host(folder, opened):

@@ -1,8 +1,12 @@
 """Days that are made by chances that a test has chosen, worked out with a pencil."""
 
+import subprocess
+
 import pytest
 from bigvasta.plan import making
 from bigvasta.sizes import MIB, PAGE
+from planner import words_of
+from waiting import PATIENCE
 
 GIB = 1 << 30
 
@@ -100,3 +104,13 @@ def test_worked_out(monkeypatch, name):
         f"guest-1,{at:.1f},{size},{available},{free}"
         for (at, *_), (size, available, free) in zip(rows, bytes_of)
     ]
+
+
+def test_a_day_that_finds_no_room():
+    words, environment = words_of("--make", "3")
+    with open("/dev/full", "wb") as full:
+        ran = subprocess.run(
+            words, stdout=full, stderr=subprocess.PIPE, env=environment, timeout=PATIENCE
+        )
+    said = b"bigvasta: standard output: No space left on device\n"
+    assert (ran.returncode, ran.stderr) == (4, said)
