@@ -10,11 +10,11 @@ EXAMPLE = """example: a day that is made, and the budget that its guests need
   bigvasta plan --make 30 --seed 1 > day.csv
   bigvasta plan day.csv --floor 12M --wait-seconds 60 --draw day.svg
 
-A recording is CSV, with a line of column names: guest, seconds, size, and used or available
-(bytes); or Prometheus' answer to query_range of bigvasta_guest_memory_bytes,
-bigvasta_guest_available_bytes and bigvasta_guest_ballooned_bytes. For --check it has
-bigvasta_budget_bytes, too, and of each guest loan_bytes, asked_bytes, granted_bytes_total and
-waiting_seconds.
+A recording is CSV, with a line of column names: guest, seconds, size, free, and used or available
+(bytes; free may be empty); or Prometheus' answer to query_range of bigvasta_guest_memory_bytes,
+bigvasta_guest_available_bytes, bigvasta_guest_free_bytes and bigvasta_guest_ballooned_bytes. For
+--check it has bigvasta_budget_bytes, too, and of each guest loan_bytes, asked_bytes,
+granted_bytes_total and waiting_seconds.
 
 a fleet: how often 100 hosts of 24G may promise that to 3000 guests
   bigvasta plan --fleet 100 --budget 24G --make 3000 --promises 1.5..2 --steps 5"""

@@ -2,7 +2,7 @@
 matrix, a series of values for each metric of a guest."""
 
 import json
-import math
+import sys
 from typing import NamedTuple
 
 import pandas
@@ -15,6 +15,9 @@ from bigvasta.statuses import Usage
 
 # Prometheus rounds times to milliseconds: what two values may be apart beyond a step.
 TOLERANCE = 0.0015
+
+# The greatest moment that can be one: JSON may have any number of digits, and no number.
+MOST = sys.float_info.max
 
 
 class Key(NamedTuple):
@@ -38,11 +41,10 @@ def result_of(path, text):
         answer = json.loads(text)
     except (ValueError, RecursionError) as fault:
         raise Usage(f"{path}: this is no JSON: {fault}") from None
-    if answer.get("status") != "success":
-        raise Usage(
-            f"{path}: this is no answer of success: {answer.get('error', 'it has no status')}"
-        )
-    data = answer.get("data")
+    its = answer if isinstance(answer, dict) else {}
+    if its.get("status") != "success":
+        raise Usage(f"{path}: this is no answer of success: {its.get('error', 'it has no status')}")
+    data = its.get("data")
     kind, series = (
         data.get(it) if isinstance(data, dict) else None for it in ("resultType", "result")
     )
@@ -56,7 +58,7 @@ def point(place, found):
     pair = found if isinstance(found, list) and len(found) == 2 else (None, None)
     if (
         type(pair[0]) not in (int, float)
-        or not math.isfinite(pair[0])
+        or not abs(pair[0]) <= MOST
         or not isinstance(pair[1], str)
     ):
         raise Usage(f"{place}: {json.dumps(found)} is no pair of a time and a value")
@@ -71,7 +73,7 @@ def labels_of(place, found):
     if not isinstance(labels, dict) or not isinstance(values, list) or not values:
         raise Usage(f"{place} has no labels, or no values")
     metric, guest = labels.get("__name__"), labels.get("guest")
-    if metric not in KNOWN:
+    if not isinstance(metric, str) or metric not in KNOWN:
         raise Usage(f"{place}: the metric {metric!r} is none of {', '.join(KNOWN)}")
     if metric in BUDGET:
         guest = ""

@@ -2,11 +2,17 @@
 guest, series and moment."""
 
 import json
+import os
+import re
 
 import pytest
+from bigvasta.commands.plan import EXAMPLE
 from bigvasta.plan.days import Recorded, Use
-from bigvasta.plan.reading import read
+from bigvasta.plan.lending import read_lending
+from bigvasta.plan.metrics import CELLS, KNOWN
+from bigvasta.plan.reading import COLUMNS, MEASURES, read
 from bigvasta.statuses import Usage
+from linux_kit import ROOT
 
 METRICS = {
     "size": "bigvasta_guest_memory_bytes",
@@ -135,6 +141,10 @@ REFUSED = (
     ),
     (answer([series(None, "size", 1)]), ": series 1 has no label guest"),
     (
+        answer([{"metric": {"__name__": ["x"]}, "values": [[1, "1"]]}]),
+        f": series 1: the metric ['x'] is none of {', '.join(KNOWN)}",
+    ),
+    (
         answer(replaced("size", 1, [115, 4096])),
         ": bigvasta_guest_memory_bytes of a: [115, 4096] is no pair of a time and a value",
     ),
@@ -145,6 +155,10 @@ REFUSED = (
     (
         answer(replaced("size", 1, [float("nan"), "1"])),
         ': bigvasta_guest_memory_bytes of a: [NaN, "1"] is no pair of a time and a value',
+    ),
+    (
+        answer(replaced("size", 1, [10**400, "1"])),
+        f': bigvasta_guest_memory_bytes of a: [1{"0" * 400}, "1"] is no pair of a time and a value',
     ),
     (
         answer(replaced("available", 1, [99, "1"])),
@@ -218,3 +232,21 @@ def test_refusals(tmp_path, library, text, words):
     with pytest.raises(Usage) as refused:
         read(library, str(path))
     assert str(refused.value) == f"{path}{words}"
+
+
+@pytest.mark.parametrize("text", ("[1]", "3", "null", '"x"'))
+def test_json_that_is_no_object(tmp_path, text):
+    path = tmp_path / "day.json"
+    path.write_text(text)
+    with pytest.raises(Usage) as refused:
+        read_lending(str(path))
+    assert str(refused.value) == f"{path}: this is no answer of success: it has no status"
+
+
+def test_the_pages_name_what_a_recording_has_to_have():
+    with open(os.path.join(ROOT, "docs", "man", "bigvasta.1"), encoding="utf-8") as file:
+        page = file.read().partition('plan " \\fIFILE')[2].partition(".TP")[0]
+    for said in (page, EXAMPLE):
+        columns = re.search(r"guest, seconds,[^;(]*", said)[0]
+        assert set(re.findall(r"\w+", columns)) >= {*COLUMNS, *MEASURES}, columns
+        assert set(re.findall(r"\w+", said)) >= CELLS.keys()
