@@ -111,10 +111,13 @@ def test_it_is_run_once_for_a_shortage_that_lasts(lend, come, command):
     eventually(lambda: command.noted() == [wanted] * 2, command.noted)
 
 
-def test_the_page_names_what_it_is_told():
-    with open(f"{ROOT}/docs/man/bigvasta-host.conf.5", encoding="utf-8") as page:
-        its = re.search(r"Its environment has (.*)", page.read())[1]
-    assert {*re.findall(r"[A-Z]+_?[A-Z]{3,}", its)} == {"WANTED", "LEAST_BUDGET"}
+@pytest.mark.parametrize("page", ("HOST.md", "man/bigvasta-host.conf.5"))
+def test_its_page_names_its_environment(page):
+    with open(f"{ROOT}/docs/{page}", encoding="utf-8") as file:
+        about = re.search(r"Its environment has.*|`on_short` is run once(?s:.*?)\n- ", file.read())[
+            0
+        ]
+    assert set(re.findall(r"\b[A-Z_]{3,}\b", about)) - {"MIB"} == {"PATH", "WANTED", "LEAST_BUDGET"}
 
 
 # Pages of a guest, and those that it waits for, which is all that is missing; and in MiB, as many
