@@ -80,7 +80,10 @@ def examples(name):
             yield shlex.split(command), lines
 
 
-def test_what_the_page_of_the_client_shows(host, folder):
+def test_what_the_page_of_the_client_shows(program, folder, tmp_path):
+    """Of a host with a folder for what is changed, as the package has it."""
+    host = Host(program, folder, str(folder), "--budget", "480", "--state", str(tmp_path))
+    assert host.lines.next(patience_from_now()) == "ready"
     shown = list(examples("bigvasta.1"))
     assert len(shown) >= 5
     for (program, *words), lines in shown:
@@ -94,6 +97,7 @@ def test_what_the_page_of_the_client_shows(host, folder):
         )
         assert (ran.returncode, ran.stderr) == (0, ""), (words, ran)
         assert ran.stdout.replace(str(folder), "/run/bigvasta").splitlines() == lines, words
+    assert host.end() == 0
 
 
 def test_what_the_page_of_the_host_shows(program, folder):
