@@ -1,5 +1,6 @@
 //! A guest's doorbell. Nothing is claimed of what it holds.
 
+use std::mem::replace;
 use std::sync::{Condvar, Mutex, Wait};
 
 #[derive(Drop)]
@@ -8,6 +9,8 @@ struct Rings {
     rings: u64,
     /// Processors that still run.
     running: u32,
+    /// Whether the worker sleeps, and nobody has woken it.
+    sleeps: bool,
 }
 
 /// What wakes a guest's worker.
@@ -30,7 +33,11 @@ impl Bell {
     /// A doorbell that wasn't rung, of a guest with `running` running processors.
     pub fn new(running: u32) -> Bell {
         Bell {
-            rings: Mutex::new(Rings { rings: 0, running }),
+            rings: Mutex::new(Rings {
+                rings: 0,
+                running,
+                sleeps: false,
+            }),
             rung: Condvar::new(),
         }
     }
@@ -39,20 +46,32 @@ impl Bell {
     pub fn ring<R: Wait>(&self, rt: &R) {
         let mut rings = self.rings.lock(rt);
         rings.rings = rings.rings.saturating_add(1);
-        self.rung.notify_all();
+        let sleeps = replace(&mut rings.sleeps, false);
+        drop(rings);
+        self.wake(sleeps);
     }
 
     /// One processor less runs.
     pub fn sign_off<R: Wait>(&self, rt: &R) {
         let mut rings = self.rings.lock(rt);
         rings.running = rings.running.saturating_sub(1);
-        self.rung.notify_all();
+        let sleeps = replace(&mut rings.sleeps, false);
+        drop(rings);
+        self.wake(sleeps);
     }
 
-    /// Waits for a ring after the first `seen`, or until no processor runs.
+    /// Wakes the worker if it sleeps.
+    fn wake(&self, sleeps: bool) {
+        if sleeps {
+            self.rung.notify_one();
+        }
+    }
+
+    /// Waits for a ring after the first `seen`, or until no processor runs; one worker at a time.
     pub fn wait_past<R: Wait>(&self, rt: &R, seen: u64) -> Rung {
         let rings = self.rung.wait_while(rt, self.rings.lock(rt), |r| {
-            r.rings == seen && r.running > 0
+            r.sleeps = r.rings == seen && r.running > 0;
+            r.sleeps
         });
         Rung {
             rings: rings.rings,
