@@ -7,11 +7,12 @@ use Rattle.std.{proofs.lemmas.List.Elements.All-nil, specs.declared.alloc.AllocE
 use Rattle.vb_model.specs.{Balance.spare, Guest.{Guest, fresh}, GuestRun.{Called, Looked}}
 use Rattle.vb_virtio.specs.Limits.{is_config}
 use Rattle.vb_virtio.specs.declared.negotiation.TheConstants.{OFFERED_FEATURES}
-use Rattle.vb_model.specs.declared.calls.Actor.TheVariants.{Balancer, Processor}
+use Rattle.vb_model.specs.declared.calls.Actor.TheVariants.{Balancer, Processor, Worker}
 use Rattle.vb_model.specs.declared.calls.{Actor.Actor, Call.{Call, TheVariants.Init}, Claim.Claim}
 use Rattle.vb_model.specs.declared.replies.Reply.{Reply}
 use Rattle.{vb_ram.specs.declared.config.Config.Config as Sizes, vb_run.specs.Made.IsMade}
-use Rattle.vb_run.specs.Past.{AreBegun, IsAside, IsKept, Past, Progress, just_started, unknown}
+use Rattle.vb_run.specs.Past.{AreBegun, IsAside, IsKept, NotesService, Past, Progress, just_started}
+use Rattle.vb_run.specs.Past.{noted, unknown}
 use Rattle.vb_run.proofs.Tended.{is_quiet, plain_entry, service_plain, stands_plain, started}
 use Rattle.vb_run.specs.{Plans.{config_of, is_actor_call, may_stand}, Services.{IsQuiet, services}}
 use Rattle.vb_run.{proofs.Histories.{kept_aside, kept_next}, specs.Services.found_nothing}
@@ -112,6 +113,16 @@ copied_next copied (Err fault) reply A P same is holds = tt
 copied_next (Err fault) (Ok next) reply A P same is holds = cc
 copied_next (Ok copy) (Ok next) reply A P same is holds =
     subst (λ (o : Option Reply). MatchOption o A P) (sym is) (subst P (sym same) holds)
+
+-- a worker's call of more that found nothing before
+pub served_after : (b : Bool) (number : ℕ) (reply : Reply) (first old new : Past)
+    (quiet : List Bool) → old ≡ record first { quiet = old.quiet }
+    → MatchBool b (new ≡ record old { quiet = quiet }) (NotesService number reply old new)
+    → MatchBool b (new ≡ record first { quiet = new.quiet }) (NotesService number reply first new)
+served_after true number reply first old new quiet same is =
+    rw is (ap (λ (p : Past). record p { quiet = quiet }) same)
+served_after false number reply first old new quiet same (call, claims, at, is) =
+    (call, claims, at, is ∙ ap (λ (p : Past). noted (Worker p.guest) call claims reply p) same)
 
 -- a guest that was just started
 pub kept_start : (Is' : Guest → Type 0) (own' : List ℕ) (guest : ℕ) (sizes : Sizes)

@@ -8,7 +8,8 @@ pub trait Gate: Sync {
     /// Before a processor's call, under its guest's lock.
     fn inside(&self, guest: u32, cpu: u32, call: u64);
 
-    /// Before an actor's call, or a round of the balancer, with no lock.
+    /// Before an actor's call, or a round of the balancer, with no lock. A worker's calls that find
+    /// nothing to do, and the one after them that does, count as one.
     fn before(&self, actor: Actor, number: u64);
 
     /// After an actor's call with its reply, or a round of the balancer with the guests' targets or

@@ -1,8 +1,8 @@
 //! What a guest's lock keeps.
 
 ghost use Rattle.std.specs.Prelude.{◌≡◌, ◌<◌, ◌≤◌, ℕ, true, false, List, [], ◌∷◌, ◌++◌};
-ghost use Rattle.std.specs.Prelude.{◌↔◌, slice_index_or, IfOk, OnOk, Err, Some, IfSome, IfNone};
-ghost use Rattle.std.specs.Prelude.{MatchBool, MatchOption, slice_set};
+ghost use Rattle.std.specs.Prelude.{◌↔◌, IfOk, OnOk, Err, Some};
+ghost use Rattle.std.specs.Prelude.{MatchOption};
 ghost use Rattle.vb_model.specs.declared.calls.Actor.TheVariants.{Balancer};
 ghost use Rattle.vb_model.specs.declared.calls.Call.TheVariants.{SetTarget};
 ghost use Rattle.vb_model.specs.Guest.{Guest, fresh};
@@ -11,12 +11,12 @@ ghost use Rattle.vb_model.specs.GuestRun.{Looked};
 ghost use Rattle.vb_model.specs.declared.calls.Claim.{Claim as AnyClaim};
 ghost use Rattle.vb_model.specs.declared.replies.Reply.{Reply as AnyReply};
 ghost use Rattle.vb_run.specs.Paces.{is_deferred};
-ghost use Rattle.vb_run.specs.Past.{Past, IsKept, IsSame, AreBegun, AreHushed, HasEnded, Notes};
-ghost use Rattle.vb_run.specs.Past.{NotesNext, NotesService, just_started};
+ghost use Rattle.vb_run.specs.Past.{Past, IsKept, IsSame, AreBegun, HasEnded, Notes};
+ghost use Rattle.vb_run.specs.Past.{NotesNext, just_started};
 ghost use Rattle.vb_run.specs.Plans.{config_of};
-ghost use Rattle.vb_run.specs.Entries.{entries_by};
 ghost use Rattle.vb_run.specs.Reports.{IsGuestReport, IsPlanned, frames_behind};
-ghost use Rattle.vb_run.specs.Services.{found_nothing};
+
+mod serving;
 
 use crate::audit::{expected_of, has_made};
 use crate::note::{Caller, Note};
@@ -26,7 +26,7 @@ use crate::report::{GuestReport, Stop};
 use crate::room::{claims_in, make_room, room_for};
 use crate::round::Round;
 use crate::script::{Script, all_ended, are_of};
-use crate::served::{SERVICES, found_nothing, service};
+use crate::served::SERVICES;
 use std::alloc::{AllocError, Global};
 use std::convert::AsSlice;
 use std::marker::Model;
@@ -210,64 +210,6 @@ impl<S: GuestSlot, L: AsSlice<Call> + Drop> Kept<S, L> {
             pages: self.sizes.pages,
             spare,
         })
-    }
-
-    /// Makes the worker's call of this number. Where it finds nothing to do, no entry is kept.
-    pub fn serve(&mut self, alloc: Global, number: usize) -> Result<Reply, AllocError>
-        requires { number < SERVICES }
-        ensures same { IsSame self.old self.new }
-        ensures noted { IfOk result (λ reply. MatchBool (found_nothing reply)
-            (self.new ≡ record self.old { quiet = slice_set self.old.quiet number true })
-            (NotesService number reply self.old self.new)) }
-    {
-        self.history.reserve(1)?;
-        make_room(&mut self.room)?;
-        let call = service(number);
-        let reply = self.slot.call(alloc, &call);
-        if found_nothing(&reply) {
-            self.quiet[number] = true;
-            return Ok(reply);
-        }
-        let claims = claims_in(alloc, &self.slot, &mut self.room);
-        let answer = reply.copy(alloc);
-        self.history.push_reserved(Note::Called {
-            caller: Caller::Worker { service: number },
-            claims,
-            reply,
-        });
-        self.quiet = [false; SERVICES];
-        answer
-    }
-
-    /// The first call of the worker that may find something to do.
-    fn next_service(&self) -> Option<usize>
-        ensures some { IfSome result (λ n. (n < SERVICES)
-            × (slice_index_or self.now.quiet n false ≡ false)
-            × ((m : ℕ) → m < n → slice_index_or self.now.quiet m false ≡ true)) }
-        ensures none { IfNone result (AreHushed self.now.quiet) }
-    {
-        for number in 0..SERVICES {
-            if !self.quiet[number] {
-                return Some(number);
-            }
-        }
-        None
-    }
-
-    /// Makes the worker's calls until none of them finds anything to do.
-    fn drain<R: Wait>(&mut self, rt: &R, alloc: Global) -> Result<(), AllocError>
-        ensures same { IsSame self.old self.new }
-        ensures quiet { OnOk result (AreHushed self.new.quiet) }
-        ensures balanced { OnOk result
-            (entries_by Balancer self.new.history ≡ entries_by Balancer self.old.history) }
-    {
-        for _ in rt.forever() {
-            let Some(number) = self.next_service() else {
-                break;
-            };
-            self.serve(alloc, number)?;
-        }
-        Ok(())
     }
 
     /// Whether it is the guest of this number and size, on a device of this pace.

@@ -12,6 +12,14 @@ use vb_virtio::layout::{DEFLATE_QUEUE, INFLATE_QUEUE, REPORT_QUEUE, STATISTICS_Q
 /// How many calls a worker makes until it has looked for everything that there may be to do.
 pub(crate) const SERVICES: usize = 9;
 
+/// The call that a worker made last.
+#[derive(Drop)]
+pub(crate) struct Served {
+    /// Its number.
+    pub number: usize,
+    pub reply: Reply,
+}
+
 /// The call that takes what was made available on a queue.
 fn take_from(queue: u32) -> Call
     ensures { result ≡ Take queue }

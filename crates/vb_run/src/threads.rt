@@ -8,7 +8,7 @@ use crate::kept::Kept;
 use crate::pace::Pace;
 use crate::plan::{Bells, GuestPlan, Plan};
 use crate::round::Round;
-use crate::served::{SERVICES, found_nothing};
+use crate::served::found_nothing;
 use std::alloc::Global;
 use std::convert::AsSlice;
 use std::sync::{Mutex, Wait};
@@ -98,7 +98,8 @@ fn run_processor<S: GuestSlot, L: AsSlice<Call> + Drop, G: Gate, R: Wait>(
     seat.bell.sign_off(rt);
 }
 
-/// A worker's calls until none of them finds anything to do: how many calls it has made then.
+/// A worker's calls until none of them finds anything to do: how many rounds it has made then, each
+/// under its guest's lock, until a call finds something to do or all of them found nothing.
 fn make_pass<S: GuestSlot, L: AsSlice<Call> + Drop, G: Gate, R: Wait>(
     rt: &R,
     alloc: Global,
@@ -109,25 +110,19 @@ fn make_pass<S: GuestSlot, L: AsSlice<Call> + Drop, G: Gate, R: Wait>(
     let actor = Actor::Worker { guest: seat.guest };
     let mut number = first;
     let mut service = 0;
-    let mut idle = 0;
     for _ in rt.forever() {
         gate.before(actor, number);
-        let answer = seat.lock.lock(rt).serve(alloc, service);
+        let answer = seat.lock.lock(rt).serve_from(rt, alloc, service);
         number = number.saturating_add(1);
-        let Ok(reply) = answer else {
+        let Ok(served) = answer else {
             seat.lock.lock(rt).mark_short();
             break;
         };
-        gate.after(actor, &reply);
-        if !found_nothing(&reply) {
-            idle = 0;
-            continue;
-        }
-        service = (service + 1) % SERVICES;
-        idle += 1;
-        if idle >= SERVICES {
+        gate.after(actor, &served.reply);
+        if found_nothing(&served.reply) {
             break;
         }
+        service = served.number;
     }
     number
 }

@@ -35,6 +35,8 @@ pub(super) enum Line<'a> {
     /// This guest's call.
     Called(u32, Act<'a>),
     Replied(Said<'a>),
+    /// Somebody else calls the worker's guest.
+    Disturbed,
     /// What this guest can spare.
     Looked(u32, u32),
     After(Said<'a>),
@@ -84,9 +86,16 @@ impl Picker {
         }
     }
 
+    fn disturbed<'a>(&self, guest: u32) -> Option<Line<'a>> {
+        match self.actor {
+            Actor::Worker { guest: own } if own == guest => Some(Line::Disturbed),
+            _ => None,
+        }
+    }
+
     fn called<'a>(&mut self, guest: u32, act: Act<'a>) -> Option<Line<'a>> {
         if !self.makes(guest, act) {
-            return None;
+            return self.disturbed(guest);
         }
         self.is_inside = false;
         self.calling = Some(guest);

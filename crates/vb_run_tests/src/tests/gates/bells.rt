@@ -1,7 +1,7 @@
-//! Each ring is followed by a pass, and no pass begins before a ring. A worker's first pass has 19
-//! calls here: it takes the buffer of statistics that its guest's start left, and asks by it, and
-//! then nine calls find nothing to do. The scripts leave it nothing more, so each other pass has
-//! nine calls.
+//! Each ring is followed by a pass, and no pass begins before a ring. A worker's calls under one lock
+//! have one number. Its first pass takes the buffer of statistics that its guest's start left, then
+//! asks by it, then finds nothing to do. The scripts leave it nothing more, so each other pass has
+//! one number.
 
 use super::{FIRST, NO_BALANCE, Row, SECOND, WORKER};
 use crate::tests::holds::{Comes, Hold, Place};
@@ -9,16 +9,14 @@ use crate::tests::plans::{Guests, Line, SMALL};
 use vb_ram::Config;
 use vb_run::Bells;
 
-/// The number of the worker's last call in its first pass.
-const LAST_OF_FIRST: u64 = 18;
+/// The number of the worker's last calls in its first pass.
+const LAST_OF_FIRST: u64 = 2;
 
-/// That of the first one in its second pass, and of the last.
-const SECOND_PASS: u64 = 19;
+/// That of its calls in its second pass.
+const SECOND_PASS: u64 = 3;
 
-const LAST_OF_SECOND: u64 = 27;
-
-/// That of the first one in its third pass.
-const THIRD_PASS: u64 = 28;
+/// That of those in its third pass.
+const THIRD_PASS: u64 = 4;
 
 /// A guest whose processor reads a page again and again that it doesn't hold.
 const ONE_GUEST: Guests = Guests {
@@ -45,14 +43,14 @@ pub(super) static ROWS: [Row; 4] = [
                 comes: Comes::Somebody,
             },
             Hold {
-                name: "a second pass, to its last call",
+                name: "a second pass, to its calls",
                 at: Place::Before(FIRST, 1),
-                until: Place::Before(WORKER, LAST_OF_SECOND),
+                until: Place::Before(WORKER, SECOND_PASS),
                 comes: Comes::Somebody,
             },
             Hold {
                 name: "a ring inside the second pass",
-                at: Place::Before(WORKER, LAST_OF_SECOND),
+                at: Place::Before(WORKER, SECOND_PASS),
                 until: Place::Before(FIRST, 2),
                 comes: Comes::Somebody,
             },
@@ -83,14 +81,14 @@ pub(super) static ROWS: [Row; 4] = [
                 comes: Comes::Somebody,
             },
             Hold {
-                name: "a second pass after 256 rings, to its last call",
+                name: "a second pass after 256 rings, to its calls",
                 at: Place::Before(FIRST, 256),
-                until: Place::Before(WORKER, LAST_OF_SECOND),
+                until: Place::Before(WORKER, SECOND_PASS),
                 comes: Comes::Somebody,
             },
             Hold {
                 name: "one more ring inside the second pass",
-                at: Place::Before(WORKER, LAST_OF_SECOND),
+                at: Place::Before(WORKER, SECOND_PASS),
                 until: Place::Before(FIRST, 257),
                 comes: Comes::Somebody,
             },
@@ -111,7 +109,7 @@ pub(super) static ROWS: [Row; 4] = [
         bells: Bells::Plain,
         holds: &[
             Hold {
-                name: "a first pass, to its last call",
+                name: "a first pass, to its last calls",
                 at: Place::Before(FIRST, 0),
                 until: Place::Before(WORKER, LAST_OF_FIRST),
                 comes: Comes::Somebody,
@@ -147,7 +145,7 @@ pub(super) static ROWS: [Row; 4] = [
         bells: Bells::Plain,
         holds: &[
             Hold {
-                name: "a first pass, to its last call",
+                name: "a first pass, to its last calls",
                 at: Place::Before(SECOND, 0),
                 until: Place::Before(WORKER, LAST_OF_FIRST),
                 comes: Comes::Somebody,

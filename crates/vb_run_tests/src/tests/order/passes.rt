@@ -1,9 +1,10 @@
-//! A worker's passes: each ends once nine different calls in a row have found nothing to do.
+//! A worker's passes: each ends once none of nine calls finds anything to do.
 
 use super::{Broken, Run};
 use crate::tests::history::{Act, Pair, Said, pairs_by, rows_of};
 use crate::tests::notes::{Line, Note, is_processor, lines_of};
 use std::alloc::{AllocError, Global};
+use std::mem::replace;
 use vb_model::Actor;
 use vb_run::{Bells, Entry};
 use vb_virtio::layout::{DEFLATE_QUEUE, INFLATE_QUEUE, REPORT_QUEUE, STATISTICS_QUEUE};
@@ -27,6 +28,12 @@ static SERVICES: [Act<'static>; 9] = [
 struct Serve<'a> {
     act: Act<'a>,
     said: Said<'a>,
+    /// Whether somebody else called the guest since the call before.
+    is_disturbed: bool,
+    /// Whether it is the first one of those that are made under one lock.
+    is_first: bool,
+    /// Whether it is the last one of these.
+    is_last: bool,
 }
 
 /// Whether the call found nothing to do.
@@ -44,19 +51,17 @@ fn number_of(act: Act<'_>) -> Option<usize> {
     None
 }
 
-/// The passes of a worker so far.
+/// The passes of a worker so far. Calls that are made under one lock have one number.
 #[derive(Clone, Copy)]
 struct Passes {
     /// How many have ended.
     count: u64,
-    /// The number of the call with which the last of these began.
+    /// The number of the calls with which the last of these began.
     last: u64,
-    /// The number of the call with which the next one begins, or has begun.
+    /// The number of the calls with which the next one begins, or has begun.
     next: u64,
-    /// Which services found nothing to do, since one did or the pass began.
+    /// Which services found nothing to do, since a call did something.
     idle: [bool; 9],
-    /// How many those are.
-    idles: usize,
 }
 
 impl Passes {
@@ -66,55 +71,53 @@ impl Passes {
             last: 0,
             next: 0,
             idle: [false; 9],
-            idles: 0,
         }
     }
 
-    fn clear(&mut self) {
-        self.idle = [false; 9];
-        self.idles = 0;
-    }
-
-    /// Notes a call that found nothing to do. Whether it is another one than those before.
-    fn add_idle(&mut self, act: Act<'_>) -> bool {
-        let Some(number) = number_of(act) else {
+    /// Notes a call that found nothing to do. Whether it may be made: the first one under a lock,
+    /// or one of which this wasn't known.
+    fn add_idle(&mut self, serve: Serve<'_>) -> bool {
+        let Some(number) = number_of(serve.act) else {
             return false;
         };
-        match self.idle.get_mut(number) {
-            Some(is_idle) if !*is_idle => *is_idle = true,
-            _ => return false,
-        }
-        self.idles = self.idles.saturating_add(1);
-        true
+        let Some(is_idle) = self.idle.get_mut(number) else {
+            return false;
+        };
+        let was_idle = replace(is_idle, true);
+        serve.is_first || !was_idle
     }
 
-    /// Notes the call of this number, with its reply. Whether a pass may have it.
+    /// Ends a pass with the calls of this number. Whether nothing is left to do.
+    fn end(&mut self, number: u64) -> bool {
+        self.count = self.count.saturating_add(1);
+        self.last = self.next;
+        self.next = number.saturating_add(1);
+        self.idle == [true; 9]
+    }
+
+    /// Notes a call of those of this number, with its reply. Whether a pass may have it.
     fn add(&mut self, number: u64, serve: Serve<'_>) -> bool {
+        if serve.is_disturbed {
+            self.idle = [false; 9];
+        }
         if !found_nothing(serve.said) {
-            self.clear();
-            return true;
+            self.idle = [false; 9];
+            return serve.is_last;
         }
-        if !self.add_idle(serve.act) {
-            return false;
-        }
-        if self.idles == SERVICES.len() {
-            self.clear();
-            self.count = self.count.saturating_add(1);
-            self.last = self.next;
-            self.next = number.saturating_add(1);
-        }
-        true
+        self.add_idle(serve) && (!serve.is_last || self.end(number))
     }
 
     /// The passes that these calls are; none where they aren't passes.
     fn of(serves: &[Serve<'_>]) -> Option<Passes> {
         let mut passes = Passes::new();
-        let mut number = 0;
+        let mut number: u64 = 0;
         for serve in serves {
             if !passes.add(number, *serve) {
                 return None;
             }
-            number = number.saturating_add(1);
+            if serve.is_last {
+                number = number.saturating_add(1);
+            }
         }
         if passes.next == number {
             Some(passes)
@@ -128,11 +131,13 @@ impl Passes {
 #[derive(Drop)]
 struct Reader<'a> {
     serves: Vec<Serve<'a>>,
-    /// The number of its next call.
+    /// The number of its next calls.
     number: u64,
     act: Option<Act<'a>>,
-    said: Option<Said<'a>>,
+    is_disturbed: bool,
     is_before: bool,
+    /// Whether it has called since.
+    has_called: bool,
 }
 
 impl<'a> Reader<'a> {
@@ -141,22 +146,49 @@ impl<'a> Reader<'a> {
             serves: Vec::new(alloc),
             number: 0,
             act: None,
-            said: None,
+            is_disturbed: false,
             is_before: false,
+            has_called: false,
         }
     }
 
-    /// Ends the call that was answered so. Whether it was called and replied in between.
-    fn end(&mut self, said: Said<'a>) -> Result<bool, AllocError> {
-        let (Some(act), Some(replied)) = (self.act, self.said) else {
+    /// Begins a call. Whether it may come next: nobody else calls the guest amid calls that are made
+    /// under one lock.
+    fn begin(&mut self, act: Act<'a>) -> bool {
+        let may_come = self.is_before && self.act.is_none();
+        self.act = Some(act);
+        may_come && !(self.has_called && self.is_disturbed)
+    }
+
+    /// Notes what the call that was begun was replied. Whether there is one.
+    fn reply(&mut self, said: Said<'a>) -> Result<bool, AllocError> {
+        let Some(act) = self.act else {
             return Ok(false);
         };
-        self.serves.push(Serve { act, said })?;
-        self.number = self.number.saturating_add(1);
+        self.serves.push(Serve {
+            act,
+            said,
+            is_disturbed: replace(&mut self.is_disturbed, false),
+            is_first: !replace(&mut self.has_called, true),
+            is_last: false,
+        })?;
         self.act = None;
-        self.said = None;
+        Ok(true)
+    }
+
+    /// Ends the calls of a number. Whether the last one was answered so.
+    fn end(&mut self, said: Said<'a>) -> bool {
+        let may_end = self.has_called && self.act.is_none();
+        self.number = self.number.saturating_add(1);
         self.is_before = false;
-        Ok(replied == said)
+        self.has_called = false;
+        match self.serves.last_mut() {
+            Some(serve) if may_end => {
+                serve.is_last = true;
+                serve.said == said
+            }
+            _ => false,
+        }
     }
 
     /// Whether the note may come next.
@@ -166,15 +198,13 @@ impl<'a> Reader<'a> {
                 self.is_before = true;
                 Ok(true)
             }
-            Line::Called(_, act) if self.is_before && self.act.is_none() => {
-                self.act = Some(act);
+            Line::Disturbed => {
+                self.is_disturbed = true;
                 Ok(true)
             }
-            Line::Replied(said) if self.act.is_some() && self.said.is_none() => {
-                self.said = Some(said);
-                Ok(true)
-            }
-            Line::After(said) => self.end(said),
+            Line::Called(_, act) => Ok(self.begin(act)),
+            Line::Replied(said) => self.reply(said),
+            Line::After(said) => Ok(self.end(said)),
             _ => Ok(false),
         }
     }
@@ -191,8 +221,8 @@ fn own_lines<'b, 'a>(lines: &'b [Line<'a>]) -> &'b [Line<'a>] {
     lines.get(..count).unwrap_or(lines)
 }
 
-/// The calls of these notes; none where they aren't calls in order, numbered from 0, each between
-/// its `before` and an `after` with its reply.
+/// The calls of these notes; none where they aren't calls in order, under locks that are numbered
+/// from 0, those under each between its `before` and an `after` with the last one's reply.
 fn serves_of<'a>(alloc: Global, lines: &[Line<'a>]) -> Result<Option<Vec<Serve<'a>>>, AllocError> {
     let mut reader = Reader::new(alloc);
     for line in lines {
