@@ -226,6 +226,12 @@ static bool take_set(struct backend *backend)
     return memcmp(balloon->ballooned, set, bytes) == 0;
 }
 
+bool moved_takes_pages(const struct backend *backend)
+{
+    const uint8_t *set = (const uint8_t *)backend->room->set;
+    return count_set(set, backend->moved.words) < backend->ballooned;
+}
+
 bool moved_begin(struct backend *backend)
 {
     VbDevice *device = &backend->balloon.state.device;

@@ -42,6 +42,9 @@ size_t moved_save(const struct backend *backend, uint8_t bytes[MOST_MOVED]);
  * are none, which is said; then nothing has changed. */
 bool moved_load(struct backend *backend, const uint8_t *bytes, size_t length);
 
+/* Whether the balloon of the device that was loaded has fewer pages than there are in this one. */
+bool moved_takes_pages(const struct backend *backend);
+
 /* The driver of the device that was loaded continues: its balloon is what it was. False where that
  * is another guest's, which is said. */
 bool moved_begin(struct backend *backend);

@@ -161,7 +161,7 @@ static bool find_start(struct backend *backend, unsigned number, VbQueueStart *a
 /* The queue of inflates restarts: at 0 a new life begins, with nothing in the balloon; else the
  * last one continues. Where a device was loaded that says at which index it continues, so does its
  * driver at that one, and at another one a new life begins; and where none was, of a guest that was
- * to come with its balloon. */
+ * to come with its balloon. What leaves the balloon by that has to be lent before. */
 static bool begin_life(struct backend *backend, uint16_t position)
 {
     struct balloon *balloon = &backend->balloon;
@@ -170,7 +170,8 @@ static bool begin_life(struct backend *backend, uint16_t position)
     bool goes_on = is_loaded ? position == backend->moved.index : position > 0 && !is_awaited;
     if (!backend->told.goes_on && !is_awaited)
         return true;
-    if (!goes_on && !may_empty(backend, backend->ballooned == 0 && !is_awaited))
+    bool stays = goes_on && !(is_loaded && moved_takes_pages(backend));
+    if (!stays && !may_empty(backend, backend->ballooned == 0 && !is_awaited))
         return false;
     backend->told.goes_on = backend->moved.awaits = false;
     if (goes_on && is_loaded)

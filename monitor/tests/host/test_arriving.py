@@ -261,6 +261,29 @@ def test_a_guest_that_migrates_may_reset_its_device(migrating, message):
     lender.become("a", ready=0, ballooned=0, waits="nothing")
 
 
+def test_a_guest_that_is_loaded_with_fewer_pages_in_its_balloon_waits(migrating, come):
+    """As it was saved, over what it is now: its queues start once what it has more is lent."""
+    lender, client = migrating()
+    with_pages(lender, client, GIVEN[:10])
+    bases = stopped(client)
+    data, rings = saved(client), client.read(client.table(INFLATE), 3 * PAGE)
+    client.go_on(bases)
+    client.post_pages(INFLATE, GIVEN[10:60])
+    lender.reclaim("a", client, 60)
+    come(lender, "b", {FREE: 0})
+    lender.set_budget(ALL + ALL - 60)
+    stopped(client)
+    assert load(client, data)
+    client.write(client.table(INFLATE), rings)
+    starts = Later(lambda: client.go_on(bases))
+    lender.become("a", waits="reset", lent=ALL - 60)
+    assert starts.waits() and lent(lender) == ALL + ALL - 60
+    lender.set_budget(2 * ALL)
+    starts.ends()
+    lender.become("a", ready=1, ballooned=10, waits="nothing", cooperates=1)
+    assert lent(lender) <= 2 * ALL
+
+
 def test_a_deflate_that_waited_is_granted_where_the_guest_arrives(migrating, crowded):
     source, client = migrating()
     with_pages(source, client, GIVEN[:GIVEN_UP])
