@@ -2,6 +2,7 @@
 
 #include "audit.h"
 #include "codes.h"
+#include "large.h"
 
 #include <stdarg.h>
 #include <stdio.h>
@@ -156,8 +157,8 @@ static void count_marks(struct backend *backend, uint32_t kind, uint32_t marked)
 
 uint32_t backend_given(const struct backend *backend)
 {
-    uint32_t ballooned = backend->ballooned, held = backend->undiscarded;
-    return held < ballooned ? ballooned - held : 0;
+    uint64_t ballooned = backend->ballooned, held = backend->undiscarded + large_held(backend);
+    return held < ballooned ? (uint32_t)(ballooned - held) : 0;
 }
 
 /* Which of a balloon's pages couldn't be discarded isn't known: those that leave it are others, as

@@ -205,6 +205,11 @@ bool memory_holds(const struct guest_memory *memory, uint64_t guest, uint64_t le
     return true;
 }
 
+static uint64_t larger(uint64_t one, uint64_t other)
+{
+    return one > other ? one : other;
+}
+
 uint64_t memory_discard(const struct guest_memory *memory, uint64_t guest, uint64_t length)
 {
     uint64_t held = 0;
@@ -212,10 +217,14 @@ uint64_t memory_discard(const struct guest_memory *memory, uint64_t guest, uint6
         const struct balloon_region *region = &memory->regions[i];
         uint64_t first = guest > region->guest ? guest : region->guest;
         uint64_t end = guest + length, last = region->guest + region->length;
+        uint64_t page = larger(region->page_size, BALLOON_PAGE);
         end = end < last ? end : last;
-        if (first < end && region->page_size <= BALLOON_PAGE &&
-            balloon_discard_bytes(region, first - region->guest, end - first))
-            held += (end - first) / BALLOON_PAGE;
+        if (first >= end)
+            continue;
+        uint64_t at = (first - region->guest + page - 1) / page * page,
+                 past = (end - region->guest) / page * page;
+        if (at < past && balloon_discard_bytes(region, at, past - at))
+            held += (past - at) / BALLOON_PAGE;
     }
     return held;
 }
@@ -283,4 +292,12 @@ uint64_t memory_pages(const struct guest_memory *memory)
     for (unsigned i = 0; i < memory->count; i++)
         pages += memory->regions[i].length / BALLOON_PAGE;
     return pages;
+}
+
+bool memory_is_large(const struct guest_memory *memory)
+{
+    for (unsigned i = 0; i < memory->count; i++)
+        if (memory->regions[i].page_size > BALLOON_PAGE)
+            return true;
+    return false;
 }

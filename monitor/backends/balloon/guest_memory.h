@@ -47,8 +47,8 @@ bool memory_map(struct guest_memory *memory, const struct region_place *places, 
  * be sealed; NULL where it can't be mapped, or doesn't have them. */
 uint8_t *file_map(int file, uint64_t bytes, uint64_t offset);
 
-/* Discards pages of the guest, as far as they are memory of small pages; how many couldn't be, at
- * most. */
+/* Discards pages of the guest, as far as they are whole pages of its files; how many of these
+ * couldn't be, at most. */
 uint64_t memory_discard(const struct guest_memory *memory, uint64_t guest, uint64_t length);
 
 /* The guest's address of an address in the client; false where it lies in no region. */
@@ -74,6 +74,9 @@ uint64_t memory_held(const struct guest_memory *memory);
 
 /* The bytes of all regions that are of the file of this one. */
 uint64_t memory_of_file(const struct guest_memory *memory, unsigned number);
+
+/* Whether a region is of a file of large pages. */
+bool memory_is_large(const struct guest_memory *memory);
 
 /* How many pages the regions have. */
 uint64_t memory_pages(const struct guest_memory *memory);

@@ -229,7 +229,8 @@ static bool take_set(struct backend *backend)
 bool moved_takes_pages(const struct backend *backend)
 {
     const uint8_t *set = (const uint8_t *)backend->room->set;
-    return count_set(set, backend->moved.words) < backend->ballooned;
+    return memory_is_large(&backend->memory) ||
+           count_set(set, backend->moved.words) < backend->ballooned;
 }
 
 bool moved_begin(struct backend *backend)

@@ -42,7 +42,8 @@ size_t moved_save(const struct backend *backend, uint8_t bytes[MOST_MOVED]);
  * are none, which is said; then nothing has changed. */
 bool moved_load(struct backend *backend, const uint8_t *bytes, size_t length);
 
-/* Whether the balloon of the device that was loaded has fewer pages than there are in this one. */
+/* Whether the balloon of the device that was loaded has fewer pages than there are in this one, or
+ * fewer large ones, as may be. */
 bool moved_takes_pages(const struct backend *backend);
 
 /* The driver of the device that was loaded continues: its balloon is what it was. False where that

@@ -62,10 +62,10 @@ static void tell(struct lent *lent)
 
 void awaited_note(struct lent *lent)
 {
-    uint32_t given = backend_given(&lent->backend),
-             wanted = larger(given, lent->backend.balloon.state.device.target);
     if (lent->awaited == 0)
         return;
+    uint32_t given = backend_given(&lent->backend),
+             wanted = larger(given, lent->backend.balloon.state.device.target);
     if (lent->awaited > lent->notes.pages)
         lent->awaited = lent->notes.pages;
     if (lent->awaited <= given) {

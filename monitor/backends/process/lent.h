@@ -21,7 +21,7 @@ struct lent {
     bool leaves;    /* the lender has said so */
     bool ends_anew; /* another process is to go on */
     bool regains;   /* the deflate that the process before held is still to be found */
-    /* the deflate that is held names no page: it is given back without a grant */
+    /* the deflate that is held takes no frame: it is given back without a grant */
     bool asks_nothing;
     uint32_t awaited;  /* that count in its balloon at least, as its guest has started without them,
                          and its driver hasn't put as many there yet */

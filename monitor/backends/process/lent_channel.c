@@ -1,6 +1,7 @@
 /* What a guest's process says to the lender, and how it obeys. */
 #include "lent.h"
 
+#include "../balloon/large.h"
 #include "../base/loop.h"
 
 #include <sys/socket.h>
@@ -180,8 +181,8 @@ static void take_answer(struct lent *lent, const struct lending_message *order)
 void lent_holds(struct backend *backend, uint32_t pages)
 {
     struct lent *lent = (struct lent *)backend;
-    lent->notes.held_pages = pages;
-    lent->asks_nothing = pages == 0;
+    lent->notes.held_pages = large_asks(backend, pages);
+    lent->asks_nothing = lent->notes.held_pages == 0;
     lent->notes.held_wait += lent->regains ? 0 : 1;
     lent->regains = false;
     lent->returns = 0;
