@@ -2,6 +2,7 @@
 
 #include "backend.h"
 #include "codes.h"
+#include "lives.h"
 #include "state.h"
 
 /* Where things are in the bytes: docs/LINUX.md has the table. */
@@ -163,6 +164,8 @@ bool moved_load(struct backend *backend, const uint8_t *bytes, size_t length)
         remark(backend, "the device that is to be loaded %s", fault);
         return false;
     }
+    if (!moved.awaits && !life_ends(backend))
+        return false;
     uint32_t target = backend->balloon.state.device.target;
     state_take(backend, before);
     if (backend->options->is_lent) /* its lender alone sets a target */

@@ -1,5 +1,6 @@
 #include "backend.h"
 #include "codes.h"
+#include "lives.h"
 #include "ring_layout.h"
 
 /* Chains that a process uses at most before what it is is kept again: some turns of a queue. */
@@ -43,19 +44,12 @@ bool ring_describes(const struct backend *backend, uint32_t kind, uint64_t guest
     return queue && guest - queue->table < (uint64_t)DESCRIPTOR_SIZE * queue->size;
 }
 
-/* Whether the balloon may be empty from now on. */
-static bool may_empty(struct backend *backend, bool is_empty)
-{
-    return is_empty || !backend->balloon.ballooned || !backend->empties ||
-           backend->empties(backend);
-}
-
 /* Writes the status, while no queue is there but one of this kind; false where the device refuses
  * it, or what the guest has posted before. */
 static bool write_status(struct backend *backend, uint8_t status, uint32_t kind)
 {
     struct balloon_result result;
-    if (status == 0 && !may_empty(backend, backend->ballooned == 0))
+    if (status == 0 && !life_may_empty(backend, backend->ballooned == 0))
         return false;
     uint32_t answer = balloon_write_status(&backend->balloon, status, &result);
     if (answer != 0)
@@ -158,33 +152,6 @@ static bool find_start(struct backend *backend, unsigned number, VbQueueStart *a
     return true;
 }
 
-/* The queue of inflates restarts: at 0 a new life begins, with nothing in the balloon; else the
- * last one continues. Where a device was loaded that says at which index it continues, so does its
- * driver at that one, and at another one a new life begins; and where none was, of a guest that was
- * to come with its balloon. What leaves the balloon by that has to be lent before. */
-static bool begin_life(struct backend *backend, uint16_t position)
-{
-    struct balloon *balloon = &backend->balloon;
-    bool is_loaded = backend->moved.awaits;
-    bool is_awaited = backend->comes_with > 0;
-    bool goes_on = is_loaded ? position == backend->moved.index : position > 0 && !is_awaited;
-    if (!backend->told.goes_on && !is_awaited)
-        return true;
-    bool stays = goes_on && !(is_loaded && moved_takes_pages(backend));
-    if (!stays && !may_empty(backend, backend->ballooned == 0 && !is_awaited))
-        return false;
-    backend->told.goes_on = backend->moved.awaits = false;
-    if (goes_on && is_loaded)
-        return moved_begin(backend);
-    backend->comes_with = 0;
-    if (goes_on)
-        configuration_write(&balloon->state.device, ACTUAL_AT, backend->told.actual);
-    else if (balloon->ballooned)
-        memset(balloon->ballooned, 0, balloon->ballooned_words * sizeof balloon->ballooned[0]),
-            backend->ballooned = backend->undiscarded = 0;
-    return true;
-}
-
 /* Starts a ring, and serves what is available. */
 static bool start(struct backend *backend, unsigned number)
 {
@@ -200,7 +167,7 @@ static bool start(struct backend *backend, unsigned number)
     if (code != VB_OK)
         return refuse("queue %u isn't started: %s", number, answer_words(code));
     ring->runs = true;
-    if (kind == VB_INFLATE && !begin_life(backend, at.next))
+    if (kind == VB_INFLATE && !life_begins(backend, at.next))
         return false;
     if (backend->keep)
         backend->keep(backend);

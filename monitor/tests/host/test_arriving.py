@@ -284,6 +284,27 @@ def test_a_guest_that_is_loaded_with_fewer_pages_in_its_balloon_waits(migrating,
     assert lent(lender) <= 2 * ALL
 
 
+def test_a_guest_that_is_loaded_without_a_driver_waits(migrating, come):
+    """As it was saved before its driver was ready: nothing is in its balloon."""
+    lender, client = migrating(starts=False)
+    client.negotiate(protocol=PROTOCOL)
+    client.add_memory()
+    data = saved(client)
+    client.go_on()
+    client.post_pages(INFLATE, GIVEN[:60])
+    lender.reclaim("a", client, 60)
+    come(lender, "b", {FREE: 0})
+    lender.set_budget(ALL + ALL - 60)
+    stopped(client)
+    loads = Later(lambda: load(client, data) or pytest.fail("it isn't loaded"))
+    lender.become("a", waits="reset", lent=ALL - 60)
+    assert loads.waits() and lent(lender) == ALL + ALL - 60
+    lender.set_budget(2 * ALL)
+    loads.ends()
+    client.go_on()
+    lender.become("a", ready=1, ballooned=0, lent=ALL, waits="nothing", cooperates=1)
+
+
 def test_a_deflate_that_waited_is_granted_where_the_guest_arrives(migrating, crowded):
     source, client = migrating()
     with_pages(source, client, GIVEN[:GIVEN_UP])
