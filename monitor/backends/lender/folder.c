@@ -124,12 +124,13 @@ const char *folder_keep(struct seat *seat, const struct guest_terms *terms)
     return NULL;
 }
 
-void folder_keep_pages(struct seat *seat)
+bool folder_keep_pages(struct seat *seat)
 {
     const char *fault =
         seat_frames(seat) == seat->kept_pages ? NULL : folder_keep(seat, &seat->terms);
     if (fault)
         complain("its pages can't be kept for a later lender: %s", fault);
+    return !fault;
 }
 
 void folder_forget(const struct host *host, const char *name)

@@ -278,9 +278,9 @@ bool folder_moves_channel(const struct seat *seat);
 
 /* Keeps terms of a guest, and how many pages it was granted, in the folder for a lender that comes
  * later, which doesn't believe its process: NULL, or why it can't; the pages, where they have
- * changed. And no longer. */
+ * changed: false where it can't, which is said. And no longer. */
 const char *folder_keep(struct seat *seat, const struct guest_terms *terms);
-void folder_keep_pages(struct seat *seat);
+bool folder_keep_pages(struct seat *seat);
 void folder_forget(const struct host *host, const char *name);
 
 /* Makes a seat for each guest that an earlier lender has left in the folder. */

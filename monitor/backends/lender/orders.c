@@ -145,14 +145,14 @@ static void admit(struct seat *seat, uint32_t ballooned)
     order(seat, &message);
 }
 
-/* Answers its process, which waits for room: there is none, or what it waits for has room. */
+/* Answers its process, which waits for room: there is none, or what it waits for has room, which a
+ * later lender will know. */
 static void answer_room(struct seat *seat)
 {
     const struct lending_message *report = &seat->report;
     struct lending_message refuses = {.kind = ORDER_REFUSE, .wait = report->wait};
     if (place_of(seat)->granted > 0 && report->wanted <= seat_pages(seat)) {
-        folder_keep_pages(seat);
-        if (limit_allows(seat))
+        if (folder_keep_pages(seat) && limit_allows(seat))
             admit(seat, place_of(seat)->ballooned);
     } else if (seat->refused) {
         order(seat, &refuses);

@@ -146,3 +146,21 @@ def test_a_process_that_was_to_end_is_killed_as_its_lender_goes(lend, end):
     eventually(lambda: ended_by(a.listens.child) == signal.SIGKILL)
     assert "a doesn't end, and is killed" in lender.said(), lender.said()
     a.channel.close()
+
+
+@pytest.mark.parametrize("strict", (0, 1))
+def test_a_guest_has_no_pages_of_which_no_later_lender_would_know(lend, strict):
+    """That one would end it, as it has pages that nobody has granted."""
+    lender = lend(1, *STRICT)
+    client = Client(lender.add(f"a strict={strict}"))
+    unkept = f"{lender.folder}/.=a"
+    os.mkdir(unkept)  # where the folder's note of it is made
+    client.negotiate()
+    comes = Later(client.hand_over_memory)
+    lender.tells("a: its pages can't be kept for a later lender: File exists")
+    assert comes.waits()
+    os.rmdir(unkept)
+    comes.ends()
+    lender.become("a", pages=ALL)
+    later(lend, lender).become("a", here=1, pages=ALL)
+    client.leave()
