@@ -22,6 +22,27 @@ static struct guest_terms terms_of(const struct config_guest *guest, bool strict
     return terms;
 }
 
+/* How many guests there are with those of a configuration: others stay. */
+static unsigned count_with(const struct config *config, const struct host *host)
+{
+    unsigned count = config->count;
+    for (unsigned i = 0; i < host->count; i++)
+        count += !config_guest_of((struct config *)config, host->seats[i]->name);
+    return count;
+}
+
+void apply_room(const struct config *config, struct host *host)
+{
+    for (unsigned i = 0; i < host->count && count_with(config, host) > host->most;) {
+        struct seat *seat = host->seats[i];
+        bool stays = seat->here || config_guest_of((struct config *)config, seat->name);
+        if (!stays)
+            complain("guest %s has no place any longer: nobody is there or names it", seat->name);
+        if (stays || seat_remove(host, seat))
+            i++;
+    }
+}
+
 bool apply_guests(const char *file, const struct config *config, const struct config *files,
                   struct host *host)
 {
@@ -37,15 +58,6 @@ bool apply_guests(const char *file, const struct config *config, const struct co
         good &= !fault || !config_guest_of((struct config *)files, guest->name);
     }
     return good;
-}
-
-/* How many guests there are with those of a configuration: others stay. */
-static unsigned count_with(const struct config *config, const struct host *host)
-{
-    unsigned count = config->count;
-    for (unsigned i = 0; i < host->count; i++)
-        count += !config_guest_of((struct config *)config, host->seats[i]->name);
-    return count;
 }
 
 /* Whether the host takes the sizes of a configuration, with its own where that says none. */

@@ -212,6 +212,7 @@ void settings_recall(struct settings *settings, struct host *host)
 bool settings_apply(struct settings *settings, struct host *host)
 {
     settings->host = host;
+    apply_room(whole(settings), host);
     return apply_guests(settings->file, whole(settings), &settings->config, host);
 }
 

@@ -392,6 +392,21 @@ def test_as_many_guests_as_there_can_be(program, folder, file):
     assert (host.status()["guests"], host.end()) == (64, 0)
 
 
+def test_guests_of_the_file_have_their_places_after_a_restart(program, folder, file):
+    """On a host of as many as there may be, one of whom another one is until then, and of whom
+    nobody is there."""
+    words = ("--config", str(file), "--guests", "2", "--leave")
+    host = Host(program, folder, *words)
+    host.lines.next(patience_from_now())
+    host.ask("remove", name="web-1")
+    host.ask("add", name="a")
+    assert host.end() == 0
+    host = Host(program, folder, *words)
+    assert host.lines.next(patience_from_now()) == "ready", host.said()
+    names = {it["name"] for it in host.ask("status")["guests"]}
+    assert (names, host.end()) == ({"web-1", "web-2"}, 0)
+
+
 @pytest.mark.parametrize("before", ("", " ", "\t ", "\ufeff"), ids=ascii)
 def test_a_section_may_begin_after_blanks(program, folder, file, before):
     """Or after the mark that some editors begin a file with: a guest of no keys is there, too."""
