@@ -58,7 +58,6 @@ static void look(struct host *host)
     struct host_counters *counters = &host->counters;
     uint64_t held = host_held(host);
     host->looked = true, counters->looks++;
-    machine_follow(host);
     counters->above += held > host->frames * UINT64_C(4);
     measure_above(held > host->frames * UINT64_C(4) ? (double)host->period / 1000 : 0);
     counters->peak = held > counters->peak ? held : counters->peak;
@@ -289,6 +288,8 @@ static void wait_for_lines(void *context, struct loop *loop)
     loop_wait_for(loop, host->input.ended || asks || !were_read ? -1 : STDIN_FILENO, POLLIN,
                   take_lines, host);
     loop_wait_until(loop, host->looks_at);
+    if (host->machine.keep > 0 && !host_awaits(host))
+        loop_wait_until(loop, host->machine.follows_at);
     if (asks)
         loop_wait_until(loop, host->question.until);
     if (host->news)
@@ -325,6 +326,7 @@ static int turn_of_lines(void *context)
     if (!input_obey(host) || host->upgrades)
         return LOOP_ENDS;
     int64_t now = loop_now();
+    machine_follow(host);
     places_follow_budget(host);
     host->stepped_at = host->steps ? host->stepped_at : now;
     step(host, now);

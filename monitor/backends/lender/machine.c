@@ -91,6 +91,7 @@ void machine_follow(struct host *host)
         return;
     }
     machine->fails = false;
+    host->news |= budget != host->frames;
     host->frames = budget;
 }
 

@@ -20,7 +20,8 @@ struct machine {
  * which is said. */
 bool machine_begin(struct host *host);
 
-/* Once a second: the budget follows the machine. */
+/* Once a second, in whichever turn that is: the budget follows the machine, and what it leaves is
+ * decided on. */
 void machine_follow(struct host *host);
 
 #endif

@@ -97,6 +97,15 @@ def test_it_is_what_is_left_from_the_start_and_falls_at_once(follow, machine):
     )
 
 
+def test_it_follows_each_second_however_seldom_guests_are_looked_at(follow, machine):
+    lender = follow("--period", "60000")
+    machine.leaves(45)
+    become(lender, 5 * MIB)
+    machine.leaves(50)
+    become(lender, 5 * MIB + STEP)
+    assert lender.status()["host"]["counters"]["looks"] == 0
+
+
 def test_it_rises_by_a_step_a_second_up_to_the_operator_s(follow, machine):
     lender = follow()
     files = files_of(lender.process.pid)
