@@ -348,8 +348,8 @@ void seat_reserve(struct seat *seat, uint32_t pages);
  * admitted or decided. */
 bool host_awaits(const struct host *host);
 
-/* It was removed: its process is told to end once more, and is killed where it hasn't in time. */
-void seat_hurry(struct seat *seat);
+/* Where it was removed: its process is killed that hasn't ended in time. */
+void seat_end_late(struct seat *seat);
 
 /* Its process isn't believed any longer: it is killed, and all its pages count as lent until it has
  * ended. */

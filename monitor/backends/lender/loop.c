@@ -67,7 +67,7 @@ static void look(struct host *host)
     places_relieve(host);
     shortage_look(host);
     for (unsigned i = 0; i < host->leaving_count; i++)
-        seat_hurry(host->leaving[i]);
+        seat_leave(host->leaving[i]);
     for (unsigned i = 0; i < host->count; i++) {
         if (!seat_is_due(host->seats[i]))
             continue;
@@ -155,6 +155,8 @@ static void wait_for_seat(struct seat *seat, int64_t now)
     loop_wait_for(loop, seat->channel < 0 || seat->host->looked ? seat->process_file : -1, POLLIN,
                   take_end, seat);
     loop_wait_for(loop, seat->read < MESSAGES ? seat->channel : -1, POLLIN, take_messages, seat);
+    if (seat->leaves_until > 0)
+        loop_wait_until(loop, seat->leaves_until);
     if (waits && !comes)
         loop_wait_until(loop, comes_at);
     if (seat->read >= MESSAGES)
@@ -236,6 +238,7 @@ static int turn_of_seats(void *context)
 {
     start_one(context);
     each_seat(context, end_silently);
+    each_seat(context, seat_end_late);
     bury(context);
     return LOOP_GOES_ON;
 }

@@ -275,12 +275,10 @@ static void kill_process(const struct seat *seat)
     pidfd_send_signal(seat->process_file, SIGKILL, NULL, 0);
 }
 
-void seat_hurry(struct seat *seat)
+void seat_end_late(struct seat *seat)
 {
-    if (loop_now() < seat->leaves_until) {
-        seat_leave(seat);
+    if (seat->leaves_until == 0 || loop_now() < seat->leaves_until)
         return;
-    }
     speaker_begins(&seat->speaker);
     complain("its process doesn't end, and is killed");
     speaker_ends();

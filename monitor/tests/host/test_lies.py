@@ -337,3 +337,12 @@ def test_the_process_of_a_guest_that_was_removed_is_killed_where_it_stays(lend):
     eventually(lambda: lender.hear() or words in lender.said(), lender.said)
     assert a.told_to_leave > 1 and lender.said().count(words) == 1
     a.channel.close()
+
+
+def test_it_is_killed_in_time_however_seldom_guests_are_looked_at(lend):
+    lender = lend(1, *STRICT, "--period", "60000")
+    a = Played(lender, "a", pages=ALL)
+    lender.demand("remove a")
+    eventually(lambda: ended_by(a.listens.child) == signal.SIGKILL)
+    assert lender.status()["host"]["counters"]["looks"] == 0
+    a.channel.close()
