@@ -172,6 +172,8 @@ bool service_begin(struct service *service, struct host *host, const char *folde
     for (unsigned i = 0; i < CONTROL_SOCKETS; i++)
         if (!find_socket(service, i, folder))
             return false;
+    if (!settings_are_apart(settings->sockets[MAY_CHANGE].path, settings->sockets[MAY_LOOK].path))
+        return false;
     service->hangup = settings->file ? process_reload() : -1;
     if ((settings->file && service->hangup < 0) ||
         !control_open(&service->control, service->sockets) || !settings_apply(settings, host))

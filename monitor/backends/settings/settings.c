@@ -8,6 +8,7 @@
 #include "../base/say.h"
 #include "../lender/host.h"
 
+#include <errno.h>
 #include <stdio.h>
 #include <string.h>
 
@@ -151,6 +152,33 @@ static bool is_enough(const char *file, const struct config *config, const struc
     return (host->budget > 0 || config->budget != UINT32_MAX || lacks_budget(file)) && good;
 }
 
+bool settings_are_apart(const char *one, const char *other)
+{
+    return strcmp(one, other) != 0 ||
+           say_fault("%s: [control] and [status] have the same socket", one);
+}
+
+/* Whether the control sockets may be where a configuration has them, but for an option's path: it
+ * says that, or they are in the folder. */
+static bool sockets_fit(const struct settings *settings, const struct config *config,
+                        const char *folder)
+{
+    static const enum config_key keys[] = {KEY_CONTROL_SOCKET, KEY_STATUS_SOCKET};
+    char paths[CONTROL_SOCKETS][2 * MOST_CONFIG_WORD];
+    bool good = true;
+    for (unsigned i = 0; i < CONTROL_SOCKETS; i++) {
+        const char *own = settings->sockets[i].path, *files = config->fixed.sockets[i].path;
+        if (*own || *files)
+            strcpy(paths[i], *own ? own : files);
+        else
+            snprintf(paths[i], sizeof paths[i], "%.*s/.%s", MOST_CONFIG_WORD, folder,
+                     config_keys[keys[i]].section);
+        good &=
+            strlen(paths[i]) < MOST_PATH || say_fault("%s: %s", paths[i], strerror(ENAMETOOLONG));
+    }
+    return settings_are_apart(paths[MAY_CHANGE], paths[MAY_LOOK]) && good;
+}
+
 bool settings_check(const struct settings *settings, const char *file, const struct host *host)
 {
     static struct config config;
@@ -163,7 +191,9 @@ bool settings_check(const struct settings *settings, const char *file, const str
         config.budget = host->budget;
     if (host->lends.overdraft != UINT32_MAX)
         config.overdraft = host->lends.overdraft;
-    return is_enough(file, &config, host) && apply_fits(file, &config, host);
+    return is_enough(file, &config, host) &&
+           sockets_fit(settings, &config, host->folder ? host->folder : config.fixed.folder) &&
+           apply_fits(file, &config, host);
 }
 
 /* The configuration with what was changed. */

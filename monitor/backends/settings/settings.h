@@ -35,6 +35,9 @@ void settings_recall(struct settings *settings, struct host *host);
  * each fault is said. */
 bool settings_check(const struct settings *settings, const char *file, const struct host *host);
 
+/* Whether the control sockets have paths of their own; else says so. */
+bool settings_are_apart(const char *one, const char *other);
+
 /* Adds the guests of the configuration, and of what was changed, to the host; false where the file
  * has one that it doesn't take, which is said. */
 bool settings_apply(struct settings *settings, struct host *host);

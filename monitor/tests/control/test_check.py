@@ -143,6 +143,27 @@ def test_paths_are_in_utf_8(program, folder, file):
         assert (ran.returncode, said) == (2, b"%s: /tmp/\xff can't be taken" % name.encode())
 
 
+# Where the socket of [status] is, beside one of [control] at {folder}/.control, and what is said.
+SOCKETS = (
+    ("{folder}/.control", "{path}: [control] and [status] have the same socket"),
+    ("/tmp/" + "x" * 103, "{path}: File name too long"),
+)
+
+
+@pytest.mark.parametrize("path, said", SOCKETS, ids=("same", "long"))
+def test_where_no_control_socket_can_be(program, folder, file, path, said):
+    path = path.format(folder=folder)
+    file.write_text(filled(folder, "[log]", f"[status]\nsocket = {path}\n[log]"))
+    assert checked(program, file) == (1, [said.format(path=path)])
+    host = Host(program, folder, "--config", str(file))
+    assert host.process.wait(PATIENCE) == 2
+    assert said.format(path=path) in host.said()
+    host.end()
+    fits = filled(folder, "[log]", f"[status]\nsocket = {path[:-1]}\n[log]")
+    file.write_text(fits)
+    assert checked(program, file) == (0, [])
+
+
 def test_a_file_that_is_read_by_a_request(configured, folder, file):
     file.write_text(filled(folder, "budget = 480M", "budget = 400M"))
     assert configured.ask("reload") == {"version": 1, "ok": True}
