@@ -1,5 +1,6 @@
 //! Discards of private memory in vectors: scattered parts go back to the machine by one call.
 
+use crate::obey::region_with;
 use crate::raw::Cut;
 use std::io;
 use std::os::unix::io::{AsRawFd, FromRawFd, OwnedFd};
@@ -19,7 +20,7 @@ pub struct Together {
 
 /// The place of a part in this process, where its region is private memory.
 fn private_part<M: GuestMemory>(memory: &M, cut: &Cut) -> Option<libc::iovec> {
-    let region = memory.iter().nth(cut.region).filter(|it| it.file_offset().is_none())?;
+    let region = region_with(memory, cut).filter(|it| it.file_offset().is_none())?;
     let host = region.get_host_address(MemoryRegionAddress(cut.offset)).ok()?;
     Some(libc::iovec { iov_base: host.cast(), iov_len: cut.length as usize })
 }

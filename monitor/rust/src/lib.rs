@@ -6,6 +6,7 @@
 
 mod balloon;
 mod discards;
+mod errors;
 mod held;
 mod hints;
 pub mod lender;

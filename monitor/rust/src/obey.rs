@@ -39,7 +39,7 @@ pub trait LiveMemory {
     }
 
     /// Gives pages back to the machine: by a hole in the region's file, which is shared, or else as private memory, which
-    /// reads as zeros from then on. Else the system's answer.
+    /// reads as zeros from then on. Else the system's answer; `InvalidInput` where the part doesn't lie in its region.
     fn discard(&self, cut: &Cut) -> io::Result<()>;
 
     /// Gives the first of these parts back by one call, those of private memory, each of pages of 4,096 bytes. A part that
@@ -60,6 +60,12 @@ fn load<M: GuestMemory, T: AtomicAccess>(memory: &M, at: Spot) -> Result<T, Unre
 fn store<M: GuestMemory, T: AtomicAccess>(memory: &M, at: Spot, value: T) -> Result<(), Unreachable> {
     let region = region_of(memory, at.region)?;
     region.store(value, MemoryRegionAddress(at.offset), Ordering::Relaxed).map_err(|_| Unreachable)
+}
+
+/// The region of a part that lies in it, also where a monitor has made the part itself.
+pub(crate) fn region_with<'a, M: GuestMemory>(memory: &'a M, cut: &Cut) -> Option<&'a M::R> {
+    let end = cut.offset.checked_add(cut.length)?;
+    region_of(memory, cut.region).ok().filter(|it| end <= it.len())
 }
 
 /// Copies bytes that others may write meanwhile: each is read once, in words where they are aligned.
@@ -119,7 +125,7 @@ impl<M: GuestMemory> LiveMemory for M {
 
     fn discard(&self, cut: &Cut) -> io::Result<()> {
         let gone = || io::Error::from(io::ErrorKind::InvalidInput);
-        let region = region_of(self, cut.region).map_err(|_| gone())?;
+        let region = region_with(self, cut).ok_or_else(gone)?;
         if let Some(file) = region.file_offset() {
             let (file, how) = (file.file().as_raw_fd(), libc::FALLOC_FL_PUNCH_HOLE | libc::FALLOC_FL_KEEP_SIZE);
             // SAFETY: the call takes no pointer; the file is the region's.
@@ -253,9 +259,9 @@ impl Hands<'_> {
         let small = cuts.iter().take_while(|it| self.monitor.page_size(it.region) <= PAGE).count();
         let together = self.memory.discard_together(&cuts[..small]);
         *self.discards_apart = together.discarded < together.asked;
-        let discarded = &cuts[..together.discarded];
-        self.served.discarded += discarded.iter().map(|it| it.length / PAGE).sum::<u64>();
-        together.discarded
+        let count = together.discarded.min(small); // a memory of the monitor's own may say more
+        self.served.discarded += cuts[..count].iter().map(|it| it.length / PAGE).sum::<u64>();
+        count
     }
 
     /// Discards all parts, in their order.

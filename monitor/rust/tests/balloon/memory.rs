@@ -3,8 +3,8 @@
 use crate::guest::{buffer, file_of, settings, Guest};
 use std::io;
 use std::sync::Arc;
-use vb_balloon::{Balloon, Cut, Kind, LiveMemory, Monitor, Refusal, Settings};
-use vm_memory::{FileOffset, GuestAddress, GuestMemoryMmap, GuestRegionMmap, MmapRegion};
+use vb_balloon::{Balloon, Cut, Kind, LiveMemory, Monitor, Refusal, Settings, Together};
+use vm_memory::{Bytes, FileOffset, GuestAddress, GuestMemory, GuestMemoryMmap, GuestRegionMmap, MmapRegion};
 
 /// A machine of pages of 2 MiB: what is discarded is whole ones.
 #[derive(Default)]
@@ -147,4 +147,24 @@ fn the_set_is_kept() {
     assert!(!balloon.is_ballooned(600) && balloon.is_ballooned(601) && !balloon.is_ballooned(u32::MAX));
     balloon.write_status(&guest.memory, 0, &mut ()).expect("a reset");
     assert_eq!((balloon.count_ballooned(), balloon.ballooned.len(), balloon.may_tell()), (0, 96, false));
+}
+
+/// Parts that no notice has: they reach past their region, or have none. What lies after it stays.
+#[test]
+fn a_part_outside_of_its_region_is_not_discarded() {
+    let whole = GuestMemoryMmap::<()>::from_ranges(&[(GuestAddress(0), 2 << 12)]).unwrap();
+    let host = whole.get_host_address(GuestAddress(0)).unwrap();
+    // SAFETY: the page is mapped as long as `whole` is, and nobody unmaps it twice, as it isn't owned.
+    let first = unsafe { MmapRegion::<()>::build_raw(host, 1 << 12, libc::PROT_READ | libc::PROT_WRITE, 0) }.unwrap();
+    let region = GuestRegionMmap::new(first, GuestAddress(0)).unwrap();
+    let memory = GuestMemoryMmap::from_arc_regions(vec![Arc::new(region)]).unwrap();
+    let cut = |region, offset, length| Cut { region, offset, in_file: offset, length };
+    for wrong in [cut(0, 0, 2 << 12), cut(0, 1 << 12, 1 << 12), cut(0, 1 << 12, u64::MAX), cut(1, 0, 1 << 12)] {
+        whole.write_obj(7u64, GuestAddress(1 << 12)).unwrap();
+        let (alone, together) = (memory.discard(&wrong), memory.discard_together(&[wrong, wrong]));
+        assert_eq!(alone.map_err(|it| it.kind()), Err(io::ErrorKind::InvalidInput), "{wrong:?}");
+        assert_eq!(together, Together::default(), "{wrong:?}");
+        assert_eq!(whole.read_obj::<u64>(GuestAddress(1 << 12)).unwrap(), 7, "{wrong:?}");
+    }
+    assert!(memory.discard(&cut(0, 0, 1 << 12)).is_ok());
 }
