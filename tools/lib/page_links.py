@@ -50,10 +50,21 @@ def anchors(text):
     return {anchor(it) for it in HEADING.findall(re.sub(r"(?ms)^```.*?^```$", "", text))}
 
 
+def fenced(page):
+    """Returns the lines of code of a page that are where a fence has its language, and so aren't
+    shown."""
+    return [
+        f"{page}:{number}: the words of a fence aren't shown: {words}"
+        for number, line in enumerate(read(page).splitlines(), 1)
+        for words in re.findall(r"^ *```\S* +(\S.*)", line)
+    ]
+
+
 def dead():
-    """Returns the links that lead nowhere, each with its page and line."""
+    """Returns the links that lead nowhere, and what a fence hides, each with its page and line."""
     found = []
     for page in pages():
+        found += fenced(page)
         text = CODE.sub(lambda it: re.sub(r"[^\n]", " ", it[0]), read(page))
         for number, line in enumerate(text.splitlines(), 1):
             for target in LINK.findall(line):

@@ -17,6 +17,8 @@ LINES = (
     ("[it](https://example.org/a#b)", []),
     ("`[it](docs/NONE.md)` is code", []),
     ("```\n[it](docs/NONE.md)\n```", []),
+    ("```c\nint it;\n```", []),
+    ("```c int it;\nint that;\n```", ["PAGE.md:3: the words of a fence aren't shown: int it;"]),
     ("[it](docs/NONE.md)", ["PAGE.md:3: no file docs/NONE.md"]),
     (
         "two [of](docs/NONE.md) [them](NONE.md#a)",
