@@ -297,12 +297,14 @@ static int become(const struct host *host, const struct service *service, char *
     return 2;
 }
 
-/* Whether its overdraft may be as large; says why not. */
-static bool can_overdraw(struct host *host)
+/* Whether its overdraft and the least of its budget may be as large; says why not. */
+static bool can_lend(struct host *host)
 {
     const char *fault = host_set_overdraft(host, host->lends.overdraft);
     if (fault)
         complain("overdraft: %s", fault);
+    else if (host->machine.lowest > host->budget)
+        complain("lowest_budget: %s", fault = "more than the budget");
     return !fault;
 }
 
@@ -323,7 +325,7 @@ int main(int count, char **words)
         return !settings_check(&service.settings, service.checks, &host);
     process_allow_files(FILES_OF_LENDER + host.most * FILES_OF_SEAT +
                         CONTROL_SOCKETS * MOST_CONTROL_CLIENTS);
-    if (!host_make_tables(&host, host.most) || !can_seat() || !can_overdraw(&host) ||
+    if (!host_make_tables(&host, host.most) || !can_seat() || !can_lend(&host) ||
         !can_be_shown(host.folder) || !can_offer(host.features) || !find_program(&host) ||
         !folder_lock(&host) || !answers_begin(&host.answers))
         return 2;

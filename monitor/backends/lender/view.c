@@ -214,13 +214,16 @@ const char *host_set_patience(struct host *host, uint32_t seconds)
 
 const char *host_budget_fault(const struct host *host, uint32_t pages)
 {
-    return host->lends.overdraft > pages ? above_budget : NULL;
+    return host->lends.overdraft > pages  ? above_budget
+           : host->machine.lowest > pages ? "a budget is no less than lowest_budget"
+                                          : NULL;
 }
 
 const char *host_set_budget(struct host *host, uint32_t pages)
 {
-    if (host_budget_fault(host, pages))
-        return above_budget;
+    const char *fault = host_budget_fault(host, pages);
+    if (fault)
+        return fault;
     bool follows = host->machine.keep > 0 && pages > host->frames;
     host->budget = pages;
     host->frames = follows ? host->frames : pages;

@@ -60,14 +60,23 @@ bool apply_guests(const char *file, const struct config *config, const struct co
     return good;
 }
 
+/* Whether a size that a configuration says, or else the host's, is within a budget: UINT32_MAX is
+ * none. */
+static bool is_within(const char *file, const char *key, uint32_t said, uint32_t own,
+                      uint32_t budget)
+{
+    uint32_t size = said != UINT32_MAX ? said : own;
+    return size == UINT32_MAX || size <= budget ||
+           say_fault("%s: %s: more than the budget that was set", file, key);
+}
+
 /* Whether the host takes the sizes of a configuration, with its own where that says none. */
 static bool sizes_fit(const char *file, const struct config *config, const struct host *host)
 {
     uint32_t budget = config->budget != UINT32_MAX ? config->budget : host->budget;
-    uint32_t overdraft =
-        config->overdraft != UINT32_MAX ? config->overdraft : host->lends.overdraft;
-    return overdraft == UINT32_MAX || overdraft <= budget ||
-           say_fault("%s: overdraft: more than the budget that was set", file);
+    bool good = is_within(file, "overdraft", config->overdraft, host->lends.overdraft, budget);
+    return is_within(file, "lowest_budget", config->lowest_budget, host->machine.lowest, budget) &&
+           good;
 }
 
 /* Whether a guest's limit, which it hasn't yet, is that of one before it in a configuration, too:
@@ -120,6 +129,8 @@ void apply_sizes(const char *file, struct host *host, const struct config *confi
     const char *fault = NULL;
     if (config->overdraft != UINT32_MAX)
         host_set_overdraft(host, 0);
+    if (config->lowest_budget != UINT32_MAX)
+        host_set_lowest_budget(host, 0);
     if (config->budget != UINT32_MAX)
         fault = host_set_budget(host, config->budget);
     if (config->overdraft != UINT32_MAX && !fault)

@@ -50,12 +50,22 @@ def test_what_is_changed_is_there_after_a_restart_and_a_reload(kept):
     assert (host.status()["budget"], host.status()["floor"], terms(host)) == wanted
 
 
-def test_a_budget_is_no_less_than_the_overdraft(kept):
-    """A floor may be."""
-    kept.file.write_text(kept.file.read_text().replace("480M", "480M\noverdraft = 4M"))
-    assert kept.host.ask("reload")["ok"]
+# Keys that a budget is no less than, and why a smaller one is refused.
+WITHIN = {
+    "overdraft": "an overdraft is no more than the budget",
+    "lowest_budget": "a budget is no less than lowest_budget",
+}
+
+
+@pytest.mark.parametrize("key", WITHIN)
+def test_a_budget_is_no_less_than_these(kept, key):
+    """A floor may be. A file may lower both."""
+    usual = kept.file.read_text()
+    for budget, least in (("480M", "400M"), ("300M", "4M")):
+        kept.file.write_text(usual.replace("480M", f"{budget}\n{key} = {least}"))
+        assert kept.host.ask("reload")["ok"]
     assert kept.host.ask("floor", bytes=MIB)["lasts"]
-    with pytest.raises(Refused, match="an overdraft is no more than the budget"):
+    with pytest.raises(Refused, match=WITHIN[key]):
         kept.host.ask("budget", bytes=4 * MIB - 4096)
     assert kept.host.ask("budget", bytes=4 * MIB)["lasts"]
 
@@ -322,16 +332,17 @@ def test_a_kill_at_any_moment_leaves_the_old_or_the_new(kept):
             host.ask("remove", name=name)
 
 
-def test_a_check_looks_at_the_whole(kept):
+@pytest.mark.parametrize("key", WITHIN)
+def test_a_check_looks_at_the_whole(kept, key):
     kept.host.ask("budget", bytes=3 * MIB)
     file = kept.folder / "next.conf"
-    file.write_text(kept.file.read_text().replace("480M", "480M\noverdraft = 4M"))
+    file.write_text(kept.file.read_text().replace("480M", f"480M\n{key} = 4M"))
     for words, status in ((("--state", str(kept.state)), 1), ((), 0)):
         ran = subprocess.run(
             [kept.program, *words, "--check", str(file)], capture_output=True, timeout=PATIENCE
         )
         assert ran.returncode == status, ran
     kept.file.write_text(file.read_text())
-    with pytest.raises(Refused, match="overdraft: more than the budget that was set"):
+    with pytest.raises(Refused, match=f"{key}: more than the budget that was set"):
         kept.host.ask("reload")
-    assert kept.host.status()["overdraft"] == 0
+    assert kept.host.status()[key] == 0

@@ -11,6 +11,7 @@ from waiting import PATIENCE
 # Options of a host of 256 frames, and what it says of them.
 OPTIONS = (
     (("--overdraft", "257"), "overdraft: an overdraft is no more than the budget"),
+    (("--lowest-budget", "2"), "lowest_budget: more than the budget"),
     (("--patience", "0"), "--patience: 0 can't be taken"),
     (("--patience", "86401"), "--patience: 86401 can't be taken"),
     (("--program", "/nowhere"), "/nowhere: No such file or directory"),
