@@ -162,6 +162,23 @@ def test_the_page_of_the_client_names_each_command_and_option():
                 assert option in text or option in ("-h", "--help", "--follow"), (name, option)
 
 
+def fields(answer):
+    """Yields the fields of an answer, those of its parts among them."""
+    if isinstance(answer, dict):
+        yield from answer
+    parts = answer.values() if isinstance(answer, dict) else answer
+    for it in parts if isinstance(answer, (dict, list)) else ():
+        yield from fields(it)
+
+
+def test_the_page_of_the_protocol_names_each_field(host, arrive):
+    arrive("web-1")
+    told = [host.ask(it) for it in ("status", "log", "changes")]
+    with open(f"{ROOT}/docs/CONTROL.md", encoding="utf-8") as file:
+        named = re.findall(r"`(\w+)`", file.read())
+    assert set(fields(told)) - {"ok", *named} == set()
+
+
 def test_the_page_of_the_configuration_names_each_key():
     with open(f"{ROOT}/monitor/backends/settings/config_keys.c", encoding="utf-8") as file:
         keys = re.findall(r'\{"(\w+)", "(\w+)", WORD_', file.read())
