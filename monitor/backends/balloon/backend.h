@@ -92,7 +92,7 @@ struct backend {
     void (*keep)(struct backend *backend);
     enum outcome outcome; /* of the message that is served */
     bool gone;            /* the client doesn't take answers any longer */
-    bool ended;           /* a signal has told the process to end */
+    bool ended;           /* a signal, or its operator, has told the process to end */
     bool rests;       /* no file was left for a client that came: it isn't looked for until the next
                   * look */
     unsigned remarks; /* what was said of it, at most MOST_REMARKS lines */

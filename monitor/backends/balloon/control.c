@@ -98,8 +98,10 @@ int control_read(struct control_line *line, int (*obey)(void *context, const cha
 int control_obey(struct backend *backend, const char *line)
 {
     bool served = true;
-    if (!strcmp(line, "quit"))
+    if (!strcmp(line, "quit")) {
+        backend->ended = true;
         return 0;
+    }
     if (!strncmp(line, "target ", 7))
         set_target(backend, line + 7);
     else if (!strcmp(line, "counters"))

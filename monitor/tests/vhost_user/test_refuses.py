@@ -317,14 +317,14 @@ def test_a_file_in_the_socket_s_place_stays(program):
         assert file.read() == b"here"
 
 
-def test_nobody_comes(program):
+@pytest.mark.parametrize("lines", ("", "quit\n"))
+def test_nobody_comes(program, lines):
+    """The end of the input is a fault then, and what an operator asks for isn't."""
     with tempfile.TemporaryDirectory() as folder:
         words = [program, f"{folder}/socket"]
-        ran = subprocess.run(words, input="", capture_output=True, text=True, timeout=PATIENCE)
-        assert (ran.returncode, ran.stderr) == (
-            2,
-            f"vhost_user_balloon: {words[1]}: Operation canceled\n",
-        )
+        ran = subprocess.run(words, input=lines, capture_output=True, text=True, timeout=PATIENCE)
+        said = (2, f"vhost_user_balloon: {words[1]}: Operation canceled\n")
+        assert (ran.returncode, ran.stderr) == ((0, "") if lines else said)
         assert os.listdir(folder) == []
 
 
