@@ -53,12 +53,14 @@ class Connection:
 
     def reach(self):
         """Returns a socket that is connected to the host."""
-        its = socket.socket(socket.AF_UNIX, socket.SOCK_STREAM)
-        its.settimeout(self.limit)
+        its = None
         try:
+            its = socket.socket(socket.AF_UNIX, socket.SOCK_STREAM)
+            its.settimeout(self.limit)
             its.connect(self.path)
         except OSError as fault:
-            its.close()
+            if its:
+                its.close()
             raise Away(f"no host answers at {self.path}: {why_not(self.path, fault)}") from None
         return its
 

@@ -1,6 +1,7 @@
 """`bigvasta fleet`: many hosts, a line each, and which of them has room for another guest."""
 
 import json
+import resource
 import threading
 import time
 from typing import NamedTuple
@@ -15,6 +16,9 @@ from bigvasta.source import PATIENCE
 from bigvasta.statuses import AWAY, DONE, PART, Fault, Unclear
 from bigvasta.subcommands import AS_JSON
 from bigvasta.words import say, table
+
+# Files beside those of the hosts that are asked.
+OTHER_FILES = 64
 
 COLUMNS = ("host", "budget", "held", "lent", "promise", "short", "waiting")
 
@@ -69,9 +73,18 @@ def look(place, found):
         found[place] = Seen(place, None, fault)
 
 
+def allow_files(count):
+    """Allows the files that this number of hosts needs, as far as this process may."""
+    least, most = resource.getrlimit(resource.RLIMIT_NOFILE)
+    wanted = min(count + OTHER_FILES, most)
+    if least < wanted:
+        resource.setrlimit(resource.RLIMIT_NOFILE, (wanted, most))
+
+
 def look_at_all(places):
     """Returns what came of each host: all are asked beside each other, and none is waited for any
     longer than for one."""
+    allow_files(len(places))
     found, until = {}, time.monotonic() + PATIENCE
     threads = [threading.Thread(target=look, args=(it, found), daemon=True) for it in places]
     for it in threads:

@@ -234,6 +234,26 @@ def test_the_program_ends_while_one_is_stuck():
     assert ended.returncode == 3, ended.stderr
 
 
+def test_more_hosts_than_files_are_usual(folder):
+    """A host that takes no client holds each file until the end: 40, where 32 may be open."""
+    client = os.path.join(linux_kit.ROOT, "client")
+    places = [str(folder) + "/" * number + "socket" for number in range(1, 41)]
+    with socket.socket(socket.AF_UNIX) as listener:
+        listener.bind(f"{folder}/socket")
+        listener.listen(len(places))
+        words = ["/bin/sh", "-c", 'ulimit -S -n 32; exec "$0" -B -m bigvasta fleet "$@"']
+        ran = subprocess.run(
+            [*words, sys.executable, *places],
+            env={**os.environ, "PYTHONPATH": client},
+            capture_output=True,
+            text=True,
+            timeout=PATIENCE,
+        )
+    lines = ran.stdout.splitlines()
+    assert (ran.returncode, ran.stderr, lines[-1]) == (3, "", "40 hosts, 40 away, 0 short")
+    assert all(it.endswith("  the host doesn't answer in time") for it in lines[1:-1]), lines
+
+
 def test_names_are_escaped(capsys, folder):
     its = status([guest("\x1b[2J", memory=1, pressed=True)], budget=1)
     host = Fake(folder, lambda asked: (its,))
