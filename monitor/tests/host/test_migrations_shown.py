@@ -52,8 +52,7 @@ def test_a_guest_that_leaves(migrating, lend, way):
     logs(client, True)
     before = becomes(lender, OUTGOING)
     lender = WAYS[way](lender, lend)
-    after = becomes(lender, OUTGOING)
-    assert way == "lender" or after > before
+    eventually(lambda: becomes(lender, OUTGOING) > before or way == "lender")
     logs(client, False)
     becomes(lender, NONE)
     begun, ended = (f"a: its migration (outgoing) {it}" for it in ("begins", "has ended after N s"))
