@@ -212,12 +212,12 @@ bool backend_serve(struct backend *backend, unsigned number)
 {
     const struct event *fault = &backend->rings[number].fault;
     uint32_t kind = vb_kind(&backend->balloon.state.device, number);
+    backend->pending &= ~(1u << number);
     if (queue_is_postponed(backend, kind))
         return true;
     audit_before(backend, number);
     struct balloon_result result = balloon_notify(&backend->balloon, kind);
     audit_after(backend, number);
-    backend->pending &= ~(1u << number);
     backend->pending |= result.more ? 1u << number : 0;
     bool served = backend_finish(backend, kind, &result);
     if (!served && fault->file >= 0)

@@ -5,25 +5,32 @@ import contextlib
 import fcntl
 import os
 import struct
+import time
 
 import pytest
 from kept import layout
 from moving import ALL, EACH_WAY, WAYS, continues, kill, with_pages
 from tenants import eventually, go_on, process_of, read_target, stop
-from test_strict import GIVEN
+from test_strict import GIVEN, STRICT
 from vhost_client import (
     ADD_MEM_REG,
+    BUFFERS,
+    BY_MESSAGES,
     CHECK_DEVICE_STATE,
     DEFLATE,
     FEATURES,
     GET_CONFIG,
     HAS_PROTOCOL,
     INFLATE,
+    LOG_ALL,
+    NEXT,
     PAGE,
     REGIONS,
     SET_CONFIG,
     SET_FEATURES,
     SET_LOG_BASE,
+    VRING_KICK,
+    Client,
 )
 from vhost_demands import demand_served, word
 from vhost_logs import log_base, log_file, logged, page_of_used, set_logging
@@ -43,6 +50,7 @@ from vhost_moves import (
     stopped,
     sum_of,
 )
+from waiting import seconds_of
 
 # The number of the memfd in a process that has what is kept.
 KEPT_FILE = 190
@@ -260,3 +268,37 @@ def test_the_control_area(migrating):
     lender.tells("a: the lender alone has control")
     assert write(*ASK) == FINE
     lender.become("a", ballooned=3, asked=3)
+
+
+# Numbers of pages that a process serves in a turn at most; pieces of a deflate, and pages with the
+# numbers of each.
+MOST_PAGES, PIECES, PAGES_OF_PIECE = 1024, 8, 40
+
+
+def test_a_deflate_that_is_put_off_amid_its_pages_costs_nothing(lend):
+    """It continues once nothing is logged any longer."""
+    lender = lend(2, *STRICT)
+    client = Client(lender.add("a"), lender.said)
+    client.begin(PROTOCOL | BY_MESSAGES)
+    client.start()
+    client.post_pages(INFLATE, GIVEN[:1])
+    lender.become("a", ballooned=1)
+    assert log_base(client, log_file()) == bytes(8)
+    numbers = struct.pack("<I", GIVEN[0]) * (PAGES_OF_PIECE * PAGE // 4)
+    client.write(BUFFERS, numbers)
+    for head in range(PIECES):
+        follows = (NEXT, head + 1) if head + 1 < PIECES else ()
+        client.describe(DEFLATE, head, BUFFERS, len(numbers), *follows)
+    client.publish(DEFLATE, 0)
+    logs = struct.pack("<Q", FEATURES | HAS_PROTOCOL | LOG_ALL)
+    messages = ((VRING_KICK, struct.pack("<II", DEFLATE, 0)), (SET_FEATURES, logs))
+    client.socket.sendall(b"".join(struct.pack("<III", it, 1, 8) + body for it, body in messages))
+    lender.become("a", deflated=2 * MOST_PAGES)
+    process = process_of(lender, "a")
+    before = seconds_of(process)
+    time.sleep(1)
+    assert seconds_of(process) < before + 0.05
+    client.accepted(SET_FEATURES, word(FEATURES | HAS_PROTOCOL))
+    eventually(lambda: client.is_all_used(DEFLATE))
+    lender.become("a", ballooned=0, waits="nothing")
+    client.leave()
