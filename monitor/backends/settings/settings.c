@@ -191,6 +191,8 @@ bool settings_check(const struct settings *settings, const char *file, const str
         config.budget = host->budget;
     if (host->lends.overdraft != UINT32_MAX)
         config.overdraft = host->lends.overdraft;
+    if (host->machine.lowest != UINT32_MAX)
+        config.lowest_budget = host->machine.lowest;
     return is_enough(file, &config, host) &&
            sockets_fit(settings, &config, host->folder ? host->folder : config.fixed.folder) &&
            apply_fits(file, &config, host);

@@ -210,6 +210,13 @@ TOGETHER = {
         "overdraft: more than the budget that was set",
         True,
     ),
+    "lowest_budget": (
+        ("--lowest-budget", "100"),
+        "budget = 480M",
+        "budget = 50M",
+        "lowest_budget: more than the budget that was set",
+        True,
+    ),
     "budget": (
         ("--budget", "40M"),
         "budget = 480M\n",
@@ -250,6 +257,16 @@ def test_what_does_not_fit_together_changes_nothing(program, folder, what):
     host = Host(program, deep, "--config", str(file), *options)
     assert not is_known or host.process.wait(PATIENCE) == 2
     host.end()
+
+
+@pytest.mark.parametrize(("key", "unit"), (("overdraft", "M"), ("lowest_budget", "")))
+def test_a_check_has_options_before_what_the_file_says(program, folder, key, unit):
+    file = folder / "next.conf"
+    file.write_text(filled(folder, "budget = 480M", f"budget = 50M\n{key} = 40M"))
+    option = f"--{key.replace('_', '-')}"
+    said = f"{file}: {key}: more than the budget that was set"
+    assert checked(program, file, option, f"60{unit}") == (1, [said])
+    assert checked(program, file, option, f"50{unit}") == (0, [])
 
 
 @pytest.mark.skipif(not tmpfs(), reason="no tmpfs is there")
