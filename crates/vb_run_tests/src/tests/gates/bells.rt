@@ -1,7 +1,7 @@
-//! Each ring is followed by a pass, and no pass begins before a ring. A worker's calls under one lock
-//! have one number. Its first pass takes the buffer of statistics that its guest's start left, then
-//! asks by it, then finds nothing to do. The scripts leave it nothing more, so each other pass has
-//! one number.
+//! Each ring is followed by a pass, and no pass begins before a ring. A worker's calls under one
+//! lock have one number. Its first pass takes the buffer of statistics that its guest's start left,
+//! then asks by it, then finds nothing to do. The scripts leave it nothing more, so each other pass
+//! has one number.
 
 use super::{FIRST, NO_BALANCE, Row, SECOND, WORKER};
 use crate::tests::holds::{Comes, Hold, Place};

@@ -152,8 +152,8 @@ impl<'a> Reader<'a> {
         }
     }
 
-    /// Begins a call. Whether it may come next: nobody else calls the guest amid calls that are made
-    /// under one lock.
+    /// Begins a call. Whether it may come next: nobody else calls the guest amid calls that are
+    /// made under one lock.
     fn begin(&mut self, act: Act<'a>) -> bool {
         let may_come = self.is_before && self.act.is_none();
         self.act = Some(act);
