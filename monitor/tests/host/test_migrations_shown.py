@@ -2,6 +2,7 @@
 
 import os
 import re
+import time
 
 from bigvasta.connection import Connection
 from moving import ALL, EACH_WAY, WAYS, continues, with_pages
@@ -57,6 +58,20 @@ def test_a_guest_that_leaves(migrating, lend, way):
     becomes(lender, NONE)
     begun, ended = (f"a: its migration (outgoing) {it}" for it in ("begins", "has ended after N s"))
     eventually(lambda: [it[: len(ended)] for it in said(lender)] == [begun, ended], lender.said)
+
+
+def test_how_long_a_migration_took(migrating):
+    """No less than was shown before its end, and no more than has gone by; said in tenths."""
+    lender, client = migrating()
+    begun = time.monotonic()
+    logs(client, True)
+    eventually(lambda: becomes(lender, OUTGOING) > 0.2)
+    least = becomes(lender, OUTGOING)
+    logs(client, False)
+    becomes(lender, NONE)
+    eventually(lambda: len(said(lender)) == 2)
+    took = float(re.search(r"has ended after ([\d.]+) s", "\n".join(lender.said()))[1])
+    assert least - 0.1 < took < time.monotonic() - begun + 0.1
 
 
 def test_a_guest_that_was_saved_and_has_gone(migrating):
