@@ -33,6 +33,8 @@ static bool admit(struct backend *backend)
     if (!marks_follow(backend, &lent->marks, end))
         return refuse("there is no room for the set of its pages");
     lent->news |= pages != before;
+    if (pages < before)
+        lent->report_at = 0; /* what comes after it is asked for beside what is left */
     lent->notes.pages = (uint32_t)pages;
     awaited_note(lent);
     outside_note(lent, before, ballooned);

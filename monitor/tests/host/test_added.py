@@ -5,15 +5,29 @@ import contextlib
 import ctypes
 import os
 import signal
+import struct
 
 import pytest
 from played import TELL_GONE, WAIT_ROOM, Played
-from tenants import eventually
+from tenants import PAGES, PAGES_OF_ALL, eventually, go_on, process_of, stop
 from test_strict import STRICT, lent
+from vhost_client import (
+    ADD_MEM_REG,
+    BUFFERS,
+    INFLATE,
+    OFFERED,
+    PAGE,
+    REM_MEM_REG,
+    VRING_KICK,
+    Client,
+)
 
 # Pages of the budget; of a guest, and those that are added to it, for which there is no room even
 # without it; of another one; and of one that waits after it, for which there is room.
 BUDGET, OWN, ADDED, OTHERS, NEXT = 200, 10, 190, 20, 50
+
+# Pages of a guest with two slots.
+ALL = 128
 
 # The host isn't patient with who waits first, and lets nobody pass.
 NEVER = ("--patience", "3600")
@@ -95,3 +109,26 @@ def test_a_process_has_lied_that_has_not_ended(blocked):
         assert lent(lender) == OWN + OTHERS + NEXT
     lender.become("a", here=0, lent=0)
     a.channel.close()
+
+
+def test_a_slot_that_is_removed_and_comes_back_at_once(lend):
+    """What was in its balloon there left that with the slot, and is asked for as it comes back: a
+    report says so in between, though one was sent just before."""
+    lender = lend(1, *STRICT)
+    client = Client(lender.add("a"), lender.said)
+    client.begin(OFFERED)
+    client.start()
+    client.post_pages(INFLATE, [*range(PAGES, PAGES + 10)])
+    lender.become("a", ready=1, ballooned=10)
+    slot, process = client.region_body(1), process_of(lender, "a")
+    stop(process)
+    client.write(BUFFERS + PAGE, struct.pack("<I", PAGES_OF_ALL + 20))
+    client.describe(INFLATE, 1, BUFFERS + PAGE, 4)
+    client.publish(INFLATE, 1)
+    client.send(VRING_KICK, struct.pack("<II", INFLATE, 0), flags=1)
+    client.send(REM_MEM_REG, slot, flags=1)
+    client.send(ADD_MEM_REG, slot, client.files[1:], flags=1)
+    go_on(process)
+    lender.become("a", pages=ALL, ballooned=1, lent=ALL, waits="nothing", cooperates=1)
+    assert not [it for it in lender.said() if "unasked" in it]
+    client.leave()
