@@ -7,11 +7,11 @@ json_t *answer_note(const struct audit *audit, uint64_t number)
     const struct note *note = &audit->notes[number % MOST_NOTES];
     const char *by = *note->author.by ? note->author.by : NULL,
                *guest = *note->guest ? note->guest : NULL;
+    int process = note->author.process == NO_NUMBER ? 0 : (int)note->author.process;
     return json_pack("{s:I, s:f, s:f, s:s*, s:s, s:s, s:s, s:I, s:i, s:s*}", "change",
                      (json_int_t)number, "seconds", (double)note->at / 1000, "time",
                      part_time(note->at), "guest", guest, "key", note->key, "was", note->was, "is",
-                     note->is, "user", (json_int_t)note->author.user, "process",
-                     (int)note->author.process, "by", by);
+                     note->is, "user", (json_int_t)note->author.user, "process", process, "by", by);
 }
 
 json_t *answer_notes(const struct audit *audit, uint64_t since, uint64_t limit)

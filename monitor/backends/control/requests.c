@@ -182,7 +182,8 @@ json_t *request_answer(struct control *control, struct control_client *client, s
 {
     json_error_t fault;
     json_t *fields = json_loadb(line, length, JSON_REJECT_DUPLICATES, &fault);
-    struct asked asked = {control, client, host, fields, {client->user, client->process, ""}};
+    pid_t process = client->process > 0 ? client->process : NO_NUMBER;
+    struct asked asked = {control, client, host, fields, {client->user, process, ""}};
     json_t *reply;
     if (!fields)
         reply = request_refusal("invalid-json", NULL, "no JSON: column %d: %s", fault.column,

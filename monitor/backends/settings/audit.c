@@ -18,12 +18,14 @@ static const char *plain(const char *words, char text[MOST_BY])
 
 static void say(const struct note *note)
 {
-    char by[MOST_BY], whose[MOST_BY + MOST_CONFIG_NAME] = "a signal";
+    char by[MOST_BY], number[] = "of another namespace",
+                      whose[MOST_BY + 2 * MOST_CONFIG_NAME] = "a signal";
     const struct author *author = &note->author;
     if (author->process > 0)
-        snprintf(whose, sizeof whose, "user %u%s%s%s, process %d", (unsigned)author->user,
-                 *author->by ? " (" : "", plain(author->by, by), *author->by ? ")" : "",
-                 (int)author->process);
+        snprintf(number, sizeof number, "%d", (int)author->process);
+    if (author->process != 0)
+        snprintf(whose, sizeof whose, "user %u%s%s%s, process %s", (unsigned)author->user,
+                 *author->by ? " (" : "", plain(author->by, by), *author->by ? ")" : "", number);
     say_news("changed by %s: %s%s%s%s: %s -> %s", whose, *note->guest ? "guest " : "", note->guest,
              *note->guest ? ": " : "", note->key, note->was, note->is);
 }

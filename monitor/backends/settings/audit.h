@@ -8,10 +8,13 @@
 /* Changes that are kept; bytes of the name that a client gives its user, with their end. */
 enum { MOST_NOTES = 256, MOST_BY = 65 };
 
+/* Of a process that has no number in the lender's namespace of processes. */
+enum { NO_NUMBER = -1 };
+
 /* Who asks: by the kernel's word, and by a name of its own. */
 struct author {
     uid_t user;
-    pid_t process; /* 0: a signal has come */
+    pid_t process; /* 0: a signal has come; NO_NUMBER: one of another namespace */
     char by[MOST_BY];
 };
 

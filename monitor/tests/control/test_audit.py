@@ -11,7 +11,7 @@ from bigvasta.connection import Connection
 from hosts import Host, Raw, say
 from installed import bigvasta
 from test_config import TAKEN
-from waiting import eventually, patience_from_now
+from waiting import PATIENCE, eventually, patience_from_now
 
 # Changes that a host keeps.
 MIB, MOST_NOTES = 1 << 20, 256
@@ -311,3 +311,18 @@ def test_the_log_for_programs(busy):
     times = [it["time"] for it in objects]
     assert times == sorted(times) and times[-1] <= time.time()
     assert {"budget"} <= {it.get("key") for it in objects}
+
+
+@pytest.mark.skipif(os.geteuid() != 0, reason="who isn't root makes no namespace of processes")
+def test_a_process_of_another_namespace_is_no_signal(program, folder):
+    words = ("-p", "-f", "--mount-proc", program, str(folder), "--budget", "480")
+    host = Host("unshare", folder, *words)
+    host.lines.next(patience_from_now())
+    host.ask("budget", bytes=MIB, by="somebody")
+    (its,) = host.ask("changes")["changes"]
+    assert (its["user"], its["process"], its["by"]) == (0, 0, "somebody")
+    said = "changed by user 0 (somebody), process of another namespace: budget: 480M -> 1M"
+    assert said in host.said()
+    host.process.stdin.write(b"quit\n"), host.process.stdin.flush()
+    assert host.process.wait(PATIENCE) == 0
+    host.end()
