@@ -10,8 +10,8 @@ from bigvasta.statuses import Usage
 # The library counts pages by 32 bits; a guest of the device has fewer than 2^32 of them.
 MOST_PAGES = (1 << 32) - 1
 
-# Seconds of a day.
-DAY = 86400
+# Seconds of a day; and up to which time milliseconds are told apart, as the library counts them.
+DAY, MOST_SECONDS = 86400, (1 << 53) // 1000
 
 
 class Use(NamedTuple):
@@ -116,7 +116,7 @@ class Line:
             value = float(text)
         except ValueError:
             value = math.nan
-        if not math.isfinite(value) or value < 0:
+        if not 0 <= value <= MOST_SECONDS:
             self.refuse(f"{name}: {text!r} is no time in seconds from 0 on")
         return value
 

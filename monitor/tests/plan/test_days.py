@@ -128,6 +128,12 @@ REFUSED = (
     (HEAD + "b,-1,8192,4096,\n", ":3: seconds: '-1' is no time in seconds from 0 on"),
     (HEAD + "b,nan,8192,4096,\n", ":3: seconds: 'nan' is no time in seconds from 0 on"),
     (HEAD + "b,noon,8192,4096,\n", ":3: seconds: 'noon' is no time in seconds from 0 on"),
+    (
+        HEAD + "b,9e12,8192,4096,\n",
+        ":2: a has this row alone: a guest's last row says when it goes",
+    ),
+    (HEAD + "b,9.1e12,8192,4096,\n", ":3: seconds: '9.1e12' is no time in seconds from 0 on"),
+    (HEAD + "b,1e308,8192,4096,\n", ":3: seconds: '1e308' is no time in seconds from 0 on"),
     (HEAD + "b,2,0,0,\n", ":3: size is 0"),
     (HEAD + "b,2,8191,0,\n", ":3: size: 8191 isn't whole pages of 4096 bytes, below 2^32 of them"),
     (
