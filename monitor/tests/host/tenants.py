@@ -179,7 +179,7 @@ def has_ended(process):
     """Whether a process isn't there any longer, or is a zombie."""
     try:
         return status_of(process)["State"].startswith(("Z", "X"))
-    except FileNotFoundError:
+    except (FileNotFoundError, ProcessLookupError):  # the latter: it ended as it was read
         return True
 
 
