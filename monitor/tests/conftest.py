@@ -32,8 +32,8 @@ def pytest_addoption(parser):
     parser.addoption(
         "--suite",
         metavar="NAME",
-        help="another Debian, bookworm, trixie or sid: of its kernel, or of the QEMU of a guest "
-        "that migrates",
+        help="another Debian, bookworm, trixie or sid: of its kernel; or of the QEMU of a guest "
+        "that migrates, also of Ubuntu: questing, resolute, stonking",
     )
 
 

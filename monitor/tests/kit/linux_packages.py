@@ -10,10 +10,10 @@ import subprocess
 ROOT = os.path.realpath(os.path.join(os.path.dirname(__file__), "../../.."))
 CACHE = os.path.join(ROOT, ".cache", "linux")
 
-# Where packages of another Debian than the machine's come from, and the seconds in which it has to
-# answer each of two requests.
-MIRROR = "http://deb.debian.org/debian"
-ANSWERS_IN = 2
+# Where packages of another Debian than the machine's come from, and those of suites of Ubuntu, and
+# the seconds in which each has to answer each of two requests.
+MIRROR, ANSWERS_IN = "http://deb.debian.org/debian", 2
+UBUNTU, OF_UBUNTU = "http://archive.ubuntu.com/ubuntu", ("questing", "resolute", "stonking")
 
 # Where a Debian has crates.
 CRATES = "usr/share/cargo/registry"
@@ -48,17 +48,25 @@ def keyring():
     return sorted(found)[0]
 
 
+def source_of(suite):
+    """Returns what a line of apt-get's sources has of a suite, whose keys for Ubuntu are a package
+    of Debian 13."""
+    if suite not in OF_UBUNTU:
+        return f"[signed-by={keyring()}] {MIRROR} {suite} main"
+    keys = fetch("ubuntu-keys", lambda _: ["ubuntu-keyring"], "trixie")
+    path = one_of(keys, "usr/share/keyrings/ubuntu-archive-keyring.gpg")
+    return f"[signed-by={path}] {UBUNTU} {suite} main universe"
+
+
 def apt_of(suite):
     """Returns the environment in which apt-get knows the packages of another Debian, by lists of
-    its own in the cache; the machine's own where none is named."""
+    its own in the cache, or of a suite of Ubuntu; the machine's own where none is named."""
     if suite is None:
         return None
     folder = os.path.join(CACHE, f"apt-{suite}")
     os.makedirs(os.path.join(folder, "lists", "partial"), exist_ok=True)
     files = {
-        "sources.list": "".join(
-            f"{kind} [signed-by={keyring()}] {MIRROR} {suite} main\n" for kind in ("deb", "deb-src")
-        ),
+        "sources.list": "".join(f"{kind} {source_of(suite)}\n" for kind in ("deb", "deb-src")),
         "status": "",
         "apt.conf": "".join(
             f'{name} "{it}";\n'

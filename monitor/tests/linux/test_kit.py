@@ -236,6 +236,26 @@ def test_the_machine_s_own_suite():
     assert linux_packages.apt_of(None) is None
 
 
+@pytest.mark.parametrize(
+    "suite, mirror",
+    (
+        ("sid", "http://deb.debian.org/debian sid main"),
+        ("stonking", "http://archive.ubuntu.com/ubuntu stonking main universe"),
+    ),
+)
+def test_where_a_suite_is(monkeypatch, tmp_path, suite, mirror):
+    """Ubuntu's keys come from Debian."""
+    keys = {
+        it: tmp_path / f"usr/share/keyrings/{it}-archive-keyring.gpg" for it in ("debian", "ubuntu")
+    }
+    keys["ubuntu"].parent.mkdir(parents=True)
+    keys["ubuntu"].touch()
+    monkeypatch.setattr(linux_packages, "keyring", lambda: keys["debian"])
+    monkeypatch.setattr(linux_packages, "fetch", lambda _, packages, its: str(tmp_path))
+    its = keys["debian" if suite == "sid" else "ubuntu"]
+    assert linux_packages.source_of(suite) == f"[signed-by={its}] {mirror}"
+
+
 @pytest.fixture
 def migrating(monkeypatch, tmp_path):
     """Returns what makes guests that migrate, on a machine whose QEMU has this accelerator;
@@ -259,7 +279,9 @@ def test_a_guest_that_migrates_is_emulated_unless_kvm_is_asked_for(migrating):
         migrating("tcg", None, "kvm")
 
 
-@pytest.mark.parametrize("asked, debian", ((None, "trixie"), ("sid", "sid")))
+@pytest.mark.parametrize(
+    "asked, debian", ((None, "trixie"), ("sid", "sid"), ("stonking", "stonking"))
+)
 def test_a_guest_that_migrates_between_qemus_of_a_debian(migrating, asked, debian):
     command, device = migrating("tcg", asked).find()
     assert command == ["ld-linux.so", "--preload", f"module-{debian}", f"qemu-{debian}"]
