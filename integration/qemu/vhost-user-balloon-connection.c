@@ -9,8 +9,31 @@
 #include "hw/virtio/virtio-bus.h"
 #include "standard-headers/linux/vhost_types.h"
 #include "vhost-user-balloon.h"
+#if QEMU_VERSION_MAJOR == 11 && QEMU_VERSION_MINOR == 0
+#include "chardev/char-socket.h"
+#include "qemu/yank.h"
+#endif
 
 static void balloon_event(void *opaque, QEMUChrEvent event);
+
+/*
+ * QEMU 11.0 ends by abort() where nobody is at the socket that it looks for
+ * again: it takes out a function of yank's that it puts in only afterwards. So
+ * a socket that isn't connected is no longer one of yank's.
+ */
+void vub_balloon_let_wait(VHostUserBalloon *b)
+{
+#if QEMU_VERSION_MAJOR == 11 && QEMU_VERSION_MINOR == 0
+    Chardev *chr = VHOST_USER_BASE(b)->chardev.chr;
+    SocketChardev *s = (SocketChardev *)
+        object_dynamic_cast(OBJECT(chr), TYPE_CHARDEV_SOCKET);
+
+    if (s && !s->sioc && s->registered_yank) {
+        yank_unregister_instance(CHARDEV_YANK_INSTANCE(chr->label));
+        s->registered_yank = false;
+    }
+#endif
+}
 
 void vub_balloon_listen(VHostUserBalloon *b)
 {
@@ -104,6 +127,7 @@ static void balloon_event(void *opaque, QEMUChrEvent event)
         qemu_chr_fe_disconnect(&vub->chardev);
     }
     if (event == CHR_EVENT_CLOSED) {
+        vub_balloon_let_wait(b);
         b->was_started = vhost_dev_is_started(&vub->vhost_dev);
         /* Later, as a message may be amid */
         vhost_user_async_close(DEVICE(b), &vub->chardev, &vub->vhost_dev,

@@ -135,6 +135,7 @@ static void balloon_realize(DeviceState *dev, Error **errp)
     vub->virtio_id = VIRTIO_ID_BALLOON;
     vub->config_size = VHOST_USER_BALLOON_CONFIG_SIZE;
     /* A chardev that reconnects does so later, unless it is waited for */
+    vub_balloon_let_wait(b);
     if (vub->chardev.chr &&
         qemu_chr_fe_wait_connected(&vub->chardev, errp) < 0) {
         return;

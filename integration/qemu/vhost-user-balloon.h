@@ -91,8 +91,10 @@ bool vub_balloon_add_handler(VHostUserBalloon *b);
 void vub_balloon_init_stats(VHostUserBalloon *b);
 void vub_balloon_free_stats(VHostUserBalloon *b);
 
-/* vhost-user-balloon-connection.c: has a socket's events served */
+/* vhost-user-balloon-connection.c: has a socket's events served; and a socket
+ * that isn't connected may wait for its backend */
 void vub_balloon_listen(VHostUserBalloon *b);
+void vub_balloon_let_wait(VHostUserBalloon *b);
 
 /* vhost-user-balloon-holes.c: holes of shared memory aren't read */
 extern const VMStateInfo vub_balloon_holes_info;

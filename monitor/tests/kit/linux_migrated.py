@@ -218,7 +218,8 @@ class Side:
         else:
             self.guest.process.kill()
         self.guest.close()
-        self.backend.close()
+        if self.backend:
+            self.backend.close()
 
     def end_qemu(self):
         """Has QEMU end, whether its guest runs or not."""

@@ -1,9 +1,13 @@
-"""Tests of a migration that doesn't come to its end, and of backends that go: the guest continues
-where it was, with its balloon."""
+"""Tests of a migration that doesn't come to its end, and of backends that go, or that come late:
+the guest continues where it was, with its balloon."""
 
 import os
 import signal
+from threading import Thread
 
+import linux_kit
+from linux_migrated import Side
+from linux_vmms import Shape
 from migrate_demands import (
     HARDLY,
     SLOWLY,
@@ -115,3 +119,27 @@ def test_a_target_while_there_is_no_backend(pair):
     side.settle()
     assert side.size_mib() == SMALL + 16
     demand_right(side, sums)
+
+
+class Late(Side):
+    """Its backend begins once QEMU has looked for it in vain."""
+
+    def begin(self):
+        """Has the backend begin later."""
+        Thread(target=self.begin_later, daemon=True).start()
+
+    def begin_later(self):
+        """Waits until QEMU says that it has found nobody, and starts the backend."""
+        log = os.path.join(self.folder, "guest.log")
+        read = lambda: open(log, encoding="latin-1").read() if os.path.exists(log) else ""
+        eventually(lambda: "Unable to connect" in read())
+        self.backend = super().begin()
+
+
+def test_a_backend_that_comes_late(vmm, tmp_path):
+    """QEMU waits for it as it begins, and looks for it again."""
+    shape = Shape(256, queues=5, queue_size=128)
+    program = linux_kit.built("checked/vhost_user_balloon")
+    side = Late(vmm, program, tmp_path, shape, incoming=True)
+    assert side.size_mib() == 256
+    side.close()
