@@ -93,8 +93,8 @@ SUITES = {
     "migrate": Suite(
         (
             "a Linux guest that migrates between two QEMUs of Debian 13 (`--suite NAME`: of "
-            "another one), or is saved, by emulation (`--accelerator kvm`: by KVM): all its memory "
-            "is compared"
+            "another one, or of Ubuntu), or is saved, by emulation (`--accelerator kvm`: by KVM): "
+            "all its memory is compared"
         ),
         ("monitor/tests/migrate", "-v", "-rP"),
         "ninja-build python3-venv libglib2.0-dev libfdt-dev zlib1g-dev patch",
