@@ -247,8 +247,16 @@ static void end_leaving(const struct host *host)
             continue;
         complain("%s doesn't end, and is killed", seat->name);
         pidfd_send_signal(seat->process_file, SIGKILL, NULL, 0);
-        has_ended(seat, loop_now() + LEAVES_IN);
     }
+}
+
+/* Waits a moment for those that were killed: the next program of this process knows none. */
+static void reap_leaving(const struct host *host)
+{
+    int64_t end = loop_now() + LEAVES_IN;
+    for (unsigned i = 0; i < host->leaving_count; i++)
+        if (host->leaving[i]->process_file >= 0)
+            has_ended(host->leaving[i], end);
 }
 
 void host_end(struct host *host)
@@ -257,6 +265,8 @@ void host_end(struct host *host)
     while (!live_on && host->count > 0 && !seat_remove(host, host->seats[0]))
         continue;
     end_leaving(host);
+    if (host->upgrades)
+        reap_leaving(host);
     if (!live_on)
         folder_leave(host);
 }

@@ -17,12 +17,15 @@ struct service {
 };
 
 /* The options of a service, as rows of a table (options.h). A configuration is read at once, and
- * its faults are said. */
+ * its faults are said. Options that come after --config are before what the file says; those before
+ * it are for what it doesn't say. */
 #define SOCKET_OPTIONS(its, rights, word)                                                          \
-    {word, .read = read_socket_path, .at = (its)->settings.sockets[rights].path},                  \
-        {word "-mode", .read = read_socket_mode, .at = &(its)->settings.sockets[rights].mode},     \
+    {word, .read = read_socket_path, .at = (its)->settings.options.sockets[rights].path},          \
+        {word "-mode", .read = read_socket_mode,                                                   \
+         .at = &(its)->settings.options.sockets[rights].mode},                                     \
     {                                                                                              \
-        word "-group", .read = read_socket_group, .at = (its)->settings.sockets[rights].group      \
+        word "-group", .read = read_socket_group,                                                  \
+                       .at = (its)->settings.options.sockets[rights].group                         \
     }
 #define SERVICE_OPTIONS(its)                                                                       \
     {"config", .read = read_config, .at = &(its)->settings},                                       \
@@ -30,7 +33,7 @@ struct service {
         {"check", .read = read_word, .at = &(its)->checks},                                        \
         SOCKET_OPTIONS(its, MAY_CHANGE, "control"), SOCKET_OPTIONS(its, MAY_LOOK, "status"),       \
     {                                                                                              \
-        "log-level", .read = read_log_level, .at = &(its)->settings.level                          \
+        "log-level", .read = read_log_level, .at = &(its)->settings.options.level                  \
     }
 
 bool read_config(const char *word, void *at);

@@ -15,23 +15,40 @@
 /* Bytes of a fault in an answer; the mode of a control socket of which nothing is said. */
 enum { MOST_FAULT = 256, USUAL_MODE = 0660 };
 
+/* Nothing is said. */
+static void unsay(struct host_options *options)
+{
+    *options = (struct host_options){.level = UINT32_MAX, .lines = UINT32_MAX};
+    for (unsigned i = 0; i < CONTROL_SOCKETS; i++)
+        options->sockets[i].mode = UINT32_MAX;
+}
+
 void settings_defaults(struct settings *settings)
 {
     config_clear(&settings->config), config_clear(&settings->usual);
-    settings->level = settings->lines = UINT32_MAX;
-    for (unsigned i = 0; i < CONTROL_SOCKETS; i++)
-        settings->sockets[i].mode = UINT32_MAX;
+    unsay(&settings->options), unsay(&settings->before);
 }
 
-/* What the file says of a control socket, where nothing else does. */
-static void take_socket(const struct config_socket *its, struct config_socket *socket)
+/* What is said of a control socket, where nothing else is. */
+static void fill_socket(struct config_socket *socket, const struct config_socket *its)
 {
     if (!socket->path[0])
         strcpy(socket->path, its->path);
     if (!socket->group[0])
         strcpy(socket->group, its->group);
     if (socket->mode == UINT32_MAX)
-        socket->mode = its->mode != UINT32_MAX ? its->mode : USUAL_MODE;
+        socket->mode = its->mode;
+}
+
+/* The same of all of them. */
+static void fill(struct host_options *options, const struct host_options *others)
+{
+    for (unsigned i = 0; i < CONTROL_SOCKETS; i++)
+        fill_socket(&options->sockets[i], &others->sockets[i]);
+    if (options->level == UINT32_MAX)
+        options->level = others->level;
+    if (options->lines == UINT32_MAX)
+        options->lines = others->lines;
 }
 
 /* How much is said from now on, where that is said. */
@@ -47,20 +64,25 @@ static void speak(struct settings *settings, uint32_t level, uint32_t lines)
 void settings_take(struct settings *settings)
 {
     const struct config *config = &settings->config;
-    uint32_t level = settings->level, lines = settings->lines;
-    for (unsigned i = 0; i < CONTROL_SOCKETS; i++)
-        take_socket(&config->fixed.sockets[i], &settings->sockets[i]);
-    settings->usual.level = level != UINT32_MAX ? level : LEVEL_INFO;
-    settings->usual.lines = lines != UINT32_MAX ? lines : most_lines;
+    struct host_options files = {.level = config->level, .lines = config->lines},
+                        usual = {.level = LEVEL_INFO, .lines = most_lines}, all = settings->options,
+                        without = settings->options;
+    memcpy(files.sockets, config->fixed.sockets, sizeof files.sockets);
+    usual.sockets[MAY_CHANGE].mode = usual.sockets[MAY_LOOK].mode = USUAL_MODE;
+    fill(&all, &files), fill(&all, &settings->before), fill(&all, &usual);
+    fill(&without, &settings->before), fill(&without, &usual);
+    settings->usual.level = without.level, settings->usual.lines = without.lines;
     settings->usual.says |= UINT32_C(1) << KEY_LEVEL | UINT32_C(1) << KEY_LINES;
-    settings->level = LEVEL_INFO;
-    speak(settings, config->level, config->lines);
-    speak(settings, level, lines);
+    memcpy(settings->sockets, all.sockets, sizeof all.sockets);
+    speak(settings, all.level, all.lines);
 }
 
 bool settings_read(struct settings *settings, const char *file)
 {
     settings->file = file;
+    fill(&settings->options, &settings->before);
+    settings->before = settings->options;
+    unsay(&settings->options);
     return config_read(file, &settings->config);
 }
 
@@ -158,8 +180,7 @@ bool settings_are_apart(const char *one, const char *other)
            say_fault("%s: [control] and [status] have the same socket", one);
 }
 
-/* Whether the control sockets may be where a configuration has them, but for an option's path: it
- * says that, or they are in the folder. */
+/* Whether the control sockets may be where a configuration says; or an option, or in the folder. */
 static bool sockets_fit(const struct settings *settings, const struct config *config,
                         const char *folder)
 {
@@ -167,9 +188,9 @@ static bool sockets_fit(const struct settings *settings, const struct config *co
     char paths[CONTROL_SOCKETS][2 * MOST_CONFIG_WORD];
     bool good = true;
     for (unsigned i = 0; i < CONTROL_SOCKETS; i++) {
-        const char *own = settings->sockets[i].path, *files = config->fixed.sockets[i].path;
+        const char *own = settings->options.sockets[i].path, *files = config->fixed.sockets[i].path;
         if (*own || *files)
-            strcpy(paths[i], *own ? own : files);
+            strcpy(paths[i], *files ? files : own);
         else
             snprintf(paths[i], sizeof paths[i], "%.*s/.%s", MOST_CONFIG_WORD, folder,
                      config_keys[keys[i]].section);

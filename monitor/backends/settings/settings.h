@@ -5,6 +5,13 @@
 #include "audit.h"
 #include "changes.h"
 
+/* What the command line says that a file may say, too: UINT32_MAX or an empty word is nothing. */
+struct host_options {
+    struct config_socket sockets[CONTROL_SOCKETS];
+    uint32_t level; /* of what is said */
+    unsigned lines; /* of a guest's in a second */
+};
+
 struct settings {
     const char *file;     /* of the configuration; NULL: none */
     const char *state;    /* the folder of what was changed; NULL: none */
@@ -14,7 +21,8 @@ struct settings {
     struct audit audit;
     struct config_socket sockets[CONTROL_SOCKETS]; /* as they are */
     uint32_t level;                                /* of what is said, as it is */
-    unsigned lines; /* of the command line; UINT32_MAX: it doesn't say how many */
+    struct host_options options,
+        before; /* after the file was named, or where none is; and before */
     struct host *host;
 };
 
@@ -25,7 +33,7 @@ void settings_defaults(struct settings *settings);
 bool settings_read(struct settings *settings, const char *file);
 
 /* Takes what it says of the control sockets and of what is said, where the command line doesn't say
- * that. */
+ * that after it; and where neither does, what that says before it. */
 void settings_take(struct settings *settings);
 
 /* Takes what was changed of the host, before all that was said of it. */

@@ -433,43 +433,44 @@ def test_a_guest_is_served_where_its_lines_have_no_bound(program, folder, file):
     assert (host.end(), [it for it in host.said() if "can't be taken" in it]) == (0, [])
 
 
-# Options, and the lines of a configuration by which all is as with them.
-OPTIONS = {
-    "--budget 100": "budget = 100M",
-    "--floor 1": "floor = 1M",
-    "--control-mode 0640": "mode = 0640",
-    "--control {folder}/.two": "socket = {folder}/.two",
-    "--status-group {group}": "group = {group}",
-    "--log-level notice": "level = notice",
-    "--lines 7": "lines = 7",
-}
+# Options, the lines of a configuration by which all is as with them, and those that there are where
+# an option comes before the file, which says that, too.
+OPTIONS = (
+    ("--budget 100", "budget = 100M", "budget = 100M"),
+    ("--floor 1", "floor = 1M", "floor = 1M"),
+    ("--control-mode 0640", "mode = 0640", "mode = 0600"),
+    ("--control {folder}/.two", "socket = {folder}/.two", "socket = {folder}/.control"),
+    ("--status-mode 0604", "mode = 0604", "mode = 0604"),
+    ("--status-group {group}", "group = {group}", "group = {group}"),
+    ("--log-level notice", "level = notice", "level = info"),
+    ("--lines 7", "lines = 7", "lines = 2000"),
+)
 
 
 @pytest.mark.parametrize("is_first", (False, True), ids=("after", "first"))
 def test_the_command_line_is_before_the_file(program, folder, file, is_first):
-    """Wherever it names the file; until that is read again, but for what stays as the host runs."""
+    """Until that is read again, but for what stays as the host runs; some options only where they
+    come after it."""
     filled_in = {"folder": folder, "group": group_name()}
-    options, by_file = " ".join(OPTIONS).format(**filled_in).split(), ("--config", str(file))
-    it = Host(program, folder, *(options + [*by_file] if is_first else [*by_file, *options]))
+    words = [it.format(**filled_in) for option, *_ in OPTIONS for it in option.split()]
+    by_file = ("--config", str(file))
+    it = Host(program, folder, *(words + [*by_file] if is_first else [*by_file, *words]))
     it.lines.next(patience_from_now())
-    it.control = f"{folder}/.two"
+    own, other = (".control", ".two") if is_first else (".two", ".control")
+    it.control = f"{folder}/{own}"
     assert [it.status()[name] for name in ("budget", "floor")] == [100 * MIB, MIB]
-    assert os.stat(it.control).st_mode & 0o777 == 0o640
+    assert os.stat(it.control).st_mode & 0o777 == (0o600 if is_first else 0o640)
     lines = it.ask("config")["config"].splitlines()
-    assert {line.format(**filled_in) for line in OPTIONS.values()} <= {*lines}, lines
+    assert {row[1 + is_first].format(**filled_in) for row in OPTIONS} <= {*lines}, lines
     assert len([line for line in lines if line.startswith("group = ")]) == 2, "of both sockets"
-    # The socket of the file is another host's.
+    # The other socket is another host's.
     with socket.socket(socket.AF_UNIX) as another:
-        another.bind(f"{folder}/.control")
+        another.bind(f"{folder}/{other}")
         assert it.ask("reload")["ok"]
-        assert {change["key"] for change in it.ask("changes")["changes"]} == {
-            "budget",
-            "floor",
-            "level",
-            "lines",
-        }
+        changed = {change["key"] for change in it.ask("changes")["changes"]}
+        assert changed == {"budget", "floor"} | (set() if is_first else {"level", "lines"})
         assert it.end() == 0
-        assert sorted(it for it in os.listdir(folder) if it in (".control", ".two")) == [".control"]
+        assert [it for it in os.listdir(folder) if it in (own, other)] == [other]
 
 
 @pytest.mark.parametrize("old, new, said", WRONG)
