@@ -4,6 +4,7 @@ taken, and harms nothing."""
 import os
 import shutil
 import signal
+import subprocess
 import time
 
 import pytest
@@ -173,3 +174,32 @@ def test_a_lender_that_is_killed_amid_a_write_leaves_what_was_changed(kept):
     host = kept.start()
     assert host.status()["budget"] == 300 * MIB, host.said()
     assert host.ask("budget", bytes=MIB)["lasts"]
+
+
+def fill(path):
+    """Fills a disk by a file."""
+    with open(path, "wb", buffering=0) as file, pytest.raises(OSError, match="No space left"):
+        while True:
+            file.write(bytes(4096))
+
+
+@pytest.mark.skipif(os.geteuid() != 0, reason="a disk is mounted, which takes root")
+def test_a_change_for_which_the_disk_has_no_room_is_not_made(kept):
+    """Until there is room again."""
+    kept.host.end()
+    subprocess.run(
+        ["mount", "-t", "tmpfs", "-o", "size=64k,mode=700", "state", str(kept.state)], check=True
+    )
+    try:
+        host = kept.start()
+        host.ask("budget", bytes=300 * MIB)
+        fill(kept.state / "fill")
+        with pytest.raises(Refused, match="it can't be kept: No space left on device"):
+            host.ask("budget", bytes=MIB)
+        assert host.status()["budget"] == 300 * MIB
+        (kept.state / "fill").unlink()
+        assert host.ask("budget", bytes=MIB)["lasts"]
+        assert host.end() == 0
+    finally:
+        subprocess.run(["umount", "-l", str(kept.state)], check=True)
+    kept.start()
