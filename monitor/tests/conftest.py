@@ -6,7 +6,12 @@ import os
 
 import linux_kit
 import pytest
+from bigvasta.connection import Connection
 from linux_vmms import VMMS
+from waiting import PATIENCE
+
+# A host on a busy machine answers who asks it in a test as late as that.
+Connection.__init__.__defaults__ = (PATIENCE,)
 
 
 def count(word):

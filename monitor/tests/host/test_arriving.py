@@ -223,19 +223,24 @@ def test_a_start_is_not_for_who_comes_from_another_host(migrating, moving, limit
     lender.become("a", lent=ALL - GIVEN_UP, ready=1)
 
 
-def test_a_guest_that_migrates_takes_no_pages(migrating):
-    """A deflate waits until it has arrived, or stays: so it has no more pages than it was to come
-    with. One that was held before is granted, and waits all the same."""
+def granted_as_it_migrates(migrating):
+    """Returns a lender and a guest whose deflate waited, and is granted while it migrates."""
     lender, client = migrating()
     with_pages(lender, client, GIVEN[:60])
-    file = log_file()
-    assert log_base(client, file) == bytes(8)
+    assert log_base(client, log_file()) == bytes(8)
     lender.set_budget(ALL - 60)
     client.post_pages(DEFLATE, GIVEN[:1])
     lender.become("a", waits="deflate")
     set_logging(client, True)
     lender.set_budget(ALL)
     lender.become("a", lent=ALL)
+    return lender, client
+
+
+def test_a_guest_that_migrates_takes_no_pages(migrating):
+    """A deflate waits until it has arrived, or stays: so it has no more pages than it was to come
+    with. One that was held before is granted, and waits all the same."""
+    lender, client = granted_as_it_migrates(migrating)
     client.post_pages(DEFLATE, GIVEN[1:2])
     demand_served(client, INFLATE, GIVEN[60:61])
     lender.become("a", ballooned=61)
@@ -248,15 +253,7 @@ def test_a_guest_that_migrates_takes_no_pages(migrating):
 @pytest.mark.parametrize("message", (RESET_DEVICE, SET_OWNER))
 def test_a_guest_that_migrates_may_reset_its_device(migrating, message):
     """Its deflate, which is granted and waits for the migration's end, is forgotten by that."""
-    lender, client = migrating()
-    with_pages(lender, client, GIVEN[:60])
-    assert log_base(client, log_file()) == bytes(8)
-    lender.set_budget(ALL - 60)
-    client.post_pages(DEFLATE, GIVEN[:1])
-    lender.become("a", waits="deflate")
-    set_logging(client, True)
-    lender.set_budget(ALL)
-    lender.become("a", lent=ALL)
+    lender, client = granted_as_it_migrates(migrating)
     client.accepted(message)
     lender.become("a", ready=0, ballooned=0, waits="nothing")
 
