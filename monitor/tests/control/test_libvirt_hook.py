@@ -1,10 +1,12 @@
 """libvirt's hook: a domain that is a guest of the host from its start to its end."""
 
 import os
+import socket
 import subprocess
+import threading
 
 import pytest
-from hosts import Answering, Host
+from hosts import Answering, Host, Raw
 from installed import CLIENT
 from waiting import PATIENCE, patience_from_now
 
@@ -47,6 +49,14 @@ class Hook:
 def hook(host, folder):
     """The hook, beside a host."""
     return Hook(host.control, folder)
+
+
+def lose_answer(listener, host):
+    """Hands a client's request on to a host, and goes before its answer."""
+    with listener.accept()[0] as client:
+        raw = Raw(host.control)
+        raw.answer(client.recv(4096).rstrip(b"\n"))
+        raw.close()
 
 
 def names(host):
@@ -126,6 +136,33 @@ def test_a_guest_of_somebody_else(host, hook):
     assert hook.said.startswith("bigvasta: a guest is named web-1 already: "), hook.said
     assert hook("release end", guest()) == 0
     assert host.guest("web-1")["terms"]["least"] == MIB
+
+
+def test_a_note_that_cannot_be_written(host, hook, folder):
+    """The domain doesn't start, and leaves no guest: it would be somebody else's from then on."""
+    place = hook.environment["BIGVASTA_LIBVIRT"]
+    hook.environment["BIGVASTA_LIBVIRT"] = f"{folder}/log/added"
+    assert hook("prepare begin", guest()) == 1 and "Not a directory" in hook.said, hook.said
+    assert hook("release end", guest()) == 0 and names(host) == []
+    hook.environment["BIGVASTA_LIBVIRT"] = place
+    assert hook("prepare begin", guest()) == 0, hook.said
+    assert hook("release end", guest()) == 0 and names(host) == []
+
+
+def test_an_answer_that_is_lost(host, hook, folder):
+    """The domain doesn't start, and its end removes the guest, which was added all the same."""
+    through = f"{folder}/through"
+    with socket.socket(socket.AF_UNIX) as listener:
+        listener.bind(through)
+        listener.listen()
+        lost = threading.Thread(target=lose_answer, args=(listener, host), daemon=True)
+        lost.start()
+        hook.environment["BIGVASTA_CONTROL"] = through
+        assert hook("prepare begin", guest()) == 4, hook.said
+        lost.join(PATIENCE)
+    hook.environment["BIGVASTA_CONTROL"] = host.control
+    assert names(host) == ["web-1"]
+    assert hook("release end", guest()) == 0 and names(host) == []
 
 
 def test_a_host_that_was_away_at_the_end(program, folder):
