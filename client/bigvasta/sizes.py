@@ -25,6 +25,14 @@ def parse_size(text, name="size"):
     return size
 
 
+def pages_of(text, name):
+    """Returns a size in pages: at least one."""
+    pages = parse_size(text, name) // PAGE
+    if pages == 0:
+        raise Usage(f"{name}: {text!r} isn't from 4K on")
+    return pages
+
+
 def mebibytes(size):
     """Returns bytes as a column shows them: whole MiB, or with a digit after the point below
     ten."""

@@ -22,7 +22,6 @@ def common():
             f"host, {STATUS} for what shows it)"
         ),
     )
-    words.add_argument("--json", action="store_true", help=AS_JSON)
     words.set_defaults(changes=lambda asked: False)
     return words
 
@@ -33,12 +32,14 @@ class Subcommands:
     def __init__(self, parser):
         self.own, self.common = parser.add_subparsers(metavar="COMMAND", required=True), common()
 
-    def add(self, name, run, about, description, **defaults):
+    def add(self, name, run, about, description, has_json=True, **defaults):
         """Adds one that asks the host, and returns its words; what it sets as `run` returns an exit
         status or None."""
         words = self.own.add_parser(
             name, parents=[self.common], help=about, description=description
         )
+        if has_json:
+            words.add_argument("--json", action="store_true", help=AS_JSON)
         words.set_defaults(run=run, **defaults)
         return words
 

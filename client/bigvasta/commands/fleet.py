@@ -11,7 +11,7 @@ from bigvasta.connection import away
 from bigvasta.fetching import SCHEME, address_of, connect
 from bigvasta.picture import promised_to
 from bigvasta.plan import room
-from bigvasta.sizes import PAGE, mebibytes, parse_size
+from bigvasta.sizes import PAGE, mebibytes, pages_of
 from bigvasta.source import PATIENCE
 from bigvasta.statuses import AWAY, DONE, PART, Fault, Unclear
 from bigvasta.subcommands import AS_JSON
@@ -95,9 +95,9 @@ def look_at_all(places):
     return [found.get(it) or Seen(it, None, late) for it in places]
 
 
-def lines(hosts, size):
+def lines(hosts, pages):
     """Returns a line a host, in their order; their sums, and the first that has room."""
-    head = (*COLUMNS, *(() if size is None else ("room",)), "pressed")
+    head = (*COLUMNS, *(() if pages is None else ("room",)), "pressed")
     here = [it for it in hosts if it.status]
     shown = iter(table([head, *(it.row() for it in here)], left=(0, len(head) - 1)))
     width = max(map(len, [COLUMNS[0], *(it.place for it in here)]))
@@ -106,10 +106,10 @@ def lines(hosts, size):
         yield next(shown) if it.status else f"{it.place:<{width}}  {it.fault}"
     short = sum(it.status["host"]["missing"] > 0 for it in here)
     yield f"{len(hosts)} hosts, {len(hosts) - len(here)} away, {short} short"
-    if size is not None:
+    if pages is not None:
         found = (it.place for it in here if it.lacks == 0 and not it.is_full())
         first = next(found, "no host")
-        yield f"a guest of {mebibytes(size)} MiB has room on {first}"
+        yield f"a guest of {mebibytes(pages * PAGE)} MiB has room on {first}"
 
 
 def run(asked):
@@ -117,13 +117,13 @@ def run(asked):
     for it in asked.hosts:
         if it.startswith(SCHEME):
             address_of(it)
-    size = None if asked.fits is None else parse_size(asked.fits, "--fits")
-    lacks = None if size is None else room.lacks_of(asked.library, size // PAGE)
+    pages = None if asked.fits is None else pages_of(asked.fits, "--fits")
+    lacks = None if pages is None else room.lacks_of(asked.library, pages)
     hosts = [
         it._replace(lacks=lacks(it.status)) if lacks and it.status else it
         for it in look_at_all(asked.hosts)
     ]
-    say(*((json.dumps(it.document()) for it in hosts) if asked.json else lines(hosts, size)))
+    say(*((json.dumps(it.document()) for it in hosts) if asked.json else lines(hosts, pages)))
     away = [it for it in hosts if it.status is None]
     return DONE if not away else PART if len(away) < len(hosts) else AWAY
 

@@ -33,6 +33,7 @@ def add(commands):
         "the host's metrics, for Prometheus",
         "Prints the metrics once; with --listen serves them at /metrics, as `serve` does. Wants "
         "python3-prometheus-client.",
+        has_json=False,
     )
     words.add_argument(
         "--listen",

@@ -22,6 +22,7 @@ def add(commands):
         "a live view in a browser",
         "Serves over HTTP, for reading: at / a page that shows what `watch` shows, and the last "
         "hour; at /status the host's answer, as JSON; at /metrics what `metrics` says.",
+        has_json=False,
     )
     words.add_argument(
         "--listen",

@@ -21,7 +21,7 @@ from bigvasta.plan import (
     tables,
 )
 from bigvasta.plan.lender import Terms
-from bigvasta.sizes import PAGE, parse_size
+from bigvasta.sizes import pages_of
 from bigvasta.statuses import DONE, REFUSED, Usage
 from bigvasta.words import say, write
 
@@ -30,13 +30,6 @@ MOST_HOSTS, MOST_PLACES, MOST_PROMISE, MOST_PROCESSES = 100000, 1000, 100, 1024
 
 # Seconds, as a host takes them.
 MOST_PATIENCE = 86400
-
-
-def pages_of(text, name):
-    """Returns a size in pages: at least one."""
-    pages = parse_size(text, name) // PAGE
-    demand(pages > 0, f"{name}: {text!r} isn't from 4K on")
-    return pages
 
 
 def hundredths_of(text, name):

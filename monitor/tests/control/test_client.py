@@ -154,6 +154,8 @@ COMMANDS = (
         "",
         "bigvasta: --listen: '5' is no HOST:PORT, such as localhost:9750\n",
     ),
+    ("metrics --json", 2, "", "usage: bigvasta"),
+    ("serve --json", 2, "", "usage: bigvasta"),
     ("metrics --listen localhost:0", 2, "", "bigvasta: --listen: 'localhost:0' is no HOST:PORT"),
     (
         "metrics --listen localhost:65536",

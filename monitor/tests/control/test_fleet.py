@@ -266,6 +266,7 @@ REFUSED = (
     (["http://x"], "http://x: 'x' is no HOST:PORT, such as localhost:9750"),
     (["http://localhost:0"], "http://localhost:0: 'localhost:0' is no HOST:PORT, such as"),
     (["x", "--fits", "4"], "--fits: '4' is no size: a number with K, M, G or T"),
+    (["x", "--fits", "0"], "--fits: '0' isn't from 4K on"),
     (["x", "--fits", "4G", "--library", "/none"], "/none is no library of vb.h"),
 )
 

@@ -11,9 +11,11 @@ import subprocess
 import pytest
 from bigvasta.cli import parser
 from bigvasta.connection import Connection
+from fakes import Fake
 from hosts import Host
 from installed import CLIENT
 from linux_kit import ROOT
+from made_status import guest, status
 from waiting import PATIENCE, patience_from_now
 
 MAN = os.path.join(ROOT, "docs", "man")
@@ -252,40 +254,49 @@ COMPLETIONS = (
     (["bigvasta", "log", "--s"], {"--since"}),
     (["bigvasta", "upgrade", "--"], {"--control", "--json", "--help"}),
     (["bigvasta", "plan", "--s"], {"--scheduler", "--seed", "--steps"}),
-    (["bigvasta", "serve", "--l"], {"--listen"}),
+    (["bigvasta", "serve", "--"], {"--control", "--help", "--listen"}),
     (["bigvasta", "fleet", "--"], {"--fits", "--library", "--json", "--help"}),
     (["bigvasta", "status", "--"], {"--control", "--json", "--help", "--names"}),
 )
 
 
-def test_completion_in_bash(host, folder):
-    for name in ("web-1", "web-2"):
-        host.ask("add", name=name)
+def complete(folder, control, words):
+    """Returns what these words, typed in a bash, may become beside the host at this socket."""
     program = folder / "bigvasta"
     program.write_text(
         f'#!/bin/sh\nPYTHONPATH={CLIENT} exec /usr/bin/python3 -B -m bigvasta "$@"\n'
     )
     program.chmod(0o755)
-    script = (
-        ". {file}; COMP_WORDS=({words}); COMP_CWORD=$(({count} - 1)); _bigvasta 2> /dev/null; "
-        "printf '%s\\n' \"${{COMPREPLY[@]}}\""
+    text = (
+        f". {ROOT}/packaging/bash-completion/bigvasta; "
+        f"COMP_WORDS=({' '.join(map(shlex.quote, words))}); COMP_CWORD={len(words) - 1}; "
+        "_bigvasta 2> /dev/null; printf '%s\\n' \"${COMPREPLY[@]}\""
     )
+    environment = {
+        **os.environ,
+        "PATH": f"{folder}:{os.environ['PATH']}",
+        "BIGVASTA_CONTROL": control,
+    }
+    ran = subprocess.run(
+        ["bash", "-c", text], capture_output=True, text=True, timeout=PATIENCE, env=environment
+    )
+    return set(ran.stdout.split())
+
+
+def test_completion_in_bash(host, folder):
+    for name in ("web-1", "web-2"):
+        host.ask("add", name=name)
     for words, wanted in COMPLETIONS:
         words = [it.format(control=host.control) for it in words]
-        text = script.format(
-            file=f"{ROOT}/packaging/bash-completion/bigvasta",
-            words=" ".join(map(shlex.quote, words)),
-            count=len(words),
-        )
-        environment = {
-            **os.environ,
-            "PATH": f"{folder}:{os.environ['PATH']}",
-            "BIGVASTA_CONTROL": host.control,
-        }
-        ran = subprocess.run(
-            ["bash", "-c", text], capture_output=True, text=True, timeout=PATIENCE, env=environment
-        )
-        assert set(ran.stdout.split()) == wanted, (words, ran)
+        assert complete(folder, host.control, words) == wanted, words
+
+
+def test_completion_runs_nothing_of_what_a_host_says(folder):
+    its = status([guest(it, memory=1) for it in ("a", f"$(touch${{IFS}}{folder}/ran)", "b c")])
+    host = Fake(folder, lambda asked: (its,))
+    assert complete(folder, host.path, ["bigvasta", "guest", ""]) == {"a"}
+    assert not (folder / "ran").exists()
+    host.close()
 
 
 def test_the_completion_knows_each_command():
