@@ -149,6 +149,7 @@ void client_stop(struct control_client *client)
 {
     client->ends = true;
     client->came = 0;
+    client->follows = UINT64_MAX;
 }
 
 const char *client_line(const struct control_client *client, size_t *length)

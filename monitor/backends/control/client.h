@@ -59,7 +59,7 @@ void client_next_line(struct control_client *client);
 /* Whether there is no room for more of a line that has no end. */
 bool client_line_is_too_long(const struct control_client *client);
 
-/* Nothing more is read of it, and what came isn't answered. */
+/* Nothing more is read of it, what came isn't answered, and it follows no longer. */
 void client_stop(struct control_client *client);
 
 #endif

@@ -100,12 +100,14 @@ static uint32_t events_of(const struct control_client *client)
            (client->unread_bytes > 0 || has_line(client) ? EPOLLOUT : 0);
 }
 
-/* Goes on waiting for a client, or takes its place away. */
+/* Goes on waiting for a client, or takes its place away. Who follows may have said all that it is
+ * to say. */
 static void settle(struct control_socket *its, unsigned place)
 {
     struct control_client *client = its->clients[place];
     uint32_t events = events_of(client);
-    if (client_is_served(client) && (!client->ends || events)) {
+    bool stays = !client->ends || client->follows != UINT64_MAX || events;
+    if (client_is_served(client) && stays) {
         if (events != client->waits_for)
             wait_for(its, EPOLL_CTL_MOD, client->socket, events, place);
         client->waits_for = events;
@@ -208,6 +210,7 @@ static void serve(struct control *control, const struct epoll_event *event, stru
     if (event->events & (EPOLLIN | EPOLLHUP | EPOLLERR))
         client_read(its->clients[place]);
     answer_line(control, its, its->clients[place], host);
+    its->clients[place]->gone |= its->clients[place]->ends && event->events & EPOLLHUP;
     settle(its, place);
 }
 

@@ -2,9 +2,11 @@
 
 import json
 import os
+import socket
 import threading
 import time
 
+import pytest
 from bigvasta.connection import Connection
 from bigvasta.statuses import Refused
 from hosts import Raw, say
@@ -151,6 +153,24 @@ def test_followers_hear_each_event_once_and_in_order(host, arrive):
     )
     for it in first, second:
         it.connection.close()
+
+
+@pytest.mark.parametrize("ends", (b"", b"x" * 4096), ids=("by half", "by a line too long"))
+def test_who_follows_may_say_no_more(host, ends):
+    """It hears of events until it closes its socket; after a line that is too long of none."""
+    raw = Raw(host.control)
+    assert raw.answer(say(request="events"))["ok"]
+    raw.socket.sendall(ends)
+    raw.socket.shutdown(socket.SHUT_WR)
+    if ends:
+        assert json.loads(raw.lines.readline())["error"]["code"] == "too-long"
+        assert raw.lines.readline() == b""
+    else:
+        host.ask("add", name="a")
+        names = iter(lambda: json.loads(raw.lines.readline())["event"], "added")
+        assert "removed" not in list(names)
+    raw.close()
+    eventually(lambda: host.status()["control"]["clients"] == 1, "it has its place yet")
 
 
 def test_a_guest_that_is_removed_while_it_is_there_has_gone(host, arrive):
