@@ -81,6 +81,7 @@ GUEST_SECONDS = (
 GUEST_FLAGS = (
     ("ready", lambda it: it["state"] == "ready", "Whether the guest's driver is ready"),
     ("is_waiting", lambda it: it["waits_for"] != "nothing", "Whether the guest waits for memory"),
+    ("answers", lambda it: it["answers"], "Whether the guest's statistics come"),
     ("cooperates", lambda it: it["cooperates"], "Whether the guest takes no memory back unasked"),
     (
         "pressed",

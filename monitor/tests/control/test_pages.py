@@ -15,7 +15,7 @@ from fakes import Fake
 from hosts import Host
 from installed import CLIENT
 from linux_kit import ROOT
-from made_status import guest, status
+from made_status import guest, status as status_of
 from waiting import PATIENCE, patience_from_now
 
 MAN = os.path.join(ROOT, "docs", "man")
@@ -292,7 +292,7 @@ def test_completion_in_bash(host, folder):
 
 
 def test_completion_runs_nothing_of_what_a_host_says(folder):
-    its = status([guest(it, memory=1) for it in ("a", f"$(touch${{IFS}}{folder}/ran)", "b c")])
+    its = status_of([guest(it, memory=1) for it in ("a", f"$(touch${{IFS}}{folder}/ran)", "b c")])
     host = Fake(folder, lambda asked: (its,))
     assert complete(folder, host.path, ["bigvasta", "guest", ""]) == {"a"}
     assert not (folder / "ran").exists()
