@@ -94,10 +94,11 @@ static bool read_mebibytes(const char *word, void *at)
     return true;
 }
 
+/* The largest number says that there is none. */
 static bool read_number_of(const char *word, void *at)
 {
     uint64_t number;
-    bool read = read_number(word, 10, UINT32_MAX, &number);
+    bool read = read_number(word, 10, UINT32_MAX - 1, &number);
     *(uint32_t *)at = read ? (uint32_t)number : *(uint32_t *)at;
     return read;
 }
@@ -213,7 +214,7 @@ static enum command_line read_words(struct host *host, struct service *service, 
         {"reserve", .read = read_percent, .at = &host->reserve},
         {"overdraft", .read = read_pages, .at = &host->lends.overdraft},
         {"patience", .read = read_patience, .at = &host->patience},
-        {"on-short", .read = read_shown_word, .at = &host->on_short},
+        {"on-short", .read = read_path, .at = &host->on_short},
         {"period", .read = read_period, .at = &host->period},
         {"cost", .read = read_number_of, .at = &host->cost},
         {"features", .read = read_features, .at = &host->features},
@@ -326,11 +327,10 @@ int main(int count, char **words)
     process_allow_files(FILES_OF_LENDER + host.most * FILES_OF_SEAT +
                         CONTROL_SOCKETS * MOST_CONTROL_CLIENTS);
     if (!host_make_tables(&host, host.most) || !can_seat() || !can_lend(&host) ||
-        !can_be_shown(host.folder) || !can_offer(host.features) || !find_program(&host) ||
-        !folder_lock(&host) || !answers_begin(&host.answers))
+        !folder_whole(&host) || !can_be_shown(host.folder) || !can_offer(host.features) ||
+        !find_program(&host) || !folder_lock(&host) || !answers_begin(&host.answers))
         return 2;
-    folder_take_over(&host);
-    if (!service_begin(&service, &host, host.folder))
+    if (!folder_take_over(&host) || !service_begin(&service, &host, host.folder))
         return 2;
     host.end = process_end();
     if (host.end < 0 || !machine_begin(&host))

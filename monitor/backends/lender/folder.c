@@ -3,6 +3,7 @@
 
 #include <dirent.h>
 #include <inttypes.h>
+#include <limits.h>
 #include <stdlib.h>
 #include <sys/file.h>
 #include <sys/stat.h>
@@ -51,6 +52,18 @@ static bool open_channels(struct host *host, int folder)
         return true;
     complain("%s/%s isn't the lender's alone", host->folder, channels_name);
     return false;
+}
+
+bool folder_whole(struct host *host)
+{
+    static char whole[PATH_MAX];
+    if (host->folder[0] == '/')
+        return true;
+    if (!realpath(host->folder, whole))
+        return complain("%s: %s", host->folder, strerror(errno)), false;
+    if (strlen(whole) + strlen("/") + MOST_NAME <= MOST_PATH)
+        host->folder = whole;
+    return true;
 }
 
 bool folder_lock(struct host *host)
@@ -202,28 +215,31 @@ bool folder_moves_channel(const struct seat *seat)
     return is_own_socket(path) && !rename(path, seat->later_path);
 }
 
-/* Makes a seat for the guest of this name, unless it has one. */
-static void take_over(struct host *host, const char *name)
+/* Makes a seat for the guest of this name, unless it has one; false where it is at work, and there
+ * is no place for it. */
+static bool take_over(struct host *host, const char *name)
 {
     struct guest_terms terms = host_usual_terms(host);
     uint32_t pages = 0;
     if (seat_of(host, name))
-        return;
+        return true;
     bool knows = recall(host, name, &terms, &pages);
     const char *fault = seat_add(host, name, &terms);
     if (fault) {
         complain("%s isn't taken over: %s", name, fault);
-        return;
+        return host->count < host->most || !process_is_left(host, name);
     }
     seat_of(host, name)->asks_terms = !knows;
     if (knows)
         seat_reserve(seat_of(host, name), pages);
+    return true;
 }
 
 /* Makes a seat for each socket of a folder whose name is this mark and a guest's name, in the order
- * of names. */
-static void take_over_all(struct host *host, const char *folder, const char *mark)
+ * of names; false where one at work has no place. */
+static bool take_over_all(struct host *host, const char *folder, const char *mark)
 {
+    bool all = true;
     char path[MOST_KEPT];
     struct dirent **found;
     size_t length = strlen(mark);
@@ -232,17 +248,17 @@ static void take_over_all(struct host *host, const char *folder, const char *mar
         const char *name = found[i]->d_name;
         snprintf(path, sizeof path, "%s/%s", folder, name);
         if (!strncmp(name, mark, length) && is_name(name + length) && is_own_socket(path))
-            take_over(host, name + length);
+            all &= take_over(host, name + length);
         free(found[i]);
     }
     if (count >= 0)
         free(found);
+    return all;
 }
 
-void folder_take_over(struct host *host)
+bool folder_take_over(struct host *host)
 {
     char channels[MOST_PATH];
     snprintf(channels, sizeof channels, "/proc/self/fd/%d", host->channels);
-    take_over_all(host, channels, "");
-    take_over_all(host, host->folder, earlier_mark);
+    return take_over_all(host, channels, "") && take_over_all(host, host->folder, earlier_mark);
 }

@@ -263,6 +263,10 @@ bool host_make_tables(struct host *host, unsigned guests);
 
 /* ---- folder.c */
 
+/* Names the folder from / on, so that its sockets have paths for others, where they aren't too long
+ * for sockets then; false where it isn't there, which is said. */
+bool folder_whole(struct host *host);
+
 /* Whether the folder is this host's alone, and the folder of channels in it its user's alone; says
  * why not. It stays so until the process ends. */
 bool folder_lock(struct host *host);
@@ -283,8 +287,9 @@ const char *folder_keep(struct seat *seat, const struct guest_terms *terms);
 bool folder_keep_pages(struct seat *seat);
 void folder_forget(const struct host *host, const char *name);
 
-/* Makes a seat for each guest that an earlier lender has left in the folder. */
-void folder_take_over(struct host *host);
+/* Makes a seat for each guest that an earlier lender has left in the folder; false, which is said,
+ * where one at work has no place, so that nobody would count its pages. */
+bool folder_take_over(struct host *host);
 
 /* Removes the socket of an earlier host, and nothing else. */
 void remove_socket(const char *path);
@@ -341,6 +346,7 @@ int64_t seat_has_paid(const struct seat *seat);
 /* Takes over the process of an earlier lender, if there is one. And these pages count as lent until
  * that has reported, or has ended. */
 void seat_take_over(struct seat *seat);
+bool process_is_left(const struct host *host, const char *name); /* by an earlier lender */
 void seat_reach(struct seat *seat); /* once more, where it couldn't be reached */
 void seat_reserve(struct seat *seat, uint32_t pages);
 

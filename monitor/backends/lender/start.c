@@ -217,6 +217,17 @@ static int connect_later(const char *path, pid_t *process)
     return errno = why, -1;
 }
 
+bool process_is_left(const struct host *host, const char *name)
+{
+    char path[MOST_PATH];
+    pid_t process;
+    snprintf(path, sizeof path, "/proc/self/fd/%d/%s", host->channels, name);
+    int channel = connect_later(path, &process);
+    if (channel >= 0)
+        file_close(channel);
+    return channel >= 0 || errno == EAGAIN;
+}
+
 /* Reaches the process of an earlier lender; false where there is none, or where it isn't reached
  * yet. */
 static bool reach(struct seat *seat)

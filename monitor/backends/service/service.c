@@ -42,6 +42,12 @@ bool read_shown_word(const char *word, void *at)
     return word_is_shown(word) && read_word(word, at);
 }
 
+bool read_path(const char *word, void *at)
+{
+    char path[MOST_CONFIG_WORD];
+    return !word_read(WORD_PATH, word, path) && read_word(word, at);
+}
+
 bool read_socket_path(const char *word, void *at)
 {
     return !word_read(WORD_PATH, word, at);

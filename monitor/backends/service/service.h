@@ -38,6 +38,7 @@ struct service {
 
 bool read_config(const char *word, void *at);
 bool read_shown_word(const char *word, void *at);
+bool read_path(const char *word, void *at);
 bool read_socket_path(const char *word, void *at);
 bool read_socket_mode(const char *word, void *at);
 bool read_socket_group(const char *word, void *at);

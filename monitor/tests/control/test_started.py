@@ -1,10 +1,12 @@
 """What a host has as it starts: what its command line says, else what its file says, else what
 bigvasta-host.conf(5) names."""
 
+import subprocess
+
 import pytest
 from hosts import Host
 from test_config import TAKEN, filled
-from waiting import patience_from_now
+from waiting import PATIENCE, patience_from_now
 
 MIB, PAGE = 1 << 20, 4096
 
@@ -91,6 +93,32 @@ def test_what_the_command_line_says_is_before_the_file(starts, folder, key, word
 def test_how_many_guests_there_may_be(starts, folder, words, most):
     text = f"[host]\nfolder = {folder}\nbudget = 480M\n"
     assert starts(text, *words).status()["most_guests"] == most
+
+
+# Words of options that no file could say: `config` would print what isn't taken.
+NONE = (("on-short", "true"), ("on-short", f"/{127 * 'x'}"), ("step", 2**32 - 1))
+
+
+@pytest.mark.parametrize("name, word", (*NONE, ("overdraft", 2**32 - 1)))
+def test_words_that_are_not_taken(program, folder, name, word):
+    words = [program, str(folder), "--budget", "480", f"--{name}", str(word)]
+    ran = subprocess.run(words, input="quit\n", capture_output=True, text=True, timeout=PATIENCE)
+    assert (ran.returncode, ran.stderr.splitlines()[:1]) == (
+        2,
+        [f"--{name}: {word} can't be taken"],
+    )
+
+
+def test_a_folder_that_is_named_from_here(program, folder):
+    """Its sockets have paths for others, and its configuration is one that a host takes."""
+    words = 'cd "$1" && shift && exec "$0" . --budget 480 "$@"'
+    host = Host("sh", folder, "-c", words, program, str(folder))
+    assert host.lines.next(patience_from_now()) == "ready", host.said()
+    assert host.ask("add", name="a")["guest"]["socket"] == f"{folder}/a"
+    file = folder / "host.conf"
+    file.write_text(host.ask("config")["config"])
+    ran = subprocess.run([program, "--check", str(file)], capture_output=True, timeout=PATIENCE)
+    assert (ran.returncode, ran.stderr, host.end()) == (0, b"", 0)
 
 
 def test_each_key_of_the_host_is_tried():

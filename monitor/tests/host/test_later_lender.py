@@ -2,6 +2,7 @@
 
 import os
 import signal
+import subprocess
 import threading
 import time
 
@@ -72,6 +73,22 @@ def test_the_next_lender_goes_on_with_the_guests(lend, come, end):
     )
     come(second, "empty", {FREE: 0})
     eventually(lambda: [second.guests()[it]["target"] for it in "ab"] == [28, 100], second.guests)
+
+
+def test_a_lender_without_a_place_for_a_guest_at_work(lend, come, plain):
+    """It doesn't start: nobody would count what that guest has. Who isn't there may lack one."""
+    first = lend(1, *QUICK)
+    come(first, "a", {FREE: 100}), come(first, "b", {FREE: 100}), first.demand("add c")
+    leave(first)
+    for most, status in (1, 2), (2, 0):
+        words = [plain, first.folder, "--budget", "1", "--guests", str(most), "--leave"]
+        ran = subprocess.run(words, input=b"leave\n", capture_output=True, timeout=PATIENCE)
+        assert ran.returncode == status, ran
+        said = "isn't taken over: the host has its"
+        assert f"{'cb'[status // 2]} {said} {most} guests: --guests" in ran.stderr.decode()
+    second = lend(1, *QUICK, folder=first.folder)
+    for name in "ab":
+        second.become(name, ready=1, pages=128, lent=128)
 
 
 def test_the_last_lender_ends_all(lend, come):
