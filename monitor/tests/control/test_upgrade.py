@@ -52,6 +52,19 @@ def test_guests_live_through_an_upgrade(program, folder):
     assert second.end() == 0
 
 
+def test_a_guest_that_is_added_until_a_restart_lives_on_with_the_others(program, folder):
+    """With its terms, where its lender leaves guests; all else is as the command line says."""
+    host = begin(program, folder)
+    for fields in {"request": "budget", "bytes": 4096}, {"request": "add", "name": "a", "least": 0}:
+        assert host.ask(**fields, until_restart=True)["lasts"] is False
+    host.ask("guest", name="a", weight=7, until_restart=True)
+    assert host.end() == 0
+    host = begin(program, folder)
+    assert (host.status()["budget"], host.guest("a")["terms"]["weight"]) == (480 << 20, 7)
+    host.ask("remove", name="a")
+    assert host.end() == 0
+
+
 def test_one_command_upgrades_the_host_and_its_guests(program, folder, tmp_path):
     installed = tmp_path / "installed"
     host = begin(install(older_program(), installed), folder)
