@@ -106,7 +106,6 @@ def test_what_the_page_of_the_host_shows(program, folder):
     (((name, *words), lines),) = examples("vhost_user_host.1")
     assert name == "vhost_user_host"
     said = [it.replace("/run/bigvasta", str(folder)) for it in words]
-    said[said.index("bigvasta")] = "root"
     host = Host(program, folder, *said)
     assert [host.lines.next(patience_from_now()) for _ in lines] == lines
     assert host.end() == 0
@@ -125,11 +124,7 @@ def test_what_the_page_of_the_backend_shows(program):
 
 def test_what_the_page_of_the_configuration_shows(program, folder):
     (block,) = re.findall(r"(?s)\n\.EX\n(.*?)\.EE\n", page("bigvasta-host.conf.5"))
-    (folder / "host.conf").write_text(
-        plain(block)
-        .replace("/run/bigvasta", str(folder))
-        .replace("group = bigvasta", "group = root")
-    )
+    (folder / "host.conf").write_text(plain(block).replace("/run/bigvasta", str(folder)))
     host = Host(program, folder, "--config", f"{folder}/host.conf")
     assert host.lines.next(patience_from_now()) == "ready"
     assert [it["name"] for it in host.ask("status")["guests"]] == ["web-1"]

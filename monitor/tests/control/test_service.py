@@ -31,7 +31,6 @@ os.environ["LISTEN_PID"] = str(os.getpid())
 os.execv(sys.argv[2], sys.argv[2:])
 """
 
-
 # Seconds between two words to a service manager without a watchdog that wants more.
 STATUS_EVERY = 5
 
@@ -309,30 +308,34 @@ def test_the_user_and_the_folder_of_sockets(tmp_path):
         ), name
 
 
+def started_by(unit):
+    """Returns the words by which a unit starts its program."""
+    with open(f"{SYSTEMD}/{unit}", encoding="utf-8") as file:
+        return re.search(r"(?m)^ExecStart=(.*)$", file.read())[1]
+
+
 def test_what_the_units_start():
-    for unit, words in zip(
-        UNITS,
-        (
-            (
-                "/usr/bin/vhost_user_host --leave --status /run/bigvasta-status/socket --config "
-                "/etc/bigvasta/host.conf --state /var/lib/bigvasta"
-            ),
-            "/usr/bin/bigvasta metrics --listen localhost:9750",
-        ),
-    ):
-        with open(f"{SYSTEMD}/{unit}", encoding="utf-8") as file:
-            assert f"ExecStart={words}\n" in file.read()
+    assert [started_by(it) for it in UNITS] == [
+        "/usr/bin/vhost_user_host --leave --control-mode 0600 --status /run/bigvasta-status/socket "
+        "--config /etc/bigvasta/host.conf --state /var/lib/bigvasta",
+        "/usr/bin/bigvasta metrics --listen localhost:9750",
+    ]
+
+
+def test_the_service_s_control_socket_is_for_no_group(program, folder):
+    """Also where its file says nothing of it: each VMM is a member of the host's group."""
+    words = re.sub(r"/\S+/(bigvasta(-status)?)\b", str(folder), started_by(UNITS[0])).split()
+    (folder / "host.conf").write_text(f"[host]\nfolder = {folder}\nbudget = 8M\n")
+    host = Host(program, folder, *words[1:-2])  # but for --state, which is another folder
+    assert host.lines.next(patience_from_now()) == "ready", host.said()
+    assert os.stat(host.control).st_mode & 0o777 == 0o600 and host.end() == 0
 
 
 def test_the_configuration_of_the_package(program, folder):
     """With a budget, the file that the package installs is right, and with each line that is a
     comment in it, too."""
     with open(f"{ROOT}/packaging/etc/host.conf", encoding="utf-8") as file:
-        text = (
-            file.read()
-            .replace("/run/bigvasta-status", str(folder))
-            .replace("/run/bigvasta", str(folder))
-        )
+        text = re.sub("/run/bigvasta(-status)?", str(folder), file.read())
     bare = text.replace("# budget", "budget")
     full = re.sub(r"(?m)^# (\[guest|least|most|priority)", r"\1", bare)
     for text in bare, full:
