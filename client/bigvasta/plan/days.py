@@ -2,6 +2,7 @@
 place where it was read."""
 
 import math
+import re
 from typing import NamedTuple
 
 from bigvasta.sizes import PAGE, whole
@@ -112,8 +113,10 @@ class Line:
     def seconds(self, name="seconds"):
         """Returns seconds, from 0 on: the time, from any one moment on."""
         text = self.text(name)
+        # Python takes 1_0 and digits of other scripts for numbers, too.
+        is_plain = re.fullmatch(r"[\d.eE+-]+", text, re.ASCII)
         try:
-            value = float(text)
+            value = float(text) if is_plain else math.nan
         except ValueError:
             value = math.nan
         if not 0 <= value <= MOST_SECONDS:

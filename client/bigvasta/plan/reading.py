@@ -73,7 +73,7 @@ def read_table(calls, path, text):
 def read(calls, path):
     """Returns the recorded day of a file; the library's calls say who is pressed."""
     try:
-        with open(path, encoding="utf-8", newline="") as file:
+        with open(path, encoding="utf-8-sig", newline="") as file:
             text = file.read()
         recording = (
             read_matrix(calls, path, text)

@@ -12,10 +12,11 @@ PAGE, MIB = 4096, 1 << 20
 DIGITS = "1" * 5000
 
 
-def test_what_is_read(tmp_path, library):
+@pytest.mark.parametrize("mark", ("", "\ufeff"), ids=ascii)
+def test_what_is_read(tmp_path, library, mark):
     path = tmp_path / "day.csv"
     path.write_text(
-        "seconds,guest,available,size,free\n5,b,4096,8192,\n0,a,8192,8192,8192\n"
+        f"{mark}seconds,guest,available,size,free\n5,b,4096,8192,\n0,a,8192,8192,8192\n"
         "7.5,a,8192,8192,8192\n7.6,a,8192,8192,4095\n8,a,1,8192,0\n9,b,0,8192,\n"
         "10,a,0,8192,0\n"
     )
@@ -127,7 +128,10 @@ REFUSED = (
     (HEAD + "a,1,8192,4096,\n", ":3: seconds: 1 isn't after 1, the time of a before"),
     (HEAD + "b,-1,8192,4096,\n", ":3: seconds: '-1' is no time in seconds from 0 on"),
     (HEAD + "b,nan,8192,4096,\n", ":3: seconds: 'nan' is no time in seconds from 0 on"),
-    (HEAD + "b,noon,8192,4096,\n", ":3: seconds: 'noon' is no time in seconds from 0 on"),
+    *(
+        (HEAD + f"b,{it},8192,4096,\n", f":3: seconds: {it!r} is no time in seconds from 0 on")
+        for it in ("noon", "1_0", "٤")
+    ),
     (
         HEAD + "b,9e12,8192,4096,\n",
         ":2: a has this row alone: a guest's last row says when it goes",
