@@ -2,14 +2,15 @@
 together. `-rP` prints the figures."""
 
 import select
+import struct
 import time
 
 import pytest
 from host_small import Talker
 from tenants import eventually, process_of
 from test_strict import Later
-from vhost_client import Client
-from waiting import seconds_of
+from vhost_client import INFLATE, NO_FILE, SET_VRING_KICK, Client
+from waiting import goes_on_sleeping, seconds_of
 
 # KiB that a guest's process may have for itself, and a part of one processor for all.
 MOST_KIB, MOST_SHARE = 1536, 0.02
@@ -95,6 +96,15 @@ def test_the_process_of_a_guest_that_waits_sleeps(lend):
     lender.become("b", waits="room")
     eventually(lambda: sleeps(process_of(lender, "b")), "it never sleeps")
     first.leave(), comes.ends(), second.leave()
+
+
+def test_the_process_of_a_queue_that_nobody_kicks_sleeps_between_its_looks(lend):
+    lender = lend(1, *SELDOM)
+    client = Client(lender.add("a"))
+    client.start()
+    client.accepted(SET_VRING_KICK, struct.pack("<Q", INFLATE | NO_FILE))
+    goes_on_sleeping(process_of(lender, "a"))
+    client.leave()
 
 
 def test_clients_that_come_after_one_another_are_taken_between_two_looks(lend):

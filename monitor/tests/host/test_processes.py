@@ -18,7 +18,7 @@ from tenants import FREE, eventually, go_on, has_ended, process_of, status_of, s
 from test_awaits import GIVEN, begin
 from test_strict import STRICT, Later
 from vhost_client import ADD_MEM_REG, INFLATE, Client
-from waiting import PATIENCE
+from waiting import PATIENCE, sleeps_of
 
 
 def test_a_second_host_of_a_folder_is_refused(lend, plain):
@@ -329,7 +329,7 @@ def test_quit_waits_for_no_process_of_its_own(lend):
         lender = lend(5, folder=folder)
         for number in range(64):
             lender.demand(f"add guest-{number}")
-        before = int(status_of(lender.process.pid)["voluntary_ctxt_switches"])
+        before = sleeps_of(lender.process.pid)
         lender.process.stdin.write(b"quit\n"), lender.process.stdin.flush()
         _, status, used = os.wait4(lender.process.pid, 0)
     waits = used.ru_nvcsw - before

@@ -29,3 +29,15 @@ def seconds_of(process):
     """Returns the seconds for which a process has had a processor."""
     with open(f"/proc/{process}/schedstat", encoding="ascii") as its:
         return int(its.read().split()[0]) / 1e9
+
+
+def sleeps_of(process):
+    """Returns how often a process has gone to sleep by itself."""
+    with open(f"/proc/{process}/status", encoding="ascii") as its:
+        return next(int(it.split()[1]) for it in its if it.startswith("voluntary_ctxt_switches"))
+
+
+def goes_on_sleeping(process):
+    """Waits until a process has gone to sleep some more times, as one doesn't that always looks."""
+    before = sleeps_of(process)
+    eventually(lambda: sleeps_of(process) >= before + 3, "it never sleeps")

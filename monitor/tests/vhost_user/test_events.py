@@ -35,6 +35,7 @@ from vhost_client import (
     STATUS,
 )
 from vhost_demands import FIRST, MOMENT, demand_served, demand_unserved, post_statistics, word
+from waiting import goes_on_sleeping
 
 
 def test_inflate_and_deflate(start_by_events):
@@ -281,6 +282,7 @@ def test_a_ring_without_a_kick(start_by_events):
     client.describe(INFLATE, 0, BUFFERS, 4)
     client.publish(INFLATE, 0)
     assert (client.called(INFLATE), client.used(INFLATE)[0]) == (1, 1)
+    goes_on_sleeping(client.backend.process.pid)
     client.accepted(SET_VRING_ENABLE, struct.pack("<II", INFLATE, 0))
     client.publish(INFLATE, 0)
     time.sleep(MOMENT)
