@@ -183,11 +183,14 @@ def test_a_picture_of_a_screen():
     assert [it.text[0] for it in by_held[5:7]] == ["b", "a"]
 
 
-@pytest.mark.parametrize("width, height", ((1, 1), (10, 3), (60, 6), (200, 50), (40, 24)))
+@pytest.mark.parametrize("width, height", ((1, 1), (10, 3), (60, 6), (200, 50), (40, 24), (80, 8)))
 def test_pictures_fit_their_screens(width, height):
+    """Beside guests there are two lines of the host, its state, the head of the table, the keys,
+    and two empty lines."""
     guests = [guest(f"guest-{it}", held=it, waits_for="room", waits=5) for it in range(64)]
     lines = picture.picture(a_status(guests), width, height, Shown())
     assert len(lines) <= height and all(len(it.text) <= width for it in lines)
+    assert sum(it.text.startswith("guest-") for it in lines) == max(height - 7, 0)
 
 
 def test_a_decision_s_line():

@@ -166,6 +166,9 @@ def test_the_bar_of_a_guest():
     60; the mark is where its target of 20 leaves it. It has half the memory of the largest."""
     its = guest("a", memory=100, held=40, loan=60, spare=30, ballooned=20, target=20)
     assert guest_bar(its, 200 * MIB, 40, "#=. |") == "######==....    |   ]"
+    # Whose balloon has more than it can spare has none to spare: 75 MiB of 100 are 1.5 characters.
+    its = guest("a", memory=100, held=75, loan=75, spare=10, ballooned=20)
+    assert guest_bar(its, 100 * MIB, 2, "#=. |") == "##]"
 
 
 def test_the_lines_of_a_status():
