@@ -137,13 +137,16 @@ def test_help_and_version(program, words, said):
     assert (ran.returncode, ran.stderr, ran.stdout[: len(said)]) == (0, "", said)
 
 
-def test_no_file_is_left_for_a_client(serve_well):
+def test_no_file_is_left_for_a_state_and_a_client(serve_well):
     client = serve_well()
-    client.restart()
-    client.counter("status")  # once it waits, all that it opens by itself is open
+    state = client.file("state")
+    client.restart("--state", state)
+    target(client, 5)  # once it waits, all that it opens by itself is open, and its state written
     process = client.backend.process.pid
     soft, hard = resource.prlimit(process, resource.RLIMIT_NOFILE)
     resource.prlimit(process, resource.RLIMIT_NOFILE, (client.open_files(), hard))
+    target(client, 6)
+    assert client.backend.why() == f"{state} isn't written: Too many open files"
     client.connect()
     assert client.is_at_rest(), "no file is left, and the backend looks again and again"
     assert client.backend.why() == "a client can't be taken: Too many open files"
