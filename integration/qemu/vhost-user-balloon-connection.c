@@ -41,6 +41,12 @@ void vub_balloon_listen(VHostUserBalloon *b)
                              balloon_event, NULL, b, NULL, true);
 }
 
+void vub_balloon_ignore(VHostUserBalloon *b)
+{
+    qemu_chr_fe_set_handlers(&VHOST_USER_BASE(b)->chardev, NULL, NULL, NULL,
+                             NULL, NULL, NULL, false);
+}
+
 static int balloon_config_notifier(struct vhost_dev *dev)
 {
     virtio_notify_config(dev->vdev);
@@ -53,19 +59,24 @@ static const VhostDevConfigOps balloon_config_ops = {
 
 static void balloon_disconnect(DeviceState *dev)
 {
+    VHostUserBalloon *b = VHOST_USER_BALLOON(dev);
     VHostUserBase *vub = VHOST_USER_BASE(dev);
     VirtIODevice *vdev = VIRTIO_DEVICE(dev);
     struct vhost_virtqueue *vqs = vub->vhost_dev.vqs;
 
     if (vub->connected) {
-        /* It was marked as stopped as the socket closed, and isn't yet */
-        vub->vhost_dev.started = VHOST_USER_BALLOON(dev)->was_started;
+        /*
+         * It was marked as stopped as the socket closed. It isn't yet, unless
+         * that was amid its stop, or amid a start that failed.
+         */
+        vub->vhost_dev.started = vdev->vhost_started;
         vub_balloon_base_class()->set_status(vdev, 0);
         vub->connected = false;
         vhost_dev_cleanup(&vub->vhost_dev);
         g_free(vqs);
     }
-    vub_balloon_listen(VHOST_USER_BALLOON(dev));
+    b->is_closing = false;
+    vub_balloon_listen(b);
 }
 
 /* A new process has none of the driver's words: neither a target nor `actual` */
@@ -128,7 +139,7 @@ static void balloon_event(void *opaque, QEMUChrEvent event)
     }
     if (event == CHR_EVENT_CLOSED) {
         vub_balloon_let_wait(b);
-        b->was_started = vhost_dev_is_started(&vub->vhost_dev);
+        b->is_closing = true;
         /* Later, as a message may be amid */
         vhost_user_async_close(DEVICE(b), &vub->chardev, &vub->vhost_dev,
                                balloon_disconnect);

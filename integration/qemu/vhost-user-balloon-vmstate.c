@@ -43,8 +43,8 @@ static int balloon_check_backend(void *opaque)
 {
     VHostUserBase *vub = VHOST_USER_BASE(opaque);
 
-    return vub->connected && vhost_supports_device_state(&vub->vhost_dev) ?
-           0 : -ENOTSUP;
+    return vub_balloon_is_connected(opaque) &&
+           vhost_supports_device_state(&vub->vhost_dev) ? 0 : -ENOTSUP;
 }
 
 static bool balloon_needed(void *opaque)

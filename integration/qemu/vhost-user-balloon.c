@@ -115,11 +115,10 @@ static bool balloon_add(VHostUserBalloon *b, Error **errp)
     return true;
 }
 
-/* What the base leaves as it is unrealized: its handler would find no device */
+/* The handler would find no device */
 static void balloon_unrealize_base(DeviceState *dev)
 {
-    qemu_chr_fe_set_handlers(&VHOST_USER_BASE(dev)->chardev, NULL, NULL, NULL,
-                             NULL, NULL, NULL, false);
+    vub_balloon_ignore(VHOST_USER_BALLOON(dev));
     if (!VHOST_USER_BALLOON(dev)->keep_pages) {
         ram_block_discard_require(false);
     }
@@ -145,6 +144,8 @@ static void balloon_realize(DeviceState *dev, Error **errp)
         error_propagate(errp, err);
         return;
     }
+    /* The base's handler would look at a device that isn't made */
+    vub_balloon_ignore(b);
     if (!balloon_add(b, errp)) {
         balloon_unrealize_base(dev);
         return;

@@ -45,7 +45,7 @@ struct VHostUserBalloon {
     /* What a backend that reconnects is told */
     uint32_t target;
     bool keep_pages;
-    bool was_started;
+    bool is_closing;            /* its socket has, and it isn't stopped yet */
     bool has_lender;            /* which alone sets the target */
 
     /* Of the guest's pages, those that stay given up while it migrates */
@@ -59,7 +59,7 @@ VirtioDeviceClass *vub_balloon_base_class(void);
 
 static inline bool vub_balloon_is_connected(VHostUserBalloon *b)
 {
-    return VHOST_USER_BASE(b)->connected;
+    return VHOST_USER_BASE(b)->connected && !b->is_closing;
 }
 
 /* The driver's `actual`, as it was last seen */
@@ -91,9 +91,10 @@ bool vub_balloon_add_handler(VHostUserBalloon *b);
 void vub_balloon_init_stats(VHostUserBalloon *b);
 void vub_balloon_free_stats(VHostUserBalloon *b);
 
-/* vhost-user-balloon-connection.c: has a socket's events served; and a socket
- * that isn't connected may wait for its backend */
+/* vhost-user-balloon-connection.c: has a socket's events served, or not; and a
+ * socket that isn't connected may wait for its backend */
 void vub_balloon_listen(VHostUserBalloon *b);
+void vub_balloon_ignore(VHostUserBalloon *b);
 void vub_balloon_let_wait(VHostUserBalloon *b);
 
 /* vhost-user-balloon-holes.c: holes of shared memory aren't read */

@@ -36,13 +36,14 @@ def module(suite):
     return ran.stdout.strip()
 
 
-def preloaded(built_for, debian):
+def preloaded(built_for, debian, besides=()):
     """Returns the words that begin a command of QEMU of a Debian, with the module that was built
-    for that of another, or of the same. It is preloaded by the loader, and so in no process that
-    QEMU starts."""
+    for that of another, or of the same, and modules besides. They are preloaded by the loader, and
+    so in no process that QEMU starts."""
     words = fetched_qemu(debian)
     loader = next(i for i, it in enumerate(words) if "ld-linux" in it)
-    return [*words[: loader + 1], "--preload", module(built_for), *words[loader + 1 :]]
+    modules = ":".join([module(built_for), *besides])
+    return [*words[: loader + 1], "--preload", modules, *words[loader + 1 :]]
 
 
 class Migrating(Qemu):

@@ -6,7 +6,10 @@ import signal
 from threading import Thread
 
 import linux_kit
+import pytest
+from bare_qemu import Bare, Between
 from linux_migrated import Side
+from linux_packages import Fault
 from linux_vmms import Shape
 from migrate_demands import (
     HARDLY,
@@ -19,6 +22,9 @@ from migrate_demands import (
     with_balloon,
 )
 from waiting import eventually
+
+# Messages with which a device is made, or its driver begins or ends: at least, and at most.
+FEWEST, MOST_MADE = 8, 64
 
 
 def kill(process):
@@ -143,3 +149,44 @@ def test_a_backend_that_comes_late(vmm, tmp_path):
     side = Late(vmm, program, tmp_path, shape, incoming=True)
     assert side.size_mib() == 256
     side.close()
+
+
+@pytest.fixture
+def bare(vmm, tmp_path):
+    """Returns a QEMU whose processor stands still, and what is between it and its backends."""
+    between = Between(linux_kit.built("checked/vhost_user_balloon"), str(tmp_path))
+    qemu = Bare(vmm.debian, str(tmp_path))
+    yield qemu, between
+    qemu.close(), between.close()
+
+
+def test_a_backend_that_goes_as_the_device_is_made(bare):
+    """At whatever message: QEMU refuses the device, and makes it with the next backend."""
+    qemu, between = bare
+    for message in range(MOST_MADE):
+        between.cut(message)
+        try:
+            qemu.plug(between.path)
+        except Fault as fault:
+            assert "QEMU says {" in str(fault), (message, fault, qemu.why())
+        else:
+            break
+    assert message > FEWEST, message
+    qemu.qmp.do("query-status")
+
+
+def test_a_backend_that_goes_as_its_driver_begins_or_ends(bare):
+    """At whatever message: QEMU goes on, and the queues run with the next backend."""
+    qemu, between = bare
+    qemu.plug(between.path, **{"reconnect-ms": 20})
+    for before, act in ((qemu.reset, qemu.drive), (qemu.drive, qemu.reset)):
+        between.cut(None)
+        for message in range(MOST_MADE):
+            before()
+            between.cut(message)
+            act()
+            if between.left is not None:
+                break
+            qemu.drive()
+            eventually(between.runs, qemu.why)
+        assert message > FEWEST, message
