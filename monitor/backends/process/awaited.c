@@ -2,6 +2,8 @@
  * there, until it has. The kernel's limit keeps them from the guest meanwhile. */
 #include "lent.h"
 
+#include <inttypes.h>
+
 static uint32_t larger(uint32_t one, uint32_t other)
 {
     return one > other ? one : other;
@@ -35,6 +37,9 @@ enum lending_migration lent_migration(const struct lent *lent)
 bool awaited_comes(struct backend *backend, uint32_t pages, uint32_t given)
 {
     struct lent *lent = (struct lent *)backend;
+    if (backend->options->holds && given < lent->awaited)
+        return refuse("it comes with %" PRIu32 " pages given up, and was to with %" PRIu32, given,
+                      lent->awaited);
     lent->reserved = pages;
     lent->awaited = backend->options->holds ? given : 0;
     if (pages == 0 || !lent_await(lent, WAIT_ROOM, pages))

@@ -62,7 +62,8 @@ enum lending_migration lent_migration(const struct lent *lent);
 
 /* A guest of `pages` pages comes from another host, with `given` of them given up: its process
  * waits for room for the others, or for all where it holds nothing back; false where there is
- * none. */
+ * none, or where it was lent less by an earlier word of its client's, with more of them given
+ * up. */
 bool awaited_comes(struct backend *backend, uint32_t pages, uint32_t given);
 
 /* It starts, or restarts, while these count in its balloon; whether it does: added memory has

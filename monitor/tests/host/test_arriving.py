@@ -185,6 +185,17 @@ def test_who_says_again_what_it_comes_with(moving, crowded):
     assert any("has fewer pages in its balloon than it was" in it for it in lender.said())
 
 
+def test_who_comes_with_less_given_up_than_it_has_said(crowded):
+    """It is refused by name, as no more was lent to it."""
+    lender, other = crowded(ALL - GIVEN_UP)
+    assert [comes(other, GIVEN_UP, ALL) for _ in range(2)] == 2 * [FINE]
+    lender.become("a", lent=ALL - GIVEN_UP, waits="nothing")
+    with contextlib.suppress(ConnectionResetError):
+        assert comes(other, GIVEN_UP - 1, ALL) is None
+    lender.become("a", here=0, lent=0)
+    lender.tells("refused a: it comes with 87 pages given up, and was to with 88")
+
+
 def test_what_is_no_memory_is_not_in_a_balloon(moving, crowded):
     """A device whose balloon has as many pages as were said, which the guest doesn't have."""
     _, client, bases, data = moving
@@ -197,14 +208,6 @@ def test_what_is_no_memory_is_not_in_a_balloon(moving, crowded):
     lender.become("a", here=0, lent=0)
     lender.hear()
     assert any("has pages in the balloon that aren't memory" in it for it in lender.said())
-
-
-def test_who_comes_and_goes_gives_all_back(crowded):
-    lender, other = crowded(ALL)
-    assert comes(other, GIVEN_UP, ALL) == FINE
-    lender.become("a", lent=ALL - GIVEN_UP)
-    other.socket.close()
-    lender.become("a", here=0, lent=0)
 
 
 def test_a_start_is_not_for_who_comes_from_another_host(migrating, moving, limits):
