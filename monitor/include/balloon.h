@@ -58,7 +58,8 @@ struct balloon {
         most_pages; /* a notice begins no further chain after these, and pauses amid one after this
                      * many numbers, at the end of a portion: at first 256, and any number */
     bool keeps_pages; /* no page is discarded (counted: kept), as under a passed-through device; may
-                         be set at any time */
+                         be set at any time, also amid a notice; once it is cleared, what the next
+                         notice names that begins is discarded */
     /* Each part is discarded by a call of its own: set once the kernel didn't take several, as one
      * before Linux 6.13. */
     bool discards_apart;
@@ -199,6 +200,17 @@ static inline bool balloon_tell_pages(struct balloon *balloon, struct balloon_re
     return told;
 }
 
+/* Keeps the parts of a notice that began before pages were to stay; what is still to be done. */
+static inline uint32_t balloon_keep_parts(const struct balloon *balloon, uint32_t what,
+                                          struct balloon_result *result)
+{
+    if (!balloon->keeps_pages || !(what & VB_DISCARD))
+        return what;
+    for (uint32_t i = 0; i < balloon->notice.cuts; i++)
+        result->kept += balloon->room.cuts[i].length / BALLOON_PAGE;
+    return what & ~(uint32_t)VB_DISCARD;
+}
+
 /* Names a stretch that the device has written. */
 static inline void balloon_tell_written(const struct balloon *balloon, VbSpot at, uint64_t length)
 {
@@ -236,6 +248,7 @@ static inline uint32_t balloon_serve(struct balloon *balloon, uint32_t what,
         balloon->on_hint_id(balloon->context, balloon->notice.hint_id);
         what = balloon_recheck(balloon, what, result);
     }
+    what = balloon_keep_parts(balloon, what, result);
     uint32_t together = what & VB_DISCARD ? balloon_discard_together(balloon, result) : 0;
     const VbCut *part = balloon->room.cuts + together;
     for (uint32_t i = together; what & VB_DISCARD && i < balloon->notice.cuts; i++, part++) {

@@ -17,7 +17,8 @@ pub struct Balloon {
     /// A notice begins no further chain after this many pages, and pauses amid one after this many numbers, at the end of a portion: any
     /// number at first.
     pub most_pages: u32,
-    /// No page is discarded, as under a passed-through device: what is named is told, and stays. Not so at first.
+    /// No page is discarded, as under a passed-through device: what is named is told, and stays, also what is left of a request
+    /// that pauses. Not so at first.
     pub keeps_pages: bool,
     /// Each part of private memory is discarded by a call of its own: so once the kernel didn't take several, as one before
     /// Linux 6.13. Not so at first.
@@ -293,9 +294,9 @@ impl Balloon {
     /// Obeys a notice that has begun; what it came to, or has until it pauses.
     pub(crate) fn finish(&mut self, memory: &dyn LiveMemory, monitor: &mut dyn Monitor) -> Served {
         let Balloon { state, regions, notice, room, discards_apart, ballooned, deflating, .. } = self;
-        let balloon = &mut state.0;
-        let served = Served::default();
-        let mut hands = Hands { memory, monitor, ballooned, deflating, discards_apart, balloon, regions, served };
+        let (balloon, keeps_pages, served) = (&mut state.0, self.keeps_pages, Served::default());
+        let mut hands =
+            Hands { memory, monitor, ballooned, deflating, discards_apart, keeps_pages, balloon, regions, served };
         let obeyed = hands.obey(notice, room);
         let mut served = hands.served;
         if notice.kind != Kind::Deflate as u32 {

@@ -203,6 +203,8 @@ pub(crate) struct Hands<'a> {
     pub deflating: &'a mut [u64],
     /// The kernel doesn't take parts of private memory together.
     pub discards_apart: &'a mut bool,
+    /// Pages are to stay, also those of a notice that began before.
+    pub keeps_pages: bool,
     pub balloon: &'a mut raw::Balloon,
     pub regions: &'a [Region],
     pub served: Served,
@@ -264,8 +266,12 @@ impl Hands<'_> {
         count
     }
 
-    /// Discards all parts, in their order.
+    /// Discards all parts, in their order, unless they are to stay.
     fn discard_all(&mut self, cuts: &[Cut]) {
+        if self.keeps_pages {
+            self.served.kept += cuts.iter().map(|it| it.length / PAGE).sum::<u64>();
+            return;
+        }
         let together = self.discard_together(cuts);
         cuts[together..].iter().for_each(|cut| self.discard(cut));
     }

@@ -289,6 +289,22 @@ static void what_changes_amid_a_pause(void)
     }
 }
 
+/* Pages that are to stay from a pause on aren't discarded, though their notice began before. */
+static void pages_stay_from_a_pause_on(void)
+{
+    static struct guest guest;
+    static uint64_t sets[2 * SET_WORDS];
+    struct sums sums;
+    begin(&guest, REFUSES, &sums, sets);
+    publish_numbers(&guest, VB_INFLATE, BUFFER, 2 * MOST);
+    EXPECT(balloon_notify(&guest.balloon, VB_INFLATE).more && sums.gone == MOST);
+    guest.balloon.keeps_pages = true;
+    struct balloon_result result = balloon_notify(&guest.balloon, VB_INFLATE);
+    EXPECT(result.code == VB_OK && result.pages == MOST && result.kept == MOST &&
+           result.discarded == 0 && sums.gone == MOST && used_index(&guest, VB_INFLATE) == 1);
+    free_memory(&guest);
+}
+
 /* A monitor that lost what pauses: the next notice begins the chain from its first number, and that
  * harms nothing. */
 static void a_pause_is_lost(void)
@@ -309,6 +325,9 @@ static void a_pause_is_lost(void)
 
 #ifdef RUST_SHIM
 static void a_reset_before_a_pause(void)
+{
+}
+static void pages_stay_from_a_hook_on(void)
 {
 }
 #else
@@ -344,6 +363,28 @@ static void a_reset_before_a_pause(void)
            sums.gone == MOST - PORTION);
     free_memory(&guest);
 }
+
+static void keep_from_second(void *context, uint32_t kind, const VbRun *runs, uint32_t count)
+{
+    sum_pages(context, kind, runs, count);
+    hooked.guest->balloon.keeps_pages = ++hooked.calls >= 2;
+}
+
+/* So are pages that are to stay from a hook on. */
+static void pages_stay_from_a_hook_on(void)
+{
+    static struct guest guest;
+    static uint64_t sets[2 * SET_WORDS];
+    struct sums sums;
+    begin(&guest, REFUSES, &sums, sets);
+    hooked.guest = &guest, hooked.calls = 0;
+    guest.balloon.on_pages = keep_from_second;
+    publish_numbers(&guest, VB_INFLATE, BUFFER, MOST);
+    struct balloon_result result = balloon_notify(&guest.balloon, VB_INFLATE);
+    EXPECT(result.code == VB_OK && result.pages == MOST && result.discarded == PORTION &&
+           result.kept == MOST - PORTION && sums.gone == PORTION);
+    free_memory(&guest);
+}
 #endif
 
 void test_pauses(void)
@@ -357,6 +398,8 @@ void test_pauses(void)
     RUN(no_notice_goes_on_after(stop_and_start, true));
     RUN(no_notice_goes_on_after(save_and_restore, true));
     RUN(what_changes_amid_a_pause());
+    RUN(pages_stay_from_a_pause_on());
+    RUN(pages_stay_from_a_hook_on());
     RUN(a_pause_is_lost());
     RUN(a_reset_before_a_pause());
 }
