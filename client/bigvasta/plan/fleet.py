@@ -105,6 +105,11 @@ class FleetAnswer(NamedTuple):
         return self.total.wait_a_day()
 
     @property
+    def above(self):
+        """How many pages a host lends beyond what it has, at worst, as the day begins."""
+        return self.total.above
+
+    @property
     def lacked(self):
         """By how many pages a host was short at worst."""
         return self.total.lacked
@@ -138,6 +143,7 @@ def together(answers):
         math.fsum(it.overdrawn_seconds for it in answers),
         sum(it.proceeded for it in answers),
         sum(it.passed for it in answers),
+        max(it.above for it in answers),
     )
 
 

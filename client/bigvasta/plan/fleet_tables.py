@@ -25,7 +25,7 @@ def conclusion(plan, limit):
     """Returns the line that says how much to promise."""
     best = plan.best
     if best is None:
-        return f"none of these promises keeps the waits to {limit:g} s a guest and day"
+        return f"none of these promises has room, and waits of {limit:g} s a guest and day at most"
     away = f"; {best.away} guests find no host" if best.away else ""
     return (
         f"promise {best.promise():.2f} times the budget: {best.wait_a_day():.1f} s a guest and "

@@ -31,6 +31,7 @@ class Answer(NamedTuple):
     overdrawn_seconds: float  # until they had come back, in all
     proceeded: int  # how often a guest was to proceed alone on a short host
     passed: int  # how often one that restarts or comes let others pass
+    above: int = 0  # lent beyond budget and overdraft as the day begins: no host lends that
 
     def share(self):
         """Returns which part of the time asks waited."""
@@ -146,11 +147,13 @@ def replay(library, day, terms, looks=()):
     replayed = Replayed(lender)
     lender.now = day.start
     lender.begin([(guest, use) for kind, guest, use in events.get(day.start, ()) if kind == 1])
+    above = None
     for at in sorted({*events, *(it for it in looks if day.start <= it <= day.end)}):
         replayed.pass_until(at)
         if at > day.start:
             happen(lender, events.get(at, ()))
         replayed.settle()
+        above = lender.seats.above() if above is None else above
     short, overdrawn = replayed.short, replayed.overdrawn
     worst = max(range(len(day.guests)), key=lender.waited.__getitem__)
     return Answer(
@@ -171,4 +174,5 @@ def replay(library, day, terms, looks=()):
         overdrawn.seconds,
         lender.relief.proceeded,
         lender.relief.passed,
+        above,
     )

@@ -25,11 +25,11 @@ def spread(first, last, steps):
 
 
 def tightest(answers, limit):
-    """Returns the number of the answer from which on no guest waits longer than the limit in a day;
-    None where the last one fails."""
+    """Returns the number of the answer from which on guests have room, and wait no longer than the
+    limit in a day; None where the last one fails."""
     found = None
     for number in range(len(answers) - 1, -1, -1):
-        if answers[number].wait_a_day() > limit:
+        if answers[number].above > 0 or answers[number].wait_a_day() > limit:
             break
         found = number
     return found

@@ -65,6 +65,10 @@ class Seats:
         """Returns how many frames of the overdraft are lent."""
         return min(max(self.owed() - self.host.frames, 0), self.host.overdraft)
 
+    def above(self):
+        """Returns how many frames are lent beyond the budget and all of its overdraft."""
+        return max(self.owed() - self.host.frames - self.host.overdraft, 0)
+
     def overdraft(self):
         """Returns how many more of it may be."""
         return self.host.overdraft - self.overdrawn()

@@ -42,7 +42,7 @@ def row(answer):
 def conclusion(plan, limit):
     """Returns the line that says which budget to set."""
     if plan.best is None:
-        return f"none of these budgets keeps the waits to {limit:g} s a guest and day"
+        return f"none of these budgets has room, and waits of {limit:g} s a guest and day at most"
     best, budget = plan.best, -(-plan.best.budget * PAGE // MIB)
     return (
         f"budget {budget}M: {best.wait_a_day():.1f} s a guest and day are waited; "
@@ -102,6 +102,7 @@ def plain(answer):
         "overdrawn_seconds": answer.overdrawn_seconds,
         "proceeded_alone": answer.proceeded,
         "let_pass": answer.passed,
+        "above": answer.above * PAGE,
         "moved": answer.moved * PAGE,
         "decisions": answer.decisions,
     }

@@ -76,15 +76,30 @@ def test_smallest_budget(shared, day, budgets, steps, limit, pages):
 
 def test_the_smallest_has_none_above_it_that_fails():
     class Waited:
-        def __init__(self, seconds):
-            self.seconds = seconds
+        def __init__(self, seconds, above):
+            self.seconds, self.above = seconds, above
 
         def wait_a_day(self):
             return self.seconds
 
     for waits, number in (((9, 0, 9, 0, 0), 3), ((0, 0), 0), ((0, 9), None), ((5, 4), 0)):
-        assert tightest([Waited(it) for it in waits], 5) == number
+        assert tightest([Waited(it, 0) for it in waits], 5) == number
+        assert tightest([Waited(0, it > 5) for it in waits], 5) == number
     assert (spread(10, 20, 2), spread(7, 7, 3), spread(1, 3, 9)) == ([10, 15, 20], [7], [1, 2, 3])
+
+
+NONE = "none of these budgets has room, and waits of 60 s a guest and day at most"
+
+
+def test_guests_that_are_there_as_the_day_begins_need_room(shared, tmp_path):
+    """Two of 100 pages use 80 each all day: none waits, on whatever budget; 160 pages are enough."""
+    path = tmp_path / "day.csv"
+    rows = "".join(f"{it},{at},409600,327680,\n" for at in (0, 9) for it in "ab")
+    path.write_text(f"guest,seconds,size,used,free\n{rows}")
+    words = path, "--library", shared, *OPEN, "--steps", "1", "--budgets"
+    assert run(*words, "400K..636K").splitlines()[-1] == NONE
+    found = plan(shared, path, "--budgets", "636K..640K", "--steps", "1")
+    assert [it["above"] for it in found["replays"]] == [4096, 0] and found["budget"] == 655360
 
 
 def test_an_object(shared, day):
@@ -112,6 +127,7 @@ def test_an_object(shared, day):
             "overdrawn_seconds": 0.0,
             "proceeded_alone": 1,
             "let_pass": 0,
+            "above": 0,
             "moved": 614400,
             "decisions": 4,
         }
@@ -136,7 +152,7 @@ def test_a_table(shared, day):
         "0",
         "0.6",
     ]
-    assert lines[-1] == "none of these budgets keeps the waits to 60 s a guest and day"
+    assert lines[-1] == NONE
     lines = run(
         day, "--library", shared, *OPEN, "--budgets", "680K..800K", "--steps", "1"
     ).splitlines()

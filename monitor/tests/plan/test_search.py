@@ -13,6 +13,7 @@ class Tried(NamedTuple):
     """What was tried."""
 
     number: int
+    above = 0
 
     def wait_a_day(self):
         """Returns the seconds that a guest waits in a day."""
