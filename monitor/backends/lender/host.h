@@ -474,9 +474,8 @@ int shortage_take_end(void *host, int file);
 /* The word with which the program of a lender is a writer of a limit. */
 extern const char writer_word[];
 
-/* Why a guest can't have the limit of these terms; NULL: it can, or they have none. */
-const char *limit_refusal(const struct host *host, const char *name,
-                          const struct guest_terms *terms);
+/* Its limit is to be another guest's: its terms have none until they are set. */
+void limit_leave(struct seat *seat);
 
 /* Whether the kernel allows it what is lent to it; and whether it has a limit that is known to be
  * written. */

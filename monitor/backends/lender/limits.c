@@ -15,6 +15,7 @@
 enum { TRY_AGAIN = 500 };
 
 const char writer_word[] = "--write-limits";
+const char limit_of_another[] = "the limit is another guest's";
 
 /* The frames that its limit is to allow: never 0, which tmpfs takes for no limit. */
 static uint64_t frames_wanted(const struct seat *seat)
@@ -176,17 +177,46 @@ void limit_take(struct seat *seat)
     speaker_ends();
 }
 
-const char *limit_refusal(const struct host *host, const char *name,
-                          const struct guest_terms *terms)
+/* Why no guest can have the limit of these terms; NULL: one can, or they have none. */
+static const char *limit_refusal(const struct guest_terms *terms)
 {
-    const struct guest_limit *limit = &terms->limit;
-    if (limit->kind != LIMIT_NONE && !terms->strict)
+    if (terms->limit.kind != LIMIT_NONE && !terms->strict)
         return "a limit is for a strict guest, whose deflates wait until it is raised";
-    const char *fault = limit_fault(limit);
-    for (unsigned i = 0; i < host->count && !fault; i++) {
+    return limit_fault(&terms->limit);
+}
+
+/* Whether another guest has a limit. */
+static bool limit_is_taken(const struct host *host, const char *name,
+                           const struct guest_limit *limit)
+{
+    for (unsigned i = 0; i < host->count; i++) {
         const struct seat *seat = host->seats[i];
         if (limits_collide(&seat->terms.limit, limit) && strcmp(seat->name, name) != 0)
-            fault = "the limit is another guest's";
+            return true;
     }
-    return fault;
+    return false;
+}
+
+const char *host_refuses_alone(const struct host *host, const char *name,
+                               const struct guest_terms *terms)
+{
+    const struct seat *seat = seat_of(host, name);
+    const char *term, *fault = terms_fault(terms, &term);
+    bool needs_limit = seat && ask_read(seat, &seat->report).small;
+    if (!fault && needs_limit && terms->limit.kind == LIMIT_NONE)
+        fault = "its limit stays until its balloon has what it started without";
+    return fault ? fault : limit_refusal(terms);
+}
+
+const char *host_refuses(const struct host *host, const char *name, const struct guest_terms *terms)
+{
+    const char *fault = host_refuses_alone(host, name, terms);
+    bool is_taken = !fault && limit_is_taken(host, name, &terms->limit);
+    return is_taken ? limit_of_another : fault;
+}
+
+void limit_leave(struct seat *seat)
+{
+    limit_end(seat);
+    seat->terms.limit = (struct guest_limit){LIMIT_NONE, ""};
 }

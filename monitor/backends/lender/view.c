@@ -269,16 +269,6 @@ void host_set_step(struct host *host, uint32_t step)
 
 static const char nobody[] = "no guest has that name";
 
-const char *host_refuses(const struct host *host, const char *name, const struct guest_terms *terms)
-{
-    const struct seat *seat = seat_of(host, name);
-    const char *term, *fault = terms_fault(terms, &term);
-    bool needs_limit = seat && ask_read(seat, &seat->report).small;
-    if (!fault && needs_limit && terms->limit.kind == LIMIT_NONE)
-        fault = "its limit stays until its balloon has what it started without";
-    return fault ? fault : limit_refusal(host, name, terms);
-}
-
 const char *host_cannot_add(const struct host *host, const char *name,
                             const struct guest_terms *terms)
 {

@@ -181,9 +181,13 @@ const char *host_cannot_add(const struct host *host, const char *name,
                             const struct guest_terms *terms);
 /* Why no guest can have these terms, and by which of them; NULL: one can. */
 const char *terms_fault(const struct guest_terms *terms, const char **term);
-/* Why a guest of this name, which there may be, can't have these terms; NULL: it can. */
+/* Why a guest of this name, which there may be, can't have these terms; NULL: it can. And whoever
+ * has its limit. */
 const char *host_refuses(const struct host *host, const char *name,
                          const struct guest_terms *terms);
+const char *host_refuses_alone(const struct host *host, const char *name,
+                               const struct guest_terms *terms);
+extern const char limit_of_another[];
 /* Why no target can be set by hand; NULL: one can. It stays until all is decided again. */
 const char *host_refuses_target(const struct host *host, const char *name);
 const char *host_set_target(struct host *host, const char *name, uint32_t pages);

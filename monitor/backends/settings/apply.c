@@ -43,10 +43,48 @@ void apply_room(const struct config *config, struct host *host)
     }
 }
 
+/* Whether one of the first guests of a configuration has this limit, but for that of a number. */
+static bool is_said(const struct config *config, unsigned count, unsigned but,
+                    const struct guest_limit *limit)
+{
+    for (unsigned i = 0; i < count; i++)
+        if (i != but && limits_collide(&config->guests[i].terms.limit, limit))
+            return true;
+    return false;
+}
+
+/* Whether a guest's limit is that of another one, as a configuration has them, or as one of the
+ * host's has it that isn't named there. */
+static bool shares_limit(const struct config *config, const struct host *host, unsigned number)
+{
+    const struct guest_limit *limit = &config->guests[number].terms.limit;
+    for (unsigned i = 0; i < host->count; i++) {
+        const struct seat *seat = host->seats[i];
+        bool stays = !config_guest_of((struct config *)config, seat->name);
+        if (stays && limits_collide(&seat->terms.limit, limit))
+            return true;
+    }
+    return is_said(config, number, number, limit);
+}
+
+/* Takes from guests the limits that are to be other ones'. */
+static void free_limits(const struct config *config, const struct host *host)
+{
+    for (unsigned i = 0; i < config->count; i++) {
+        const struct config_guest *guest = &config->guests[i];
+        struct seat *seat = seat_of(host, guest->name);
+        bool changes =
+            seat && memcmp(&seat->terms.limit, &guest->terms.limit, sizeof guest->terms.limit) != 0;
+        if (changes && is_said(config, config->count, i, &seat->terms.limit))
+            limit_leave(seat);
+    }
+}
+
 bool apply_guests(const char *file, const struct config *config, const struct config *files,
                   struct host *host)
 {
     bool good = true, strict = host_usual_terms(host).strict;
+    free_limits(config, host);
     for (unsigned i = 0; i < config->count; i++) {
         const struct config_guest *guest = &config->guests[i];
         struct guest_terms terms = terms_of(guest, strict);
@@ -79,31 +117,16 @@ static bool sizes_fit(const char *file, const struct config *config, const struc
            good;
 }
 
-/* Whether a guest's limit, which it hasn't yet, is that of one before it in a configuration, too:
- * those that the host has are compared as it is asked. */
-static bool shares_limit(const struct config *config, const struct host *host, unsigned number)
-{
-    const struct config_guest *guest = &config->guests[number];
-    const struct seat *seat = seat_of(host, guest->name);
-    const struct guest_limit *limit = &guest->terms.limit;
-    if (seat && limits_meet(&seat->terms.limit, limit))
-        return false;
-    for (unsigned i = 0; i < number; i++)
-        if (limits_collide(&config->guests[i].terms.limit, limit))
-            return true;
-    return false;
-}
-
 /* Why the host can't have a guest of a configuration; NULL: it can. */
 static const char *guest_fault(const struct config *config, const struct host *host,
                                unsigned number)
 {
     const struct config_guest *guest = &config->guests[number];
     struct guest_terms terms = terms_of(guest, usually_strict(config, host));
-    const char *fault = host_refuses(host, guest->name, &terms),
+    const char *fault = host_refuses_alone(host, guest->name, &terms),
                *folder = host->folder ? host->folder : config->fixed.folder;
     if (!fault && shares_limit(config, host, number))
-        fault = "the limit is another guest's";
+        fault = limit_of_another;
     return fault || seat_has_path(folder, guest->name) ? fault : strerror(ENAMETOOLONG);
 }
 

@@ -45,11 +45,16 @@ class Kept:
         return self.start()
 
 
-def tmpfs():
+def each_tmpfs():
     """Returns where this machine has a tmpfs."""
     with open("/proc/self/mounts", encoding="utf-8") as lines:
         mounts = {folder: kind for _, folder, kind, *_ in map(str.split, lines)}
-    return next((folder for folder, kind in mounts.items() if kind == "tmpfs"), None)
+    return [folder for folder, kind in mounts.items() if kind == "tmpfs"]
+
+
+def tmpfs():
+    """Returns one of them, or None."""
+    return next(iter(each_tmpfs()), None)
 
 
 def terms(host):

@@ -8,7 +8,7 @@ import pytest
 from bigvasta.statuses import Refused
 from hosts import Host
 from installed import bigvasta
-from keeping import tmpfs
+from keeping import each_tmpfs, tmpfs
 from linux_kit import ROOT
 from test_config import WRONG, filled
 from waiting import PATIENCE, patience_from_now
@@ -282,6 +282,26 @@ def test_a_limit_is_one_guests_with_what_was_changed(kept):
     with pytest.raises(Refused, match=said):
         kept.host.ask("reload")
     kept.file.write_text(text)
+
+
+@pytest.mark.skipif(not tmpfs(), reason="no tmpfs is there")
+@pytest.mark.parametrize("way", ("reload", "restart"))
+def test_a_limit_moves_from_guest_to_guest(kept, way):
+    """At once, also where both swap what they have, if there is another tmpfs."""
+    usual = kept.file.read_text().replace("480M", "480M\nstrict = yes")
+    first, second = [*(f"tmpfs:{it}" for it in each_tmpfs()), "none"][:2]
+    for one, other in (first, "none"), ("none", first), (first, second), (second, first):
+        text = usual.replace("[guest web-1]", f"[guest web-1]\nlimit = {one}")
+        kept.file.write_text(text.replace("[guest web-2]", f"[guest web-2]\nlimit = {other}"))
+        if way == "reload":
+            assert kept.host.ask("reload")["ok"]
+        else:
+            assert kept.host.end() == 0
+            kept.start("--leave")
+        found = [kept.host.guest(it)["terms"]["limit"] or "none" for it in ("web-1", "web-2")]
+        assert found == [one, other]
+    with pytest.raises(Refused, match="the limit is another guest's"):
+        kept.host.ask("guest", name="web-1", limit=first)
 
 
 def test_a_host_without_a_file_reads_none(host):
