@@ -10,7 +10,7 @@ import pytest
 from bigvasta.connection import Connection
 from tenants import FREE, PAGES, PAGES_OF_ALL, eventually, process_of
 from vhost_client import ADD_MEM_REG, DEFLATE, OFFERED, PAGE, REM_MEM_REG, Client
-from waiting import PATIENCE
+from waiting import PATIENCE, goes_on_sleeping
 
 STRICT = ("--floor", "0", "--reserve", "0", "--period", "100", "--step", "0", "--strict")
 
@@ -117,6 +117,7 @@ def test_a_deflate_of_no_page_needs_no_grant(two):
     for count in (1, 2):
         a.take([10**6, 10**6 + 1])
         used(a, DEFLATE, count)
+    goes_on_sleeping(process_of(lender, "a"))
     a.take(GIVEN[:10])
     lender.become("a", waits="deflate", ballooned=50, lent=78)
     lender.demand("budget 1")
