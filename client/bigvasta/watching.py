@@ -78,6 +78,7 @@ def show(screen, source, interval):
     """Shows the host until a key ends it."""
     hide_cursor()
     looks = styles()
+    # Python has taken the user's locale; where this machine has none of its name, that is C.
     is_utf8 = "UTF" in locale.nl_langinfo(locale.CODESET).upper()
     shown, look = Shown(blocks=BLOCKS if is_utf8 else PLAIN), time.monotonic()
     while shown:
@@ -91,19 +92,10 @@ def show(screen, source, interval):
                 source.look()
 
 
-def take_locale():
-    """Takes the user's locale: where this machine has none of its name, the picture is in ASCII."""
-    try:
-        locale.setlocale(locale.LC_ALL, "")
-    except locale.Error:
-        pass
-
-
 def watch(path, interval):
     """Shows the host in the terminal."""
     if not (sys.stdin.isatty() and sys.stdout.isatty()):
         raise Usage("watch wants a terminal: --json prints a line at each look instead")
-    take_locale()
     source = Source(path)
     source.ask()
     try:
