@@ -3,12 +3,14 @@
  *
  * A hole reads as zeros, and QEMU's read would fill it. So holes aren't sent
  * as a guest migrates or is saved; in their place one map of them goes with
- * the device: what the other side has there is older, and is discarded.
+ * the device: what the other side has there is older, and is discarded. A
+ * snapshot in the background would read all of them.
  *
  * SPDX-License-Identifier: GPL-2.0-or-later
  */
 
 #include "qemu/osdep.h"
+#include "qapi/error.h"
 #include "qemu/error-report.h"
 #include "exec/cpu-common.h"
 #include "migration/misc.h"
@@ -22,6 +24,13 @@
 #include "exec/ramblock.h"
 #endif
 #include "vhost-user-balloon.h"
+
+/* It was renamed in 11.0 */
+#if QEMU_VERSION_MAJOR > 10
+#define MIG_EVENT_AT_SETUP MIG_EVENT_SETUP
+#else
+#define MIG_EVENT_AT_SETUP MIG_EVENT_PRECOPY_SETUP
+#endif
 
 /* Bytes of a block from `start` on and before `end` */
 typedef struct Extent {
@@ -116,7 +125,8 @@ static int skip_holes(RAMBlock *rb, void *opaque)
     return 0;
 }
 
-int vub_balloon_precopy_notify(NotifierWithReturn *n, void *data, Error **errp)
+static int precopy_notify_holes(NotifierWithReturn *n, void *data,
+                                Error **errp)
 {
     PrecopyNotifyData *notice = data;
 
@@ -124,6 +134,31 @@ int vub_balloon_precopy_notify(NotifierWithReturn *n, void *data, Error **errp)
         qemu_ram_foreach_block(skip_holes, NULL);
     }
     return 0;
+}
+
+/* It is of memory that is written, and discarded, only after its begin */
+static int refuse_background(NotifierWithReturn *n, MigrationEvent *e,
+                             Error **errp)
+{
+    if (e->type != MIG_EVENT_AT_SETUP || !migrate_background_snapshot()) {
+        return 0;
+    }
+    error_setg(errp, "vhost-user-balloon: its backend writes and discards "
+               "memory, which a background snapshot doesn't see");
+    return -ENOTSUP;
+}
+
+void vub_balloon_add_notifiers(VHostUserBalloon *b)
+{
+    b->precopy_notifier.notify = precopy_notify_holes;
+    precopy_add_notifier(&b->precopy_notifier);
+    migration_add_notifier(&b->migration_notifier, refuse_background);
+}
+
+void vub_balloon_remove_notifiers(VHostUserBalloon *b)
+{
+    migration_remove_notifier(&b->migration_notifier);
+    precopy_remove_notifier(&b->precopy_notifier);
 }
 
 /*
@@ -171,13 +206,16 @@ static int put_holes(QEMUFile *f, void *pv, size_t size,
     return 0;
 }
 
-/* Has this read as zeros; of pages that are large their parts are cleared */
+/*
+ * Has this read as zeros; of pages that are large their parts are cleared, and
+ * all of pages that may not be discarded
+ */
 static int clear(RAMBlock *rb, Extent old)
 {
     off_t start = QEMU_ALIGN_UP(old.start, rb->page_size);
     off_t end = QEMU_ALIGN_DOWN(old.end, rb->page_size);
 
-    if (start >= end) {
+    if (start >= end || ram_block_discard_is_disabled()) {
         memset(rb->host + old.start, 0, old.end - old.start);
         return 0;
     }

@@ -151,8 +151,7 @@ static void balloon_realize(DeviceState *dev, Error **errp)
         return;
     }
     vmstate_register_any(VMSTATE_IF(b), &vub_balloon_vmstate_comes, b);
-    b->precopy_notifier.notify = vub_balloon_precopy_notify;
-    precopy_add_notifier(&b->precopy_notifier);
+    vub_balloon_add_notifiers(b);
     vub_balloon_listen(b);
 }
 
@@ -160,7 +159,7 @@ static void balloon_unrealize(DeviceState *dev)
 {
     VHostUserBalloon *b = VHOST_USER_BALLOON(dev);
 
-    precopy_remove_notifier(&b->precopy_notifier);
+    vub_balloon_remove_notifiers(b);
     vmstate_unregister(VMSTATE_IF(b), &vub_balloon_vmstate_comes, b);
     timer_del(b->stats_timer);
     qemu_remove_balloon_handler(b);

@@ -40,6 +40,7 @@ struct VHostUserBalloon {
     uint64_t stats_count;       /* of the backend, when it was last read */
 
     NotifierWithReturn precopy_notifier;
+    NotifierWithReturn migration_notifier;
     Error *migration_blocker;
 
     /* What a backend that reconnects is told */
@@ -99,8 +100,8 @@ void vub_balloon_let_wait(VHostUserBalloon *b);
 
 /* vhost-user-balloon-holes.c: holes of shared memory aren't read */
 extern const VMStateInfo vub_balloon_holes_info;
-int vub_balloon_precopy_notify(NotifierWithReturn *n, void *data,
-                               Error **errp);
+void vub_balloon_add_notifiers(VHostUserBalloon *b);
+void vub_balloon_remove_notifiers(VHostUserBalloon *b);
 
 /* vhost-user-balloon-vmstate.c: of the device, and of the virtio device */
 extern const VMStateDescription vub_balloon_vmstate;

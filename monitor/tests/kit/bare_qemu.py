@@ -3,6 +3,7 @@ reads and writes what a driver would, by QEMU's own protocol of tests; and a bac
 a message of QEMU's."""
 
 import array
+import glob
 import os
 import socket
 import struct
@@ -28,13 +29,17 @@ COMMAND, FIRST_BAR, FIRST_CAPABILITY, OF_VIRTIO = 4, 0x10, 0x34, 9
 MEMORY_AND_MASTER = 6
 
 # Capabilities, and fields of the common configuration (VIRTIO 1.1, 4.1.4.3).
-COMMON, OF_DEVICE = 1, 4
+COMMON, NOTIFY, OF_DEVICE = 1, 2, 4
 DRIVER_SELECT, DRIVER_FEATURES, STATUS = 8, 12, 20
 SELECT, SIZE, ENABLE, ADDRESSES = 22, 24, 28, (32, 40, 48)
 
 # Statuses: acknowledged with a driver; features too; the driver is ready.
 DRIVER, FEATURES_OK, DRIVER_OK = 3, 11, 15
-FEATURES, ENTRIES, OF_QUEUE, OF_PART = 0x100000007, 64, 0x10000, 0x4000
+FEATURES, ENTRIES = 0x100000007, 64
+
+# Where each queue is, the parts of each, and a page number to inflate.
+OF_QUEUE, OF_PART, NAMED = 0x10000, 0x4000, 0x80000
+PAGE = 4096
 
 # The head of a message of vhost-user, and the most files that may come with it.
 HEAD, MOST_FILES = struct.Struct("<III"), 64
@@ -121,7 +126,7 @@ class Between:
 class Bare:
     """A QEMU whose processor stands still."""
 
-    def __init__(self, debian, folder, preload=()):
+    def __init__(self, debian, folder, preload=(), more=()):
         self.folder, self.at = folder, {}
         firmware, self.log = os.path.join(folder, "firmware"), os.path.join(folder, "qemu.log")
         with open(firmware, "wb") as file:
@@ -137,13 +142,16 @@ class Bare:
         words += ["-object", memory, "-machine", "pc,memory-backend=memory"]
         with open(self.log, "wb") as log:
             self.process = subprocess.Popen(
-                [*words, *sockets, "-qtest-log", "none"], stdout=log, stderr=log
+                [*words, *sockets, "-qtest-log", "none", *more], stdout=log, stderr=log
             )
         self.qmp = eventually(self.connected, self.why)
         self.tests = socket.socket(socket.AF_UNIX)
         self.tests.settimeout(PATIENCE)
         self.tests.connect(os.path.join(folder, "qtest"))
-        self.lines = self.tests.makefile("r")
+        self.lines, self.inflated = self.tests.makefile("r"), 0
+        files = glob.glob(f"/proc/{self.process.pid}/fd/*")
+        held = next(it for it in files if "memfd:memory-backend" in os.readlink(it))
+        self.memory = os.open(held, os.O_RDONLY)
 
     def why(self):
         """Returns the last thing that it said."""
@@ -218,6 +226,50 @@ class Bare:
         """Has the driver leave the device."""
         self.write("b", STATUS, 0)
 
+    def fill(self, page):
+        """Writes a page of the guest."""
+        self.ask(f"memset {page * PAGE:#x} {PAGE} 0xff")
+
+    def inflate(self, page):
+        """Puts a page into the balloon, and waits until that is used."""
+        available, used = (OF_QUEUE + part * OF_PART + 2 for part in (1, 2))
+        self.inflated += 1
+        for size, at, value in (
+            ("l", NAMED, page),
+            ("q", OF_QUEUE, NAMED),
+            ("q", OF_QUEUE + 8, 4),
+            ("w", available + 2 * self.inflated, 0),
+            ("w", available, self.inflated),
+            ("w", self.at[NOTIFY], 0),
+        ):
+            self.ask(f"write{size} {at:#x} {value:#x}")
+        eventually(lambda: self.ask(f"readw {used:#x}") == self.inflated, self.why)
+
+    def holds(self, page):
+        """Whether a page of the guest has a frame."""
+        return os.lseek(self.memory, page * PAGE, os.SEEK_HOLE) != page * PAGE
+
+    def save(self, path):
+        """Saves its guest to a file; returns why it didn't."""
+        self.qmp.do("migrate", uri=f"file:{path}")
+        return self.end()
+
+    def load(self, path):
+        """Loads a guest from a file; returns why it didn't."""
+        self.qmp.do("migrate-incoming", uri=f"file:{path}")
+        return self.end()
+
+    def end(self):
+        """Waits until a migration has ended; returns why it failed, or None."""
+        ended = ("completed", "failed")
+        said = eventually(
+            lambda: (lambda it: it if it.get("status") in ended else None)(
+                self.qmp.do("query-migrate")
+            ),
+            self.why,
+        )
+        return said.get("error-desc", self.why()) if said["status"] == "failed" else None
+
     def target(self):
         """Returns the target that the driver reads."""
         return self.ask(f"readl {self.at[OF_DEVICE]:#x}")
@@ -226,7 +278,7 @@ class Bare:
         """Ends it."""
         with suppress(Fault, OSError):
             self.qmp.do("quit")
-        self.qmp.close(), self.lines.close(), self.tests.close()
+        self.qmp.close(), self.lines.close(), self.tests.close(), os.close(self.memory)
         try:
             self.process.wait(PATIENCE)
         except subprocess.TimeoutExpired:

@@ -91,10 +91,11 @@ def has_more_registers():
         return any(it.startswith("flags") and "amx_tile" in it.split() for it in file)
 
 
-def build_more_registers(folder):
-    """Compiles what lets User Mode Linux leave such registers as they are; returns its path."""
-    path, source = os.path.join(folder, "more_registers.so"), os.path.join(
-        os.path.dirname(__file__), "more_registers.c"
+def build_preloaded(folder, name):
+    """Compiles what is preloaded into a VMM: `more_registers` lets User Mode Linux leave such
+    registers as they are, `no_discards` has QEMU forbid discards. Returns its path."""
+    path, source = os.path.join(folder, f"{name}.so"), os.path.join(
+        os.path.dirname(__file__), f"{name}.c"
     )
     ran = subprocess.run(
         [need("cc", "gcc libc6-dev"), "-O2", "-shared", "-fPIC", "-o", path, source],
@@ -149,7 +150,7 @@ class Uml(OverSocket):
         self.initramfs = make_initramfs(folder, busybox_of(self.root), [module])
         version = tuple(map(int, re.search(r"/modules/(\d+)\.(\d+)", module).groups()))
         lacks = version < KEEPS_ALL_REGISTERS and has_more_registers()
-        self.preloaded = {"LD_PRELOAD": build_more_registers(folder)} if lacks else {}
+        self.preloaded = {"LD_PRELOAD": build_preloaded(folder, "more_registers")} if lacks else {}
 
     def demand_room(self, memory):
         """Says where the host has no room for the memory of guests."""

@@ -1,7 +1,10 @@
 """A Linux guest of Debian 13 that migrates between two QEMUs, each with its backend."""
 
+import os
+
 import linux_kit
 import pytest
+from bare_qemu import Bare, Between
 from linux_migrated import ACCELERATORS, Migrating, Pair
 from linux_vmms import Shape
 
@@ -44,3 +47,20 @@ def pair(vmm, tmp_path):
     yield make
     for it in pairs:
         it.close()
+
+
+@pytest.fixture
+def bare(vmm, tmp_path):
+    """Returns a QEMU whose processor stands still, and what is between it and its backends."""
+    made = []
+
+    def make(*preload, more=()):
+        folder = os.path.join(tmp_path, f"bare{len(made)}")
+        os.mkdir(folder)
+        between = Between(linux_kit.built("checked/vhost_user_balloon"), folder)
+        made.append((Bare(vmm.debian, folder, preload, more), between))
+        return made[-1]
+
+    yield make
+    for qemu, between in made:
+        qemu.close(), between.close()

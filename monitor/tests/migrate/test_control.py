@@ -1,4 +1,5 @@
-"""Tests of QEMU's own commands for a balloon, over this repository's device."""
+"""Tests of QEMU's own commands for a balloon, and of what it forbids, over this repository's
+device."""
 
 import os
 
@@ -6,6 +7,7 @@ import linux_kit
 import pytest
 from linux_guest import Backend
 from linux_packages import Fault
+from linux_vmms import build_preloaded
 from migrate_demands import SMALL, demand_obeys
 from waiting import eventually
 
@@ -49,3 +51,45 @@ def test_a_backend_without_a_control_area(pair, tmp_path):
     program = linux_kit.built("wrong-backend/vhost_user_balloon")
     words = "the backend has no control area of version 1"
     demand_refused(pair().source, tmp_path / "other", words, program, BACKEND_WRONG="no-area")
+
+
+def demand_inflates(qemu, page, stays):
+    """Demands that a page goes into the balloon, and that its frame stays, or doesn't."""
+    qemu.fill(page)
+    qemu.inflate(page)
+    assert qemu.holds(page) == stays
+
+
+def test_memory_that_may_not_be_discarded(bare, tmp_path):
+    """The backend keeps its pages, and so does each that comes later. What a guest that is loaded
+    has as a hole is cleared instead."""
+    page, dropped, path = 0x1000, 0x2000, str(tmp_path / "saved")
+    source, between = bare()
+    source.plug(between.path), source.drive()
+    demand_inflates(source, page, stays=False)
+    assert source.save(path) is None
+    pinned = build_preloaded(str(tmp_path), "no_discards")
+    side, between = bare(pinned, more=("-incoming", "defer"))
+    side.plug(between.path, **{"reconnect-ms": 20})
+    side.fill(page)
+    assert side.load(path) is None
+    assert side.holds(page) and side.ask(f"readq {page << 12:#x}") == 0
+    side.inflated = source.inflated
+    for at in (dropped, dropped + 1):
+        side.qmp.do("cont")
+        eventually(between.runs, side.why)
+        demand_inflates(side, at, stays=True)
+        between.cut(0), side.target()
+
+
+def test_a_snapshot_in_the_background(bare, tmp_path):
+    """It is refused before QEMU reads memory: its memory is to be that of its begin."""
+    qemu, between = bare()
+    qemu.plug(between.path), qemu.drive()
+    demand_inflates(qemu, 0x1000, stays=False)
+    capability = {"capability": "background-snapshot", "state": True}
+    qemu.qmp.do("migrate-set-capabilities", capabilities=[capability])
+    why = qemu.save(str(tmp_path / "saved"))
+    assert why and "a background snapshot doesn't see" in why
+    assert not qemu.holds(0x1000)
+    assert qemu.qmp.do("query-status")["running"]

@@ -6,8 +6,6 @@ import signal
 from threading import Thread
 
 import linux_kit
-import pytest
-from bare_qemu import Bare, Between
 from linux_migrated import Side
 from linux_packages import Fault
 from linux_vmms import Shape
@@ -151,18 +149,9 @@ def test_a_backend_that_comes_late(vmm, tmp_path):
     side.close()
 
 
-@pytest.fixture
-def bare(vmm, tmp_path):
-    """Returns a QEMU whose processor stands still, and what is between it and its backends."""
-    between = Between(linux_kit.built("checked/vhost_user_balloon"), str(tmp_path))
-    qemu = Bare(vmm.debian, str(tmp_path))
-    yield qemu, between
-    qemu.close(), between.close()
-
-
 def test_a_backend_that_goes_as_the_device_is_made(bare):
     """At whatever message: QEMU refuses the device, and makes it with the next backend."""
-    qemu, between = bare
+    qemu, between = bare()
     for message in range(MOST_MADE):
         between.cut(message)
         try:
@@ -177,7 +166,7 @@ def test_a_backend_that_goes_as_the_device_is_made(bare):
 
 def test_a_backend_that_goes_as_its_driver_begins_or_ends(bare):
     """At whatever message: QEMU goes on, and the queues run with the next backend."""
-    qemu, between = bare
+    qemu, between = bare()
     qemu.plug(between.path, **{"reconnect-ms": 20})
     for before, act in ((qemu.reset, qemu.drive), (qemu.drive, qemu.reset)):
         between.cut(None)
