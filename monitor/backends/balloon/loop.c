@@ -117,5 +117,6 @@ int backend_run(struct backend *backend, int (*serve)(struct backend *backend))
                                .pipe = STDIN_FILENO};
     bool good =
         running.end >= 0 && loop_add(&running.loop, (struct loop_part){&running, waits, turn});
-    return good && loop_run(&running.loop, guard) == LOOP_ENDS ? 0 : 1;
+    good = good && loop_run(&running.loop, guard) == LOOP_ENDS;
+    return good && state_save(backend, false) ? 0 : 1; /* the last round may have no turn */
 }

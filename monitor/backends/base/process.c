@@ -81,6 +81,7 @@ void process_begin(void)
     reopen(STDERR_FILENO);
     setvbuf(stdout, NULL, _IOLBF, 0);
     signal(SIGPIPE, SIG_IGN);
+    signal(SIGXFSZ, SIG_IGN); /* a file that may not be as long fails by EFBIG */
     sigset_t signals = ending();
     sigprocmask(SIG_BLOCK, &signals, NULL);
 }

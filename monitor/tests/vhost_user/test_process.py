@@ -319,6 +319,25 @@ def test_a_state_whose_path_has_no_room_for_its_part(serve, tmp_path, more):
     assert client.lines == ([f"{path} isn't written: File name too long"[:510]] if more else [])
 
 
+@pytest.mark.parametrize("most, said, kept", ((-1, "", 7), (0, "File too large", 0)))
+def test_what_changes_in_the_last_round_is_in_the_state(program, tmp_path, most, said, kept):
+    """And a file that may have no bytes (RLIMIT_FSIZE) can't be written, which ends nobody."""
+
+    def run(lines):
+        return subprocess.run(
+            [program, f"{tmp_path}/socket", "--state", f"{tmp_path}/state"],
+            input=lines,
+            capture_output=True,
+            text=True,
+            preexec_fn=lambda: resource.setrlimit(resource.RLIMIT_FSIZE, (most, most)),
+        )
+
+    ran = run("target 7\nquit\n")
+    said = said and f"{tmp_path}/state isn't written: {said}\n"
+    assert (ran.returncode, ran.stderr) == (0, said)
+    assert run("counters\nquit\n").stdout.startswith(f"listening\ntarget {kept} ")
+
+
 def test_a_state_that_the_disk_does_not_keep(serve, wrong_program, tmp_path):
     client = serve(
         "--state",
