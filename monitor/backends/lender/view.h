@@ -181,8 +181,8 @@ const char *host_cannot_add(const struct host *host, const char *name,
                             const struct guest_terms *terms);
 /* Why no guest can have these terms, and by which of them; NULL: one can. */
 const char *terms_fault(const struct guest_terms *terms, const char **term);
-/* Why a guest of this name, which there may be, can't have these terms; NULL: it can. And whoever
- * has its limit. */
+/* Why a guest of this name, which there may be, can't have these terms; NULL: it can. The
+ * second one asks for no guest that has its limit. */
 const char *host_refuses(const struct host *host, const char *name,
                          const struct guest_terms *terms);
 const char *host_refuses_alone(const struct host *host, const char *name,

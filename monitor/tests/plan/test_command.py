@@ -10,7 +10,6 @@ import sys
 import pytest
 from bigvasta.cli import parser
 from bigvasta.plan import command, making
-from bigvasta.plan.search import spread, tightest
 from bigvasta.statuses import Usage
 from linux_kit import HEADERS
 from planner import CLIENT, run
@@ -74,25 +73,11 @@ def test_smallest_budget(shared, day, budgets, steps, limit, pages):
     assert found["wait_seconds"] == limit
 
 
-def test_the_smallest_has_none_above_it_that_fails():
-    class Waited:
-        def __init__(self, seconds, above):
-            self.seconds, self.above = seconds, above
-
-        def wait_a_day(self):
-            return self.seconds
-
-    for waits, number in (((9, 0, 9, 0, 0), 3), ((0, 0), 0), ((0, 9), None), ((5, 4), 0)):
-        assert tightest([Waited(it, 0) for it in waits], 5) == number
-        assert tightest([Waited(0, it > 5) for it in waits], 5) == number
-    assert (spread(10, 20, 2), spread(7, 7, 3), spread(1, 3, 9)) == ([10, 15, 20], [7], [1, 2, 3])
-
-
 NONE = "none of these budgets has room, and waits of 60 s a guest and day at most"
 
 
 def test_guests_that_are_there_as_the_day_begins_need_room(shared, tmp_path):
-    """Two of 100 pages use 80 each all day: none waits, on whatever budget; 160 pages are enough."""
+    """Two of 100 pages use 80 each all day: none waits on any budget; 160 pages are enough."""
     path = tmp_path / "day.csv"
     rows = "".join(f"{it},{at},409600,327680,\n" for at in (0, 9) for it in "ab")
     path.write_text(f"guest,seconds,size,used,free\n{rows}")

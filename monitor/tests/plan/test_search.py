@@ -4,7 +4,7 @@
 from typing import NamedTuple
 
 import pytest
-from bigvasta.plan.search import search
+from bigvasta.plan.search import search, spread, tightest
 
 SERVES, WAIT = 170, 10
 
@@ -41,3 +41,17 @@ def test_all_that_are_tried(ends, steps, limit, numbers, best):
     found = search(lambda its: map(Tried, its), ends, steps, limit)
     assert [it.number for it in found.answers] == [*numbers]
     assert found.best == (None if best is None else Tried(best))
+
+
+def test_the_smallest_has_none_above_it_that_fails():
+    class Waited:
+        def __init__(self, seconds, above):
+            self.seconds, self.above = seconds, above
+
+        def wait_a_day(self):
+            return self.seconds
+
+    for waits, number in (((9, 0, 9, 0, 0), 3), ((0, 0), 0), ((0, 9), None), ((5, 4), 0)):
+        assert tightest([Waited(it, 0) for it in waits], 5) == number
+        assert tightest([Waited(0, it > 5) for it in waits], 5) == number
+    assert (spread(10, 20, 2), spread(7, 7, 3), spread(1, 3, 9)) == ([10, 15, 20], [7], [1, 2, 3])

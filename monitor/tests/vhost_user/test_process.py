@@ -324,13 +324,10 @@ def test_what_changes_in_the_last_round_is_in_the_state(program, tmp_path, most,
     """And a file that may have no bytes (RLIMIT_FSIZE) can't be written, which ends nobody."""
 
     def run(lines):
-        return subprocess.run(
-            [program, f"{tmp_path}/socket", "--state", f"{tmp_path}/state"],
-            input=lines,
-            capture_output=True,
-            text=True,
-            preexec_fn=lambda: resource.setrlimit(resource.RLIMIT_FSIZE, (most, most)),
-        )
+        words = [program, f"{tmp_path}/socket", "--state", f"{tmp_path}/state"]
+        how = {"input": lines, "capture_output": True, "text": True}
+        limit = resource.RLIMIT_FSIZE, (most, most)
+        return subprocess.run(words, **how, preexec_fn=lambda: resource.setrlimit(*limit))
 
     ran = run("target 7\nquit\n")
     said = said and f"{tmp_path}/state isn't written: {said}\n"
