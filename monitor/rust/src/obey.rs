@@ -39,7 +39,8 @@ pub trait LiveMemory {
     }
 
     /// Gives pages back to the machine: by a hole in the region's file, which is shared, or else as private memory, which
-    /// reads as zeros from then on. Else the system's answer; `InvalidInput` where the part doesn't lie in its region.
+    /// reads as zeros from then on. Else the system's answer; `InvalidInput` where the part doesn't lie in its region, or
+    /// elsewhere in that one's file.
     fn discard(&self, cut: &Cut) -> io::Result<()>;
 
     /// Gives the first of these parts back by one call, those of private memory, each of pages of 4,096 bytes. A part that
@@ -62,10 +63,11 @@ fn store<M: GuestMemory, T: AtomicAccess>(memory: &M, at: Spot, value: T) -> Res
     region.store(value, MemoryRegionAddress(at.offset), Ordering::Relaxed).map_err(|_| Unreachable)
 }
 
-/// The region of a part that lies in it, also where a monitor has made the part itself.
+/// The region of a part that lies in it and in its file, also where a monitor has made the part itself.
 pub(crate) fn region_with<'a, M: GuestMemory>(memory: &'a M, cut: &Cut) -> Option<&'a M::R> {
-    let end = cut.offset.checked_add(cut.length)?;
-    region_of(memory, cut.region).ok().filter(|it| end <= it.len())
+    let (region, end) = (region_of(memory, cut.region).ok()?, cut.offset.checked_add(cut.length)?);
+    let in_file = region.file_offset().map_or(0, |file| file.start()).checked_add(cut.offset);
+    (end <= region.len() && in_file == Some(cut.in_file)).then(|| region)
 }
 
 /// Copies bytes that others may write meanwhile: each is read once, in words where they are aligned.

@@ -2,6 +2,7 @@
 
 use crate::guest::{buffer, file_of, settings, Guest};
 use std::io;
+use std::os::unix::fs::FileExt;
 use std::sync::Arc;
 use vb_balloon::{Balloon, Cut, Kind, LiveMemory, Monitor, Refusal, Settings, Together};
 use vm_memory::{Bytes, FileOffset, GuestAddress, GuestMemory, GuestMemoryMmap, GuestRegionMmap, MmapRegion};
@@ -167,4 +168,21 @@ fn a_part_outside_of_its_region_is_not_discarded() {
         assert_eq!(whole.read_obj::<u64>(GuestAddress(1 << 12)).unwrap(), 7, "{wrong:?}");
     }
     assert!(memory.discard(&cut(0, 0, 1 << 12)).is_ok());
+}
+
+/// Nor is a part that lies elsewhere in its region's file than in its region.
+#[test]
+fn a_part_elsewhere_in_a_file_is_not_discarded() {
+    let file = file_of(3 << 12);
+    let its = FileOffset::new(file.try_clone().unwrap(), 1 << 12);
+    let memory = GuestMemoryMmap::<()>::from_ranges_with_files([(GuestAddress(0), 1 << 12, Some(its))]).unwrap();
+    let cut = |in_file| Cut { region: 0, offset: 0, in_file, length: 1 << 12 };
+    for (in_file, is_its) in [(0, false), (1 << 12, true), (2 << 12, false)] {
+        file.write_all_at(&[7; 3 << 12], 0).unwrap();
+        let wanted = if is_its { Ok(()) } else { Err(io::ErrorKind::InvalidInput) };
+        assert_eq!(memory.discard(&cut(in_file)).map_err(|it| it.kind()), wanted, "{in_file:x}");
+        let mut left = [0; 3 << 12];
+        file.read_exact_at(&mut left, 0).unwrap();
+        assert_eq!(left.iter().filter(|it| **it == 7).count(), (3 - usize::from(is_its)) << 12, "{in_file:x}");
+    }
 }
