@@ -49,3 +49,6 @@ mod LeastFacts
 mod MessageFacts
 mod PaceFacts
 mod ReliefFacts
+pub mod Mapped
+pub mod AllGranted
+pub mod TurnsGiven

@@ -1,5 +1,5 @@
 -- Of all guests one is preferred, and while it waits, none that comes after it in its line is lent more.
-use Rattle.std.proofs.Common.{◌≡◌, ℕ, zero, suc, ◌+◌, ◌*◌, ◌<◌, ◌≤◌, inl, Bool, true, false, ◌==◌, ◌&&◌, if◌then◌else◌, List, [], ◌∷◌, length, map, refl, subst, sym, ap, ◌∙◌, arith}
+use Rattle.std.proofs.Common.{◌≡◌, ℕ, zero, suc, ◌+◌, ◌*◌, ◌<◌, ◌≤◌, inl, Bool, true, false, ◌==◌, ◌&&◌, if◌then◌else◌, List, [], ◌∷◌, length, map, refl, subst, sym, ◌∙◌, arith}
 use Rattle.vb_host.specs.declared.event.Event.{Event}
 use Rattle.vb_host.specs.declared.event.Event.TheVariants.{Hears, Grants, Overdraws, Wants, Targets, Arrives, Joins, TakesOver, Uncounts, Budget, Prefers, Defers}
 use Rattle.vb_host.specs.declared.report.Report.{Report}
@@ -17,34 +17,6 @@ use Rattle.vb_host.proofs.Lines.{first_is, first_place, turn_place}
 use Rattle.vb_host.proofs.Passing.{lends_no_more_by, none_is_passed, not_after}
 use Rattle.vb_host.proofs.Places.{value_elsewhere, value_same}
 use Rattle.vb_host.proofs.Sound.{counts, either, eq_false, eq_true, queues}
-use Rattle.vb_host.proofs.Targeting.{at_length}
-
--- ---- no guest is preferred, one after another
-
-abbrev pub none_from : ℕ → List Seat → List Seat
-none_from zero xs = map (preferring 0) xs
-none_from (suc n) [] = []
-none_from (suc n) (x ∷ xs) = x ∷ none_from n xs
-
-next_none : (n : ℕ) (xs : List Seat) → n < length xs → none_from n xs ≡ none_from (suc n) (each_at n (preferring 0) xs)
-next_none n [] h = absurd (omega arith)
-next_none zero (x ∷ xs) h = refl
-next_none (suc n) (x ∷ xs) h = ap (λ (ss : List Seat). x ∷ ss) (next_none n xs (omega arith))
-
-pub none_is_left : (n : ℕ) (xs : List Seat) → length xs ≤ n → none_from n xs ≡ xs
-none_is_left zero [] h = refl
-none_is_left zero (x ∷ xs) h = absurd (omega arith)
-none_is_left (suc n) [] h = refl
-none_is_left (suc n) (x ∷ xs) h = ap (λ (ss : List Seat). x ∷ ss) (none_is_left n xs (omega arith))
-
--- one more, as code does it
-pub one_less : (n : ℕ) (xs ys all : List Seat) (count : ℕ) → n < length xs → ys ≡ each_at n (preferring 0) xs → none_from n xs ≡ all → length xs ≡ count
-    → (none_from (n + 1) ys ≡ all) × (length ys ≡ count)
-one_less n xs ys all count l f a k =
-    let next : n + 1 ≡ suc n = omega arith in (
-      ap (λ (i : ℕ). none_from i ys) next ∙ (ap (λ (zs : List Seat). none_from (suc n) zs) f ∙ (sym (next_none n xs l) ∙ a)),
-      ap (λ (zs : List Seat). length zs) f ∙ (at_length n (preferring 0) xs ∙ k),
-    )
 
 -- ---- just one
 

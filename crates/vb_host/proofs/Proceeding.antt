@@ -97,7 +97,7 @@ all_ask (x ∷ xs) = omega (arith, asks_as_if x (waits x) refl, all_ask xs, sum_
 -- ---- grants
 
 -- what a grant lends isn't asked for any longer
-grant_lends : (n : ℕ) (xs : List Seat) → test_at waits xs n ≡ true → owed (each_at n granting xs) + waited (each_at n granting xs) ≡ owed xs + waited xs
+pub grant_lends : (n : ℕ) (xs : List Seat) → test_at waits xs n ≡ true → owed (each_at n granting xs) + waited (each_at n granting xs) ≡ owed xs + waited xs
 grant_lends n [] e = refl
 grant_lends zero (x ∷ xs) e = omega (
   arith,
@@ -128,7 +128,7 @@ covered_asks zero (x ∷ xs) e = asks_nothing x e where
   asks_nothing s e = grind (arith, nat_tests)
 covered_asks (suc n) (x ∷ xs) e = covered_asks n xs e
 
-is_granted : (l : Lending) (n : ℕ) → IsNextGrant l n → happens l (Grants n) ≡ record l { seats = each_at n granting l.seats }
+pub is_granted : (l : Lending) (n : ℕ) → IsNextGrant l n → happens l (Grants n) ≡ record l { seats = each_at n granting l.seats }
 is_granted l n e = as_set l n (each_at n granting l.seats) (next_may l n e) refl
 
 abbrev all_of : Lending → ℕ
@@ -137,7 +137,7 @@ all_of l = owed l.seats + waited l.seats
 one_keeps : (l : Lending) (n : ℕ) → IsNextGrant l n → all_of (happens l (Grants n)) ≡ all_of l
 one_keeps l n e = ap all_of (is_granted l n e) ∙ grant_lends n l.seats (may_waits l n (next_may l n e))
 
-grants_keep : (l m : Lending) → ByGrants l m → (all_of m ≡ all_of l) × (m.frames ≡ l.frames)
+pub grants_keep : (l m : Lending) → ByGrants l m → (all_of m ≡ all_of l) × (m.frames ≡ l.frames)
 grants_keep _ _ (Stays l) = (refl, refl)
 grants_keep _ _ (Granted l m n e b) = let rest = grants_keep (happens l (Grants n)) m b in (rest.0 ∙ one_keeps l n e, rest.1)
 

@@ -91,6 +91,9 @@ covers s = waits s && (asked s == 0)
 abbrev pub served : Seat → Seat
 served s = if covers s then granting s else s
 
+abbrev pub granted_waiting : Seat → Seat
+granted_waiting s = if waits s then granting s else s
+
 -- ---- a report
 
 -- the pages of its memory of which none was taken away since the last report

@@ -1,14 +1,17 @@
 //! What happens to a lender, and its one step.
 
-ghost use Rattle.std.specs.Prelude.{◌≡◌, ℕ, ◌<◌, length, false};
-ghost use Rattle.vb_host.specs.Lending.{Lending, each_at, next_turn, may_grant, may_overdraw, room};
+ghost use Rattle.std.specs.Prelude.{◌≡◌, ℕ, ◌+◌, ◌<◌, length, map, false};
+ghost use Rattle.vb_host.specs.Lending.{Lending, each_at, next_turn, may_grant, may_overdraw};
+ghost use Rattle.vb_host.specs.Lending.{owed, waited};
 ghost use Rattle.vb_host.specs.Lending.{happens, value_at, all_targeted, test_at};
 ghost use Rattle.vb_host.specs.Line.{IsStep, ByGrants, GrantsNone};
-ghost use Rattle.vb_host.specs.Seats.{covers, granting, heard, retargeted, room_after, uncounting};
+ghost use Rattle.vb_host.specs.Seats.{covers, granted_waiting, granting, heard, retargeted};
+ghost use Rattle.vb_host.specs.Seats.{room_after, uncounting};
 ghost use Rattle.vb_host.specs.declared.event.Event.TheVariants.{Grants, Overdraws, Targets};
 
 use crate::line::{
-    first_in_line, has_room, is_done_all, is_first, next_turn, overdraft_has_room, owed, room,
+    claimed, first_in_line, has_room, is_done_all, is_first, left_beside, next_turn,
+    overdraft_has_room, owed, room,
 };
 use crate::memory::{join, seat_at};
 use crate::turns::{defer, prefer};
@@ -72,12 +75,19 @@ fn overdraw(frames: u32, overdraft: u32, seats: &mut [Seat], guest: usize)
     }
 }
 
+/// The turn of a guest that has reported: only one with a deflate that waits needs the next one.
+fn turn_by(seats: &[Seat], report: &Report) -> u64
+    ensures { 0 < report.now.held → result ≡ next_turn seats.now }
+{
+    if report.held > 0 { next_turn(seats) } else { 0 }
+}
+
 /// A guest's process has reported.
 #[tactic(auto, using(crate::proofs::Places::at_places))]
 fn hear(seats: &mut [Seat], guest: usize, report: &Report)
     ensures { seats.new ≡ each_at guest (heard (next_turn seats.old) report.now) seats.old }
 {
-    let turn = next_turn(seats);
+    let turn = turn_by(seats, report);
     if guest < seats.len() {
         seats[guest].hear(report, turn);
     }
@@ -114,18 +124,14 @@ fn retarget(seats: &mut [Seat], guest: usize, room: u32) -> u32
     ensures seats { seats.new ≡ each_at guest (retargeted room) seats.old }
     ensures left { result ≡ value_at (room_after room) seats.old guest }
 {
-    let mut seat = seats[guest];
-    let left = seat.retarget(room);
-    seats[guest] = seat;
-    left
+    seats[guest].retarget(room)
 }
 
-/// Each guest has the target from now on that is possible.
-fn target_all(frames: u32, seats: &mut [Seat])
-    ensures { (overdraft : ℕ) → seats.new ≡ all_targeted
-        (room (record { frames = frames; overdraft = overdraft; seats = seats.old })) seats.old }
+/// Each guest has the target from now on that is possible with this room.
+fn target_all(room: u32, seats: &mut [Seat])
+    ensures { seats.new ≡ all_targeted room seats.old }
 {
-    let mut left = room(frames, seats);
+    let mut left = room;
     for guest in 0..seats.len() {
         left = retarget(seats, guest, left);
     }
@@ -208,8 +214,27 @@ fn grant_in_turn(frames: u32, seats: &mut [Seat])
     }
 }
 
-/// Grants until no guest can be granted.
-fn grant_all(frames: u32, seats: &mut [Seat])
+/// Grants a guest's deflate, if one waits.
+fn grant_waiting_at(seats: &mut [Seat], guest: usize)
+    requires { guest < length seats.old }
+    ensures { seats.new ≡ each_at guest granted_waiting seats.old }
+{
+    seats[guest].grant_waiting();
+}
+
+/// Grants each deflate that waits.
+fn grant_each(seats: &mut [Seat])
+    ensures { seats.new ≡ map granted_waiting seats.old }
+{
+    for guest in 0..seats.len() {
+        grant_waiting_at(seats, guest);
+    }
+}
+
+/// Grants until no guest can be granted. `claimed` frames are lent, or would be to all that wait:
+/// where there are as many, all are granted.
+fn grant_all(frames: u32, seats: &mut [Seat], claimed: u128)
+    requires { claimed ≡ owed seats.old + waited seats.old }
     ensures grants { (overdraft : ℕ) →
         ByGrants (record { frames = frames; overdraft = overdraft; seats = seats.old })
         (record { frames = frames; overdraft = overdraft; seats = seats.new }) }
@@ -217,17 +242,23 @@ fn grant_all(frames: u32, seats: &mut [Seat])
         GrantsNone (record { frames = frames; overdraft = overdraft; seats = seats.new }) }
 {
     grant_covered(frames, seats);
-    grant_in_turn(frames, seats);
+    if claimed <= u128::from(frames) {
+        grant_each(seats);
+    } else {
+        grant_in_turn(frames, seats);
+    }
 }
 
 /// One step: an event (as `happen`), all grants that are possible then, and the target of each
 /// guest. Each one's seat has its last grant and its target; `due_grant` and `due_target` say what
-/// to send. It takes time linear in the guests, and as much again for each grant.
+/// to send. It takes time linear in the guests, and as much again for each grant where not all that
+/// wait have room.
 pub fn step(frames: &mut u32, overdraft: u32, seats: &mut [Seat], event: &Event)
     ensures { IsStep (record { frames = frames.old; overdraft = overdraft; seats = seats.old })
         event.now (record { frames = frames.new; overdraft = overdraft; seats = seats.new }) }
 {
     happen(frames, overdraft, seats, event);
-    grant_all(*frames, seats);
-    target_all(*frames, seats);
+    let claimed = claimed(seats);
+    grant_all(*frames, seats, claimed);
+    target_all(left_beside(*frames, claimed), seats);
 }

@@ -31,7 +31,7 @@ pub use laws::{
 };
 pub use least::{least_budget, the_least_budget_suffices};
 pub use lending::{happen, step};
-pub use line::{first_in_line, owed, room, shown_owed, waited};
+pub use line::{claimed, first_in_line, owed, room, shown_owed};
 pub use message::{Ask, Exchange, Hold, Message};
 pub use outside::a_report_tells_of_memory;
 pub use pace::{Aim, Pace, steps_reach_what_was_decided};

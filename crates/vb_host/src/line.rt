@@ -30,25 +30,35 @@ pub fn shown_owed(seats: &[Seat]) -> u64
     owed(seats).min(u128::from(u64::MAX)) as u64
 }
 
-/// How many frames all that wait would be lent beyond those.
-pub fn waited(seats: &[Seat]) -> u128
-    ensures value { result ≡ waited seats.now }
-    ensures small { result ≤ 4294967295 * length seats.now }
+/// How many frames those are, with what all that wait would be lent beyond them.
+pub fn claimed(seats: &[Seat]) -> u128
+    ensures value { result ≡ owed seats.now + waited seats.now }
+    ensures small { result ≤ 12884901885 * length seats.now }
 {
     let mut pages: u128 = 0;
     for seat in seats {
-        pages += u128::from(seat.asked());
+        pages += u128::from(seat.lent()) + u128::from(seat.asked());
     }
     pages
+}
+
+/// How many frames of the budget are left beside those that are claimed.
+pub(crate) fn left_beside(frames: u32, claimed: u128) -> u32
+    ensures { result ≡ frames - claimed }
+{
+    let all = u128::from(frames);
+    if claimed < all {
+        (all - claimed) as u32
+    } else {
+        0
+    }
 }
 
 /// How many frames of the budget no guest has and no guest waits for.
 pub fn room(frames: u32, seats: &[Seat]) -> u32
     ensures { result ≡ frames - (owed seats.now + waited seats.now) }
 {
-    let gone = owed(seats) + waited(seats);
-    let all = u128::from(frames);
-    if gone < all { (all - gone) as u32 } else { 0 }
+    left_beside(frames, claimed(seats))
 }
 
 /// The latest turn.

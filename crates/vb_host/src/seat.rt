@@ -3,6 +3,7 @@
 ghost use Rattle.std.specs.Prelude.{◌≡◌, ◌≢◌, true, false, ◌+◌, ◌-◌, ◌<◌, ◌≤◌, ◌^◌};
 ghost use Rattle.vb_host.specs.Line.{lined};
 ghost use Rattle.vb_host.specs.Seats.{apart, lent, asked, waits, covers, granting, possible_target};
+ghost use Rattle.vb_host.specs.Seats.{granted_waiting};
 ghost use Rattle.vb_host.specs.Seats.{targeted, retargeted, uncounting};
 ghost use Rattle.vb_host.specs.Seats.{is_done, is_uncounted, is_preferred, place_in_line};
 ghost use Rattle.vb_host.specs.Seats.{preferring, waiting_line, line_rank, may_defer, deferring};
@@ -110,6 +111,15 @@ impl Seat {
         self.held = 0;
         self.turn = 0;
         self.deferred = 0;
+    }
+
+    /// Its deflate is granted, if one waits.
+    pub(crate) fn grant_waiting(&mut self)
+        ensures { self.new ≡ granted_waiting self.old }
+    {
+        if self.waits() {
+            self.grant();
+        }
     }
 
     /// What is lent to it once its deflate is granted.

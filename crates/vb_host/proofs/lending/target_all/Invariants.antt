@@ -1,10 +1,8 @@
 use Rattle.std.proofs.Common.{◌≡◌, length}
-use Rattle.vb_host.specs.Lending.{room, all_targeted}
+use Rattle.vb_host.specs.Lending.{all_targeted}
 use Rattle.vb_host.proofs.Targeting.{targeted_from}
 use Rattle.vb_host.proofs.lending.target_all.Given as goal
 
 -- the targets that are left make all of them
 abbrev pub invariant-loop-guest : goal.invariant-loop-guest
-invariant-loop-guest l = (targeted_from l.guest l.left l.seats
-    ≡ all_targeted (room (record { frames = l.frames; overdraft = 0; seats = l.fn.seats })) l.fn.seats)
-    × (length l.seats ≡ length l.fn.seats)
+invariant-loop-guest l = (targeted_from l.guest l.left l.seats ≡ all_targeted l.room l.fn.seats) × (length l.seats ≡ length l.fn.seats)
