@@ -316,6 +316,7 @@ int main(int count, char **words)
     if (count == 3 && !strcmp(words[1], writer_word))
         return limit_writer_run(STDIN_FILENO);
     host.shortage.command = -1;
+    says_for_many = true;
     process_begin();
     enum command_line line = read_words(&host, &service, count, words);
     if (line == LINE_WRONG)

@@ -14,6 +14,7 @@ enum { MOST_BYTES = 512, MOST_LINES = 20 };
 static struct speaker nobody;
 struct speaker *speaker = &nobody;
 unsigned most_lines = MOST_LINES;
+bool says_for_many;
 void (*say_through)(enum saying saying, const char *words);
 uint64_t lines_dropped;
 
@@ -27,6 +28,12 @@ void speaker_ends(void)
     speaker = &nobody;
 }
 
+/* The lines of the speaker's in a second. */
+static unsigned most(void)
+{
+    return says_for_many && speaker == &nobody && most_lines < MOST_LINES ? MOST_LINES : most_lines;
+}
+
 /* Whether one more line may be said in this second. */
 static bool may_speak(void)
 {
@@ -35,7 +42,7 @@ static bool may_speak(void)
     if (time.tv_sec != speaker->second)
         speaker->lines = 0;
     speaker->second = time.tv_sec;
-    return speaker->lines++ < most_lines;
+    return speaker->lines++ < most();
 }
 
 static enum level level_of(enum saying saying)
@@ -61,7 +68,7 @@ static void say(enum saying saying, const char *begin, const char *between, cons
         return;
     if (may_speak())
         snprintf(line, sizeof line - 1, "%s%s%s%s%s", prefix, begin, name, between, words);
-    else if (speaker->lines == most_lines + 1)
+    else if (speaker->lines == most() + 1)
         snprintf(line, sizeof line - 1, "%s%s%sfurther lines of this second are left out", prefix,
                  name, *name ? ": " : "");
     else

@@ -19,8 +19,10 @@ extern struct speaker *speaker;
 void speaker_begins(struct speaker *whose);
 void speaker_ends(void);
 
-/* Lines that are said of a client in a second; one more says that others are left out. */
+/* Lines that are said of a client in a second; one more says that others are left out. A program of
+ * many clients says some of its own beside them. */
 extern unsigned most_lines;
+extern bool says_for_many;
 
 /* What is said. */
 enum saying { SAY_REFUSED, SAY_REMARK, SAY_GONE, SAY_FAULT, SAY_NEWS };

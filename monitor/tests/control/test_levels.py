@@ -3,10 +3,11 @@
 import os
 import signal
 import socket
+import subprocess
 
 import pytest
 from hosts import Host
-from waiting import eventually, patience_from_now
+from waiting import PATIENCE, eventually, patience_from_now
 
 # A level, and how the lines begin that are said of a wrong file, of a right one, and of a guest
 # that breaks a rule and goes.
@@ -55,6 +56,21 @@ def test_levels_in_the_journal(program, folder, level, begins, by_file):
     break_a_rule(host)
     assert host.end() == 0
     assert [it[:3] for it in host.said()] == begins, host.said()
+
+
+def test_why_a_host_does_not_start_is_said_whatever_is_said_of_guests(program, folder):
+    words = [
+        program,
+        str(folder),
+        "--budget",
+        "8",
+        "--lines",
+        "0",
+        "--status",
+        f"{folder}/.control",
+    ]
+    ran = subprocess.run(words, input=b"quit\n", capture_output=True, timeout=PATIENCE)
+    assert ran.returncode == 2 and b"[control] and [status] have the same socket" in ran.stderr, ran
 
 
 def test_a_line_in_place_of_others_has_the_level_of_the_first(program, folder):
