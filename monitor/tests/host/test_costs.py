@@ -98,6 +98,16 @@ def test_the_process_of_a_guest_that_waits_sleeps(lend):
     first.leave(), comes.ends(), second.leave()
 
 
+def test_a_process_without_a_lender_sleeps_between_its_looks(lend):
+    lender = lend(1, *SELDOM)
+    client = Client(lender.add("a"))
+    client.start()
+    process = process_of(lender, "a")
+    lender.kill()
+    goes_on_sleeping(process)
+    client.leave()
+
+
 def test_the_process_of_a_queue_that_nobody_kicks_sleeps_between_its_looks(lend):
     lender = lend(1, *SELDOM)
     client = Client(lender.add("a"))
