@@ -289,6 +289,22 @@ static void what_changes_amid_a_pause(void)
     }
 }
 
+/* Another queue breaks a rule while a notice pauses, which asks for a reset then. */
+static void what_another_queue_breaks_amid_a_pause(void)
+{
+    static struct guest guest;
+    static uint64_t sets[2 * SET_WORDS];
+    struct sums sums;
+    begin(&guest, REFUSES, &sums, sets);
+    publish_numbers(&guest, VB_INFLATE, BUFFER, 2 * MOST);
+    EXPECT(balloon_notify(&guest.balloon, VB_INFLATE).more);
+    publish_numbers(&guest, VB_DEFLATE, HIGH_ADDRESS + 4 * MIB, 1);
+    put(&guest, HIGH_ADDRESS + 4 * MIB, 1u << 30, 4);
+    EXPECT(balloon_notify(&guest.balloon, VB_DEFLATE).code == VB_BROKEN);
+    EXPECT(balloon_notify(&guest.balloon, VB_INFLATE).code == VB_NEEDS_RESET && sums.gone == MOST);
+    free_memory(&guest);
+}
+
 /* Pages that are to stay from a pause on aren't discarded, though their notice began before. */
 static void pages_stay_from_a_pause_on(void)
 {
@@ -400,6 +416,7 @@ void test_pauses(void)
     RUN(what_changes_amid_a_pause());
     RUN(pages_stay_from_a_pause_on());
     RUN(pages_stay_from_a_hook_on());
+    RUN(what_another_queue_breaks_amid_a_pause());
     RUN(a_pause_is_lost());
     RUN(a_reset_before_a_pause());
 }
