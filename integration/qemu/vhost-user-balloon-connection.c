@@ -7,6 +7,7 @@
 #include "qemu/osdep.h"
 #include "qapi/error.h"
 #include "hw/virtio/virtio-bus.h"
+#include "qemu/main-loop.h"
 #include "standard-headers/linux/vhost_types.h"
 #include "vhost-user-balloon.h"
 #if QEMU_VERSION_MAJOR == 11 && QEMU_VERSION_MINOR == 0
@@ -35,7 +36,7 @@ void vub_balloon_let_wait(VHostUserBalloon *b)
 #endif
 }
 
-void vub_balloon_listen(VHostUserBalloon *b)
+static void balloon_listen(VHostUserBalloon *b)
 {
     qemu_chr_fe_set_handlers(&VHOST_USER_BASE(b)->chardev, NULL, NULL,
                              balloon_event, NULL, b, NULL, true);
@@ -57,11 +58,10 @@ static const VhostDevConfigOps balloon_config_ops = {
     .vhost_dev_config_notifier = balloon_config_notifier,
 };
 
-static void balloon_disconnect(DeviceState *dev)
+static void balloon_leave_backend(VHostUserBalloon *b)
 {
-    VHostUserBalloon *b = VHOST_USER_BALLOON(dev);
-    VHostUserBase *vub = VHOST_USER_BASE(dev);
-    VirtIODevice *vdev = VIRTIO_DEVICE(dev);
+    VHostUserBase *vub = VHOST_USER_BASE(b);
+    VirtIODevice *vdev = VIRTIO_DEVICE(b);
     struct vhost_virtqueue *vqs = vub->vhost_dev.vqs;
 
     if (vub->connected) {
@@ -76,7 +76,12 @@ static void balloon_disconnect(DeviceState *dev)
         g_free(vqs);
     }
     b->is_closing = false;
-    vub_balloon_listen(b);
+}
+
+static void balloon_disconnect(void *opaque)
+{
+    balloon_leave_backend(opaque);
+    balloon_listen(opaque);
 }
 
 /* A new process has none of the driver's words: neither a target nor `actual` */
@@ -140,8 +145,24 @@ static void balloon_event(void *opaque, QEMUChrEvent event)
     if (event == CHR_EVENT_CLOSED) {
         vub_balloon_let_wait(b);
         b->is_closing = true;
-        /* Later, as a message may be amid */
-        vhost_user_async_close(DEVICE(b), &vub->chardev, &vub->vhost_dev,
-                               balloon_disconnect);
+        vub_balloon_ignore(b);
+        /* Later, as a message may be amid, whose sender sees this */
+        vub->vhost_dev.started = false;
+        qemu_bh_schedule(b->disconnect_bh);
+    }
+}
+
+void vub_balloon_begin_connection(VHostUserBalloon *b)
+{
+    b->disconnect_bh = qemu_bh_new(balloon_disconnect, b);
+    balloon_listen(b);
+}
+
+void vub_balloon_end_connection(VHostUserBalloon *b)
+{
+    vub_balloon_ignore(b);
+    qemu_bh_delete(b->disconnect_bh);
+    if (b->is_closing) {
+        balloon_leave_backend(b);
     }
 }

@@ -115,10 +115,8 @@ static bool balloon_add(VHostUserBalloon *b, Error **errp)
     return true;
 }
 
-/* The handler would find no device */
 static void balloon_unrealize_base(DeviceState *dev)
 {
-    vub_balloon_ignore(VHOST_USER_BALLOON(dev));
     if (!VHOST_USER_BALLOON(dev)->keep_pages) {
         ram_block_discard_require(false);
     }
@@ -152,7 +150,7 @@ static void balloon_realize(DeviceState *dev, Error **errp)
     }
     vmstate_register_any(VMSTATE_IF(b), &vub_balloon_vmstate_comes, b);
     vub_balloon_add_notifiers(b);
-    vub_balloon_listen(b);
+    vub_balloon_begin_connection(b);
 }
 
 static void balloon_unrealize(DeviceState *dev)
@@ -161,6 +159,7 @@ static void balloon_unrealize(DeviceState *dev)
 
     vub_balloon_remove_notifiers(b);
     vmstate_unregister(VMSTATE_IF(b), &vub_balloon_vmstate_comes, b);
+    vub_balloon_end_connection(b);
     timer_del(b->stats_timer);
     qemu_remove_balloon_handler(b);
     migrate_del_blocker(&b->migration_blocker);

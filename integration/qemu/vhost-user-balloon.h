@@ -47,6 +47,7 @@ struct VHostUserBalloon {
     uint32_t target;
     bool keep_pages;
     bool is_closing;            /* its socket has, and it isn't stopped yet */
+    QEMUBH *disconnect_bh;      /* by which it is stopped then */
     bool has_lender;            /* which alone sets the target */
 
     /* Of the guest's pages, those that stay given up while it migrates */
@@ -92,9 +93,11 @@ bool vub_balloon_add_handler(VHostUserBalloon *b);
 void vub_balloon_init_stats(VHostUserBalloon *b);
 void vub_balloon_free_stats(VHostUserBalloon *b);
 
-/* vhost-user-balloon-connection.c: has a socket's events served, or not; and a
- * socket that isn't connected may wait for its backend */
-void vub_balloon_listen(VHostUserBalloon *b);
+/* vhost-user-balloon-connection.c: has a socket's events served, until it ends;
+ * has nobody serve them; and a socket that isn't connected may wait for its
+ * backend */
+void vub_balloon_begin_connection(VHostUserBalloon *b);
+void vub_balloon_end_connection(VHostUserBalloon *b);
 void vub_balloon_ignore(VHostUserBalloon *b);
 void vub_balloon_let_wait(VHostUserBalloon *b);
 

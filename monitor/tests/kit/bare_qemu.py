@@ -20,6 +20,12 @@ from waiting import PATIENCE, eventually
 # MiB of the guest; the balloon's slot, where its registers are, and its queues.
 MEMORY, SLOT, REGISTERS, QUEUES = 64, 5, 0xE0000000, 4
 
+# Registers of the machine: a bus whose devices a guest lets go of, and the slots of these.
+OF_BUS, EJECTS = 0xAE10, 0xAE08
+
+# Memory that QEMU has let go of is filled, so that a look at it is seen.
+IS_FILLED = {"MALLOC_PERTURB_": "165"}
+
 # The processor's first instructions: it waits for an interrupt, which doesn't come.
 STANDS_STILL = b"\xf4" * (1 << 16)
 
@@ -142,7 +148,10 @@ class Bare:
         words += ["-object", memory, "-machine", "pc,memory-backend=memory"]
         with open(self.log, "wb") as log:
             self.process = subprocess.Popen(
-                [*words, *sockets, "-qtest-log", "none", *more], stdout=log, stderr=log
+                [*words, *sockets, "-qtest-log", "none", *more],
+                stdout=log,
+                stderr=log,
+                env={**os.environ, **IS_FILLED},
             )
         self.qmp = eventually(self.connected, self.why)
         self.tests = socket.socket(socket.AF_UNIX)
@@ -168,11 +177,13 @@ class Bare:
             return None
 
     def ask(self, words):
-        """Has it do a command of its protocol of tests; returns the number of the answer."""
+        """Has it do commands of its protocol of tests, a line for each, in a row; returns the
+        number of the last answer."""
         said = ""
         with suppress(ConnectionError):
             self.tests.sendall(f"{words}\n".encode())
-            said = self.lines.readline()
+            for _ in words.splitlines():
+                said = self.lines.readline()
         if not said.startswith("OK"):
             raise Fault(f"QEMU says {said!r} to {words!r}: {self.why()}")
         return int(said[2:].strip() or "0", 0)
@@ -202,6 +213,13 @@ class Bare:
             capability = self.pci(capability + 1, "inb")
         self.pci(FIRST_BAR + 4 * bar, f"outl {REGISTERS:#x}")
         self.pci(COMMAND, f"outw {MEMORY_AND_MASTER}")
+
+    def unplug(self, before):
+        """Has the guest let go of its balloon, right after this command."""
+        self.qmp.do("device_del", id="balloon")
+        self.ask(f"outl {OF_BUS:#x} 0x0")
+        self.ask(f"{before}\noutl {EJECTS:#x} {1 << SLOT:#x}")
+        self.qmp.await_event("DEVICE_DELETED", device="balloon")
 
     def write(self, size, at, value):
         """Writes a field of the common configuration."""
@@ -272,7 +290,11 @@ class Bare:
 
     def target(self):
         """Returns the target that the driver reads."""
-        return self.ask(f"readl {self.at[OF_DEVICE]:#x}")
+        return self.ask(self.to_read_target())
+
+    def to_read_target(self):
+        """Returns the command that reads it."""
+        return f"readl {self.at[OF_DEVICE]:#x}"
 
     def close(self):
         """Ends it."""

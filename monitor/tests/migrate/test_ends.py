@@ -164,6 +164,15 @@ def test_a_backend_that_goes_as_the_device_is_made(bare):
     qemu.qmp.do("query-status")
 
 
+def test_a_backend_that_goes_as_the_device_is_unplugged(bare):
+    """QEMU doesn't look at the device once it is gone."""
+    qemu, between = bare()
+    qemu.plug(between.path, **{"reconnect-ms": 20}), qemu.drive()
+    between.cut(0)
+    qemu.unplug(qemu.to_read_target())
+    qemu.qmp.do("query-status")
+
+
 def test_a_backend_that_goes_as_its_driver_begins_or_ends(bare):
     """At whatever message: QEMU goes on, and the queues run with the next backend."""
     qemu, between = bare()
