@@ -124,8 +124,15 @@ bool vub_balloon_ask_for_room(VHostUserBalloon *b)
 
 bool vub_balloon_check_backend(VHostUserBalloon *b, Error **errp)
 {
+    uint64_t features = VHOST_USER_BASE(b)->vhost_dev.features;
     uint8_t area[AREA_SIZE];
 
+    /* The base would end QEMU where there are none */
+    if (!virtio_has_feature(features, VIRTIO_F_VERSION_1)) {
+        error_setg(errp, "vhost-user-balloon: the backend lacks "
+                   "VIRTIO_F_VERSION_1");
+        return false;
+    }
     if (!area_read(b, area, sizeof(area), errp)) {
         return false;
     }

@@ -57,6 +57,7 @@ class Between:
 
     def __init__(self, program, folder):
         self.program, self.folder, self.left, self.backend = program, folder, None, None
+        self.change = lambda request, body: body
         self.path = os.path.join(folder, "between")
         self.server = socket.socket(socket.AF_UNIX)
         self.server.bind(self.path)
@@ -117,12 +118,14 @@ class Between:
         return False
 
     def read(self, stream):
-        """Returns a message and its files; None where there is none any more."""
+        """Returns a message, as `change` has it, and its files; None where there is none any
+        more."""
         head, files, *_ = stream.recvmsg(HEAD.size, socket.CMSG_SPACE(4 * MOST_FILES))
         if len(head) < HEAD.size:
             return None
-        size = HEAD.unpack(head)[2]
-        return head + (stream.recv(size, socket.MSG_WAITALL) if size else b""), files
+        request, _, size = HEAD.unpack(head)
+        body = stream.recv(size, socket.MSG_WAITALL) if size else b""
+        return head + self.change(request, body), files
 
     def close(self):
         """Takes no connection any longer."""

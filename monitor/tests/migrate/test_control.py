@@ -9,7 +9,11 @@ from linux_guest import Backend
 from linux_packages import Fault
 from linux_vmms import build_preloaded
 from migrate_demands import SMALL, demand_obeys
+from vhost_client import GET_FEATURES
 from waiting import eventually
+
+# Bytes of the features of a device.
+FEATURES_SIZE = 8
 
 
 def test_qemu_s_commands(pair):
@@ -51,6 +55,19 @@ def test_a_backend_without_a_control_area(pair, tmp_path):
     program = linux_kit.built("wrong-backend/vhost_user_balloon")
     words = "the backend has no control area of version 1"
     demand_refused(pair().source, tmp_path / "other", words, program, BACKEND_WRONG="no-area")
+
+
+def test_a_backend_without_features(bare):
+    """QEMU asks twice: the answer that counts has none."""
+    (qemu, between), answers = bare(), []
+
+    def change(request, body):
+        answers.append(request == GET_FEATURES and len(body) == FEATURES_SIZE)
+        return bytes(FEATURES_SIZE) if answers[-1] and sum(answers) == 2 else body
+
+    between.change = change
+    with pytest.raises(Fault, match="the backend lacks VIRTIO_F_VERSION_1"):
+        qemu.plug(between.path)
 
 
 def demand_inflates(qemu, page, stays):
