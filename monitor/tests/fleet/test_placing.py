@@ -130,7 +130,7 @@ def test_each_number_of_hosts_together():
         for it, factor in enumerate((1, 100))
     )
     expected = {it: getattr(first, it) + getattr(second, it) for it in Answer._fields}
-    expected |= {it: getattr(second, it) for it in ("lacked", "overdrawn")}
+    expected |= {it: getattr(second, it) for it in ("lacked", "overdrawn", "above")}
     expected |= {"worst_guest": "a", "worst_waited": 7.0}
     assert fleet.together([first, second])._asdict() == expected
 
