@@ -49,13 +49,13 @@ impl Balloon {
         pauses
     }
 
-    /// Continues the notice of this queue that pauses; whether one does.
+    /// Continues the notice of this queue that pauses; whether one does, and its device is the same yet.
     pub(crate) fn continue_paused(&mut self, kind: Kind) -> bool {
         let Balloon { state, regions, notice, room, paused, .. } = self;
         match paused.get_mut(kind as usize) {
             Some(pause) if pause.is_some() => {
                 pause.go_on(notice, &mut state.0, regions, room);
-                true
+                notice.what != 0 || notice.code != raw::STALE
             }
             _ => false,
         }
