@@ -174,7 +174,8 @@ def test_a_backend_that_goes_as_the_device_is_unplugged(bare):
 
 
 def test_a_backend_that_goes_as_its_driver_begins_or_ends(bare):
-    """At whatever message: QEMU goes on, and the queues run with the next backend."""
+    """At whatever message: QEMU goes on, and the queues run with the next backend. What QEMU has
+    sent is read once its question after that is answered."""
     qemu, between = bare()
     qemu.plug(between.path, **{"reconnect-ms": 20})
     for before, act in ((qemu.reset, qemu.drive), (qemu.drive, qemu.reset)):
@@ -182,7 +183,7 @@ def test_a_backend_that_goes_as_its_driver_begins_or_ends(bare):
         for message in range(MOST_MADE):
             before()
             between.cut(message)
-            act()
+            act(), qemu.target()
             if between.left is not None:
                 break
             qemu.drive()
