@@ -344,6 +344,7 @@ OF_GUESTS_HERE = {
     "silent_seconds": "silent",
     "process_silent_seconds": "process_silent",
     "waiting_seconds": "waits",
+    "answers": "answers",
     "cooperates": "cooperates",
     "pressed": "pressed",
 }
