@@ -27,8 +27,9 @@ from vhost_demands import demand_served
 SELDOM = ("--floor", "0", "--reserve", "0", "--step", "0", "--period", "60000")
 TRIES, HEARD = 3, 0.5
 
-# Seconds between two reports that nobody asked for, and how many pages are given one by one.
-NEWS_EVERY, LAST = 0.01, 100
+# Seconds between two reports that nobody asked for, and how many pages are given one by one: there
+# is room in the channel for a report of each.
+NEWS_EVERY, LAST = 0.01, 50
 
 # A host that looks at its guests twice a second; after how many questions that it leaves unanswered
 # a guest is silent; and the counters of a guest's process.
@@ -228,11 +229,10 @@ def test_what_changes_at_once_is_told_together(unasked):
     """After a report there is none for a hundredth of a second, and the next one has all."""
     guest, it = unasked
     begin = time.monotonic()
-    for number, page in enumerate(GIVEN[:LAST]):
-        guest.give([page])
-        used(guest, INFLATE, number + 1)
+    for page in GIVEN[:LAST]:
+        guest.give([page]), guest.client.kick(INFLATE)  # whose answer comes once that is served
     _, count = report_that(it, lambda its: its.ballooned == LAST)
-    assert count <= (time.monotonic() - begin) / NEWS_EVERY + 2
+    assert count <= (time.monotonic() - begin) / NEWS_EVERY + 3, f"{LAST} changes, {count} reports"
 
 
 def test_a_target_that_is_read_is_told_unasked(unasked):
