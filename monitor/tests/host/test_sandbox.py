@@ -10,6 +10,7 @@ import subprocess
 import linux_kit
 import pytest
 from bigvasta.connection import Connection
+from kept import Kept
 from taken import call_within
 from tenants import FREE, eventually, process_of, status_of
 from test_strict import GIVEN
@@ -247,20 +248,37 @@ def test_a_process_has_limits(lend, come):
     }
 
 
+@pytest.fixture
+def lends_within(lend, plain, tmp_path):
+    """Starts a lender of one guest within a limit, which it may not raise."""
+
+    def begin(option, most):
+        program = tmp_path / "host"
+        program.write_text(f'#!/bin/sh\nexec prlimit --{option}={most} {plain} "$@"\n')
+        program.chmod(0o755)
+        return lend(5, "--guests", "1", program=str(program))
+
+    return begin
+
+
 @pytest.mark.parametrize("option, what", (("nofile", "open files"), ("data", "own memory")))
-def test_a_process_whose_limit_is_lower_goes_on_and_says_so(
-    lend, come, plain, tmp_path, option, what
-):
-    """It may raise none."""
+def test_a_process_whose_limit_is_lower_goes_on_and_says_so(lends_within, come, option, what):
     most = LIMITS["Max open files" if option == "nofile" else "Max data size"]
-    program = tmp_path / "host"
-    program.write_text(f'#!/bin/sh\nexec prlimit --{option}={most - 1} {plain} "$@"\n')
-    program.chmod(0o755)
-    lender = lend(5, "--guests", "1", program=str(program))
+    lender = lends_within(option, most - 1)
     come(lender, "a", {FREE: 60})
     lender.hear()
     said = [it for it in lender.said() if it.startswith("a: ")]
     assert said == [f"a: its {what} can't be limited: Operation not permitted"]
+
+
+def test_a_process_has_its_channel_open_until_its_memory_is_closed(lends_within, come):
+    """As it ends, the lower numbers are closed first: by its limit there is room for that order."""
+    lender = lends_within("nofile", LIMITS["Max open files"])
+    come(lender, "a", {FREE: 60})
+    kept = Kept(process_of(lender, "a"))
+    regions, ways = kept["regions.file"][:2], [kept[f"notes.{it}"] for it in ("channel", "later")]
+    assert ["/memfd:region" in kept.link(it) for it in regions] == [True, True]
+    assert max(regions) < min(ways), f"its memory is {regions}, and its channels are {ways}"
 
 
 @contextlib.contextmanager
