@@ -5,9 +5,8 @@ use std::sync::Wait;
 use std::sync::atomic::{AtomicBool, Ordering};
 use std::test::Fail;
 use std::thread;
-use std::thread::{Threads, join};
-use vb_device::{Claimed, Device, ImmediateDevice, PacedDevice};
-use vb_shared::{FramePass, Leased, SharedFrames};
+use std::thread::Threads;
+use vb_shared::{FramePass, SharedFrames};
 
 /// Claims until no frame is free.
 fn claim_all(pass: &mut FramePass, held: &mut Vec<u32>) -> Result<(), AllocError> {
@@ -127,27 +126,5 @@ fn no_frame_is_held_on_two_threads_and_none_is_left(rt: HostRuntime) -> Result<(
             "of {size} frames {out} are out, by lists {held:?}"
         );
     }
-    Ok(())
-}
-
-/// What a device claims in a thread of its own, where it is dropped then.
-fn claims_once(mut device: Box<dyn Device + Send>) -> bool {
-    matches!(device.claim(), Claimed::Gave(_))
-}
-
-#[test]
-fn devices_of_both_paces_go_to_threads(rt: HostRuntime) -> Result<(), Fail> {
-    let alloc = rt.alloc();
-    let (frames, mut passes) = SharedFrames::open(alloc, 8, 2)?;
-    let (Some(pass), Some(other)) = (passes.pop(), passes.pop()) else {
-        panic!(rt; "there are two passes")
-    };
-    let one: Box<dyn Device + Send> = Box::new(
-        alloc,
-        Leased::new(ImmediateDevice::new(alloc), pass),
-    )?;
-    let two: Box<dyn Device + Send> = Box::new(alloc, Leased::new(PacedDevice::new(alloc), other))?;
-    let claimed = join(&rt, move || claims_once(one), move || claims_once(two));
-    assert!(rt; claimed == (true, true) && frames.census() == 0);
     Ok(())
 }
