@@ -200,17 +200,6 @@ static inline bool balloon_tell_pages(struct balloon *balloon, struct balloon_re
     return told;
 }
 
-/* Keeps the parts of a notice that began before pages were to stay; what is still to be done. */
-static inline uint32_t balloon_keep_parts(const struct balloon *balloon, uint32_t what,
-                                          struct balloon_result *result)
-{
-    if (!balloon->keeps_pages || !(what & VB_DISCARD))
-        return what;
-    for (uint32_t i = 0; i < balloon->notice.cuts; i++)
-        result->kept += balloon->room.cuts[i].length / BALLOON_PAGE;
-    return what & ~(uint32_t)VB_DISCARD;
-}
-
 /* Names a stretch that the device has written. */
 static inline void balloon_tell_written(const struct balloon *balloon, VbSpot at, uint64_t length)
 {
@@ -248,8 +237,8 @@ static inline uint32_t balloon_serve(struct balloon *balloon, uint32_t what,
         balloon->on_hint_id(balloon->context, balloon->notice.hint_id);
         what = balloon_recheck(balloon, what, result);
     }
-    what = balloon_keep_parts(balloon, what, result);
-    uint32_t together = what & VB_DISCARD ? balloon_discard_together(balloon, result) : 0;
+    bool discards = what & VB_DISCARD && !balloon->keeps_pages;
+    uint32_t together = discards ? balloon_discard_together(balloon, result) : 0;
     const VbCut *part = balloon->room.cuts + together;
     for (uint32_t i = together; what & VB_DISCARD && i < balloon->notice.cuts; i++, part++) {
         balloon_discard(balloon, part, result);

@@ -23,14 +23,18 @@ static inline int balloon_drop(const struct balloon_region *region, const VbCut 
     return status ? errno : 0;
 }
 
-/* Discards a part; where the machine's pages are large, those that are given up whole, and the
- * others wait. */
+/* Discards a part, unless pages are to stay, also those of a notice that began before; where the
+ * machine's pages are large, those that are given up whole, and the others wait. */
 static inline void balloon_discard(const struct balloon *balloon, const VbCut *part,
                                    struct balloon_result *result)
 {
     const struct balloon_region *region = &balloon->regions[part->region];
     uint64_t pages = part->length / BALLOON_PAGE;
     VbLarge large;
+    if (balloon->keeps_pages) {
+        result->kept += pages;
+        return;
+    }
     if (region->page_size) {
         large = vb_large_pages(&balloon->state.device, &balloon->places[part->region],
                                region->page_size, part, balloon->ballooned,

@@ -346,6 +346,9 @@ static void a_reset_before_a_pause(void)
 static void pages_stay_from_a_hook_on(void)
 {
 }
+static void private_pages_stay_from_a_hook_on(void)
+{
+}
 #else
 static struct {
     struct guest *guest;
@@ -401,6 +404,23 @@ static void pages_stay_from_a_hook_on(void)
            result.kept == MOST - PORTION && sums.gone == PORTION);
     free_memory(&guest);
 }
+
+/* Nor are those of private memory, which go together else. */
+static void private_pages_stay_from_a_hook_on(void)
+{
+    static struct guest guest;
+    static const uint32_t pages[] = {700, 702};
+    struct sums sums = {.gone = 0};
+    start(&guest, BALLOON_PRIVATE, REFUSES, LINUX_FEATURES, 4);
+    hooked.guest = &guest, hooked.calls = 1;
+    guest.balloon.context = &sums;
+    guest.balloon.on_pages = keep_from_second;
+    memset(at(&guest, pages[0] * 4096ull), 1, 4096);
+    name_pages(&guest, VB_INFLATE, pages, 2);
+    struct balloon_result result = balloon_notify(&guest.balloon, VB_INFLATE);
+    EXPECT(result.kept == 2 && result.discarded == 0 && resident(&guest, pages[0]));
+    free_memory(&guest);
+}
 #endif
 
 void test_pauses(void)
@@ -416,6 +436,7 @@ void test_pauses(void)
     RUN(what_changes_amid_a_pause());
     RUN(pages_stay_from_a_pause_on());
     RUN(pages_stay_from_a_hook_on());
+    RUN(private_pages_stay_from_a_hook_on());
     RUN(what_another_queue_breaks_amid_a_pause());
     RUN(a_pause_is_lost());
     RUN(a_reset_before_a_pause());
