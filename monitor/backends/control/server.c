@@ -100,7 +100,7 @@ static uint32_t events_of(const struct control_client *client)
            (client->unread_bytes > 0 || has_line(client) ? EPOLLOUT : 0);
 }
 
-/* Goes on waiting for a client, or takes its place away. Who follows may have said all that it is
+/* Keeps waiting for a client, or takes its place away. Who follows may have said all that it is
  * to say. */
 static void settle(struct control_socket *its, unsigned place)
 {

@@ -48,3 +48,12 @@ def demand_whole(side, sums, before):
     demand_right(side, sums)
     demand_obeys(side)
     demand_right(side, sums)
+
+
+def demand_twice(pair, sums, before):
+    """Migrates a guest to the other side, and back: right, and with what was held before."""
+    for _ in range(2):
+        pair.migrate()
+        demand_held(pair, before)
+        demand_right(pair.destination, sums)
+        pair.turn()

@@ -174,8 +174,8 @@ def test_a_backend_that_goes_as_the_device_is_unplugged(bare):
 
 
 def test_a_backend_that_goes_as_its_driver_begins_or_ends(bare):
-    """At whatever message: QEMU goes on, and the queues run with the next backend. What QEMU has
-    sent is read once its question after that is answered."""
+    """At whatever message: QEMU continues, and the queues run with the next backend. What QEMU has
+    sent is read once it has its next answer."""
     qemu, between = bare()
     qemu.plug(between.path, **{"reconnect-ms": 20})
     for before, act in ((qemu.reset, qemu.drive), (qemu.drive, qemu.reset)):

@@ -14,6 +14,7 @@ from migrate_demands import (
     demand_held,
     demand_obeys,
     demand_right,
+    demand_twice,
     demand_whole,
     with_balloon,
 )
@@ -96,11 +97,7 @@ def test_a_large_ring_that_the_device_alone_writes(pair):
 def test_twice_in_a_row(pair):
     pair = pair()
     sums, before = with_balloon(pair), pair.source.held_mib()
-    for _ in range(2):
-        pair.migrate()
-        demand_held(pair, before)
-        demand_right(pair.destination, sums)
-        pair.turn()
+    demand_twice(pair, sums, before)
     demand_obeys(pair.source)
 
 

@@ -10,7 +10,7 @@ import pytest
 from linux_migrated import DEBIAN, Migrating, Pair, preloaded
 from linux_packages import Missing
 from linux_vmms import Shape
-from migrate_demands import SMALL, demand_held, demand_obeys, demand_right, with_balloon
+from migrate_demands import SMALL, demand_obeys, demand_twice, with_balloon
 from waiting import PATIENCE
 
 # A Debian whose QEMU is newer than Debian 13's, and a suite of Ubuntu for whose QEMU there is a
@@ -66,10 +66,6 @@ def test_a_guest_between_two_versions(vmm, tmp_path):
     program = linux_kit.built("checked/vhost_user_balloon")
     with closing(Across(vmms, program, tmp_path, shape)) as pair:
         sums, before = with_balloon(pair), pair.source.held_mib()
-        for _ in range(2):
-            pair.migrate()
-            demand_held(pair, before)
-            demand_right(pair.destination, sums)
-            pair.turn()
+        demand_twice(pair, sums, before)
         assert pair.source.size_mib() == SMALL
         demand_obeys(pair.source)

@@ -65,6 +65,14 @@ static void publish_numbers(struct guest *guest, uint32_t kind, uint64_t address
     publish(guest, kind, 0);
 }
 
+/* A notice pauses after half of a request. */
+static void pause_amid(struct guest *guest, struct sums *sums, uint64_t *sets)
+{
+    begin(guest, REFUSES, sums, sets);
+    publish_numbers(guest, VB_INFLATE, BUFFER, 2 * MOST);
+    EXPECT(balloon_notify(&guest->balloon, VB_INFLATE).more && sums->gone == MOST);
+}
+
 /* What calls come to until no more is left, of which each tells its budget of numbers and less than
  * a portion more. */
 static struct balloon_result serve_all(struct guest *guest, uint32_t kind, uint32_t *calls)
@@ -246,9 +254,7 @@ static void no_notice_goes_on_after(void (*change)(struct guest *guest), bool is
     static struct guest guest;
     static uint64_t sets[2 * SET_WORDS];
     struct sums sums;
-    begin(&guest, REFUSES, &sums, sets);
-    publish_numbers(&guest, VB_INFLATE, BUFFER, 2 * MOST);
-    EXPECT(balloon_notify(&guest.balloon, VB_INFLATE).more);
+    pause_amid(&guest, &sums, sets);
     change(&guest);
     memset(&sums, 0, sizeof sums);
     if (!is_published) {
@@ -295,9 +301,7 @@ static void what_another_queue_breaks_amid_a_pause(void)
     static struct guest guest;
     static uint64_t sets[2 * SET_WORDS];
     struct sums sums;
-    begin(&guest, REFUSES, &sums, sets);
-    publish_numbers(&guest, VB_INFLATE, BUFFER, 2 * MOST);
-    EXPECT(balloon_notify(&guest.balloon, VB_INFLATE).more);
+    pause_amid(&guest, &sums, sets);
     publish_numbers(&guest, VB_DEFLATE, HIGH_ADDRESS + 4 * MIB, 1);
     put(&guest, HIGH_ADDRESS + 4 * MIB, 1u << 30, 4);
     EXPECT(balloon_notify(&guest.balloon, VB_DEFLATE).code == VB_BROKEN);
@@ -311,9 +315,7 @@ static void pages_stay_from_a_pause_on(void)
     static struct guest guest;
     static uint64_t sets[2 * SET_WORDS];
     struct sums sums;
-    begin(&guest, REFUSES, &sums, sets);
-    publish_numbers(&guest, VB_INFLATE, BUFFER, 2 * MOST);
-    EXPECT(balloon_notify(&guest.balloon, VB_INFLATE).more && sums.gone == MOST);
+    pause_amid(&guest, &sums, sets);
     guest.balloon.keeps_pages = true;
     struct balloon_result result = balloon_notify(&guest.balloon, VB_INFLATE);
     EXPECT(result.code == VB_OK && result.pages == MOST && result.kept == MOST &&
@@ -329,9 +331,7 @@ static void a_pause_is_lost(void)
     static uint64_t sets[2 * SET_WORDS];
     struct sums sums;
     uint32_t calls;
-    begin(&guest, REFUSES, &sums, sets);
-    publish_numbers(&guest, VB_INFLATE, BUFFER, 2 * MOST);
-    EXPECT(balloon_notify(&guest.balloon, VB_INFLATE).more);
+    pause_amid(&guest, &sums, sets);
     memset(guest.balloon.paused, 0, sizeof guest.balloon.paused);
     struct balloon_result all = serve_all(&guest, VB_INFLATE, &calls);
     EXPECT(calls == 2 && all.pages == 2 * MOST && all.chains == 1 && in_set(sets) == FIRST / 2 &&
